@@ -1,0 +1,48 @@
+-- What a lattice with events and a threshold read are.
+use Rattle.std.specs.Prelude.{◌≡◌, ◌⊎◌, ◌↔◌, List, [], Bool, true, not, Option, Some, None, filter, option_and_then}
+use Rattle.std.specs.Set.{is_member, IsUnion}
+use Rattle.std.specs.List.Sorted.{IsStrictlySortedBy}
+use Rattle.std.specs.declared.cmp.Ordering.{Ordering}
+
+-- a test of equality that holds of identical values alone
+abbrev pub IsIdentity : {S : Type 0} → (S → S → Bool) → Type 0
+IsIdentity {S} eq = (x y : S) → eq x y ≡ true → x ≡ y
+
+-- A partial join: None is the greatest element, which is no state.
+pub record IsJoin {S : Type 0} (least : S) (join : S → S → Option S) : Type 0 where
+  pub unit : (a : S) → join least a ≡ Some a
+  pub idempotent : (a : S) → join a a ≡ Some a
+  pub commutative : (a b : S) → join a b ≡ join b a
+  pub associative : (a b c : S) → option_and_then (λ x. join x c) (join a b) ≡ option_and_then (λ x. join a x) (join b c)
+
+-- a is at or below b
+abbrev pub IsBelow : {S : Type 0} → (S → S → Option S) → S → S → Type 0
+IsBelow join a b = join a b ≡ Some b
+
+-- Each state has a list of events, ascending and without repeats, and is determined by them.
+pub record HasEvents {S E : Type 0} (least : S) (join : S → S → Option S) (eq : E → E → Bool) (cmp : E → E → Ordering) (events : S → List E) : Type 0 where
+  pub none : events least ≡ []
+  pub ascending : (a : S) → IsStrictlySortedBy cmp (events a)
+  pub union : (a b c : S) → join a b ≡ Some c → IsUnion eq (events a) (events b) (events c)
+  pub determine : (a b : S) → events a ≡ events b → a ≡ b
+
+-- the events of new that old hasn't, none where there is no new state
+abbrev pub events_beyond : {S E : Type 0} → (E → E → Bool) → (S → List E) → S → Option S → List E
+events_beyond eq events old (Some new) = filter (λ e. not (is_member eq (events old) e)) (events new)
+events_beyond eq events old None = []
+
+-- the events of the join that old hasn't, none where the join is top
+abbrev pub fresh_of : {S E : Type 0} → (S → S → Option S) → (E → E → Bool) → (S → List E) → S → S → List E
+fresh_of join eq events old put = events_beyond eq events old (join old put)
+
+-- any two members that differ, in the state or in the answer, join to top
+abbrev pub IsChecked : {S A : Type 0} → (S → S → Option S) → (S → A → Type 0) → Type 0
+IsChecked {S} {A} join member = (m n : S) (a b : A) → member m a → member n b → ((m ≡ n) × (a ≡ b)) ⊎ (join m n ≡ None)
+
+-- a is the answer of a member at or below the state
+abbrev pub Answers : {S A : Type 0} → (S → S → Option S) → (S → A → Type 0) → S → A → Type 0
+Answers {S} join member state a = (m : S) × member m a × IsBelow join m state
+
+-- in each state there is an answer exactly where a member at or below the state gives it
+abbrev pub IsAnswered : {S A : Type 0} → (S → S → Option S) → (S → A → Type 0) → (S → Option A) → Type 0
+IsAnswered {S} {A} join member answer_of = (s : S) (a : A) → (answer_of s ≡ Some a) ↔ Answers join member s a
