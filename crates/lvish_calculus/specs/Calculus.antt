@@ -1,0 +1,225 @@
+-- Names, configurations, steps and runs.
+use Rattle.std.specs.Prelude.{◌≡◌, ◌≢◌, ◌⊎◌, ℕ, suc, Bool, true, false, not, ◌&&◌, ◌||◌, List, [], ◌∷◌, Option, Some, None, IsSome, Contains, nat_eq, nat_le, if◌then◌else◌, unwrap_or}
+pub use Rattle.lvish_names.specs.Names.{Name, main, forked, handed, Handler, handler_of, is_deep, same_name, same_handler}
+pub use Rattle.lvish_calculus.specs.declared.label.Label.{Label}
+pub use Rattle.lvish_calculus.specs.declared.label.Label.TheVariants.{Task as Act, Hand}
+use Rattle.lvish_calculus.specs.Machine.{ErrorKind, Conflict, Frozen, Late, Deep, Request, Put, Get, Fork, Add, Freeze, Pause, End, Fault, Done, Answer, Content, Machine, IsBelow}
+
+-- what runs under a name: nothing yet, a task in a local state with its numbers of forks, adds and puts, or an ended task
+pub data Task (L : Type 0) : Type 0 where
+  Absent : Task L
+  Live : (local : L) (forks adds puts : ℕ) → Task L
+  Ended : Task L
+
+-- the pool and the procedure of a handler
+pub record Post : Type 0 where
+  pub pool : ℕ
+  pub procedure : ℕ
+
+-- a configuration without an error
+pub record State (S E L : Type 0) : Type 0 where
+  pub content : ℕ → S
+  pub frozen : ℕ → Bool
+  pub tasks : Name E → Task L
+  pub handlers : Handler E → Option Post
+  pub handled : Handler E → E → Bool
+
+pub data Configuration (S E L : Type 0) : Type 0 where
+  Running : State S E L → Configuration S E L
+  Error : ErrorKind → Option ℕ → Name E → Configuration S E L
+
+-- what a step changes; all that it doesn't name stays
+pub record Change (S E L : Type 0) : Type 0 where
+  pub own : Option (Name E × Task L)  -- the acting task, as it goes on
+  pub made : Option (Name E × Task L)  -- a new task
+  pub added : Option (Handler E × Post)  -- a new handler
+  pub joined : Option (ℕ × S)  -- a state that is joined to a variable's
+  pub froze : Option ℕ  -- a variable that is frozen
+  pub handing : Option (Handler E × E)  -- an event that is handed to a handler
+
+pub data Outcome (S E L : Type 0) : Type 0 where
+  Changes : Change S E L → Outcome S E L
+  Fails : ErrorKind → Option ℕ → Name E → Outcome S E L
+  Nothing : Outcome S E L
+
+abbrev pub start : {S E R A L : Type 0} → Machine S E R A L → State S E L
+start M = record {
+  content = λ v. M.bottom;
+  frozen = λ v. false;
+  tasks = λ t. if same_name M.event_same t main then Live M.start 0 0 0 else Absent;
+  handlers = λ h. None;
+  handled = λ h e. false;
+}
+
+-- a handler handles the events of this variable
+pub record IsOn {S E R A L : Type 0} (M : Machine S E R A L) (c : State S E L) (h : Handler E) (v : ℕ) : Type 0 where
+  pub post : Post
+  pub is : c.handlers h ≡ Some post
+  pub of : M.pool_variable post.pool ≡ Some v
+
+-- a task belongs to one of these pools
+pub record IsIn {S E L : Type 0} (c : State S E L) (t : Name E) (pools : List ℕ) : Type 0 where
+  pub handler : Handler E
+  pub of : handler_of t ≡ Some handler
+  pub post : Post
+  pub is : c.handlers handler ≡ Some post
+  pub listed : Contains pools post.pool
+
+pub data IsLive {L : Type 0} : Task L → Type 0 where
+  is_live : {l : L} {f a p : ℕ} → IsLive (Live l f a p)
+
+-- every event below the variable's state was handed to every handler on it, and every task of the pools has ended
+pub record IsQuiet {S E R A L : Type 0} (M : Machine S E R A L) (c : State S E L) (v : ℕ) (pools : List ℕ) : Type 0 where
+  pub drained : (h : Handler E) (e : E) → IsOn M c h v → IsBelow M e (c.content v) → c.handled h e ≡ true
+  pub ended : (t : Name E) → IsIn c t pools → IsLive (c.tasks t) → ⊥
+
+abbrev pub IsReady : {S E R A L : Type 0} → Machine S E R A L → State S E L → Request S R L → Type 0
+IsReady M c (Get v r) = IsSome (M.answer r (c.content v))
+IsReady M c (Freeze v pools) = IsQuiet M c v pools
+IsReady M c _ = Unit {0}
+
+abbrev pub IsReadyTask : {S E R A L : Type 0} → Machine S E R A L → State S E L → Task L → Type 0
+IsReadyTask M c (Live l f a p) = IsReady M c (M.request l)
+IsReadyTask M c Absent = ⊥
+IsReadyTask M c Ended = ⊥
+
+-- the handler is on a variable, the event is below its state, and wasn't handed to this handler
+pub record IsToHand {S E R A L : Type 0} (M : Machine S E R A L) (c : State S E L) (h : Handler E) (e : E) : Type 0 where
+  pub variable : ℕ
+  pub on : IsOn M c h variable
+  pub below : IsBelow M e (c.content variable)
+  pub unhandled : c.handled h e ≡ false
+
+abbrev pub IsEnabled : {S E R A L : Type 0} → Machine S E R A L → State S E L → Label E → Type 0
+IsEnabled M c (Act t) = IsReadyTask M c (c.tasks t)
+IsEnabled M c (Hand h e) = IsToHand M c h e
+
+-- nothing but the acting task changes
+abbrev pub just : {S E L : Type 0} → Name E → Task L → Change S E L
+just t k = record { own = Some (t, k); made = None; added = None; joined = None; froze = None; handing = None }
+
+abbrev pub put_outcome : {S E R A L : Type 0} → Machine S E R A L → State S E L → Name E → Task L → ℕ → S → Option S → Outcome S E L
+put_outcome M c t k v d None = Fails Conflict (Some v) t
+put_outcome M c t k v d (Some s) =
+    if c.frozen v && not (M.same s (c.content v)) then Fails Frozen (Some v) t
+    else Changes (record { own = Some (t, k); made = None; added = None; joined = Some (v, d); froze = None; handing = None })
+
+abbrev pub get_outcome : {S E R A L : Type 0} → Machine S E R A L → Name E → L → ℕ → ℕ → ℕ → Option A → Outcome S E L
+get_outcome M t l f a p None = Nothing
+get_outcome M t l f a p (Some x) = Changes (just t (Live (M.resume l (Answer x)) f a p))
+
+abbrev pub add_outcome : {S E L : Type 0} → State S E L → Name E → Task L → Handler E → Post → Option ℕ → Outcome S E L
+add_outcome c t k h post None = Nothing
+add_outcome c t k h post (Some v) =
+    if c.frozen v then Fails Late (Some v) t
+    else Changes (record { own = Some (t, k); made = None; added = Some (h, post); joined = None; froze = None; handing = None })
+
+-- what a task's request does; l is the local state in which it is made
+abbrev pub request_outcome : {S E R A L : Type 0} → Machine S E R A L → State S E L → Name E → L → ℕ → ℕ → ℕ → Request S R L → Outcome S E L
+request_outcome M c t l f a p (Put v d) = put_outcome M c t (Live (M.resume l Done) f a (suc p)) v d (M.join (c.content v) d)
+request_outcome M c t l f a p (Get v r) = get_outcome M t l f a p (M.answer r (c.content v))
+request_outcome M c t l f a p (Fork child) =
+    if is_deep t then Fails Deep None t
+    else Changes (record { own = Some (t, Live (M.resume l Done) (suc f) a p); made = Some (forked t (suc f), Live child 0 0 0); added = None; joined = None; froze = None; handing = None })
+request_outcome M c t l f a p (Add pool procedure) =
+    if is_deep t then Fails Deep None t
+    else add_outcome c t (Live (M.resume l Done) f (suc a) p) (record { adder = t; number = suc a }) (record { pool = pool; procedure = procedure }) (M.pool_variable pool)
+request_outcome M c t l f a p (Freeze v pools) =
+    Changes (record { own = Some (t, Live (M.resume l (Content (c.content v))) f a p); made = None; added = None; joined = None; froze = Some v; handing = None })
+request_outcome M c t l f a p Pause = Changes (just t (Live (M.resume l Done) f a p))
+request_outcome M c t l f a p End = Changes (just t Ended)
+request_outcome M c t l f a p (Fault kind) = Fails kind None t
+
+abbrev pub task_outcome : {S E R A L : Type 0} → Machine S E R A L → State S E L → Name E → Task L → Outcome S E L
+task_outcome M c t (Live l f a p) = request_outcome M c t (M.at l) f a p (M.request l)
+task_outcome M c t Absent = Nothing
+task_outcome M c t Ended = Nothing
+
+abbrev pub hand_outcome : {S E R A L : Type 0} → Machine S E R A L → Handler E → E → Option Post → Outcome S E L
+hand_outcome M h e None = Nothing
+hand_outcome M h e (Some post) =
+    Changes (record { own = None; made = Some (handed h.adder h.number e, Live (M.start_handler post.procedure e) 0 0 0); added = None; joined = None; froze = None; handing = Some (h, e) })
+
+-- what a step with an enabled label does
+abbrev pub outcome : {S E R A L : Type 0} → Machine S E R A L → State S E L → Label E → Outcome S E L
+outcome M c (Act t) = task_outcome M c t (c.tasks t)
+outcome M c (Hand h e) = hand_outcome M h e (c.handlers h)
+
+abbrev pub with_task : {E L : Type 0} → (E → E → Bool) → Option (Name E × Task L) → (Name E → Task L) → Name E → Task L
+with_task eq None tasks u = tasks u
+with_task eq (Some new) tasks u = if same_name eq u new.0 then new.1 else tasks u
+
+abbrev pub with_handler : {E : Type 0} → (E → E → Bool) → Option (Handler E × Post) → (Handler E → Option Post) → Handler E → Option Post
+with_handler eq None handlers h = handlers h
+with_handler eq (Some new) handlers h = if same_handler eq h new.0 then Some new.1 else handlers h
+
+abbrev pub with_join : {S : Type 0} → (S → S → Option S) → Option (ℕ × S) → (ℕ → S) → ℕ → S
+with_join join None content v = content v
+with_join join (Some new) content v = if nat_eq v new.0 then unwrap_or (join (content v) new.1) (content v) else content v
+
+abbrev pub with_frozen : Option ℕ → (ℕ → Bool) → ℕ → Bool
+with_frozen None frozen v = frozen v
+with_frozen (Some new) frozen v = nat_eq v new || frozen v
+
+abbrev pub with_handled : {E : Type 0} → (E → E → Bool) → Option (Handler E × E) → (Handler E → E → Bool) → Handler E → E → Bool
+with_handled eq None handled h e = handled h e
+with_handled eq (Some new) handled h e = (same_handler eq h new.0 && eq e new.1) || handled h e
+
+abbrev pub changed : {S E R A L : Type 0} → Machine S E R A L → Change S E L → State S E L → State S E L
+changed M ch c = record {
+  content = with_join M.join ch.joined c.content;
+  frozen = with_frozen ch.froze c.frozen;
+  tasks = with_task M.event_same ch.own (with_task M.event_same ch.made c.tasks);
+  handlers = with_handler M.event_same ch.added c.handlers;
+  handled = with_handled M.event_same ch.handing c.handled;
+}
+
+abbrev pub after : {S E R A L : Type 0} → Machine S E R A L → State S E L → Outcome S E L → Configuration S E L
+after M c (Changes ch) = Running (changed M ch c)
+after M c (Fails kind v t) = Error kind v t
+after M c Nothing = Running c
+
+-- the configuration after a step with an enabled label
+abbrev pub step : {S E R A L : Type 0} → Machine S E R A L → State S E L → Label E → Configuration S E L
+step M c l = after M c (outcome M c l)
+
+-- a run from c: each label is enabled in its turn, and d is the last configuration
+abbrev pub IsRun : {S E R A L : Type 0} → Machine S E R A L → Configuration S E L → List (Label E) → Configuration S E L → Type 0
+IsRun M d [] last = d ≡ last
+IsRun M (Running c) (l ∷ ls) last = IsEnabled M c l × IsRun M (step M c l) ls last
+IsRun M (Error kind v t) (l ∷ ls) last = ⊥
+
+-- no label is enabled
+abbrev pub IsEnd : {S E R A L : Type 0} → Machine S E R A L → State S E L → Type 0
+IsEnd {S} {E} M c = (l : Label E) → IsEnabled M c l → ⊥
+
+-- some task is at a step that is an error
+abbrev pub IsDoomedRequest : {S E R A L : Type 0} → Machine S E R A L → State S E L → Name E → Request S R L → Type 0
+IsDoomedRequest {S} M c t (Put v d) =
+    (M.join (c.content v) d ≡ None)
+    ⊎ ((s : S) × (M.join (c.content v) d ≡ Some s) × (c.frozen v ≡ true) × (s ≢ c.content v))
+IsDoomedRequest M c t (Fork child) = is_deep t ≡ true
+IsDoomedRequest M c t (Add pool procedure) = (is_deep t ≡ true) ⊎ ((v : ℕ) × (M.pool_variable pool ≡ Some v) × (c.frozen v ≡ true))
+IsDoomedRequest M c t (Fault kind) = Unit {0}
+IsDoomedRequest M c t _ = ⊥
+
+pub record IsDoomed {S E R A L : Type 0} (M : Machine S E R A L) (c : State S E L) : Type 0 where
+  pub task : Name E
+  pub local : L
+  pub forks : ℕ
+  pub adds : ℕ
+  pub puts : ℕ
+  pub is : c.tasks task ≡ Live local forks adds puts
+  pub doomed : IsDoomedRequest M c task (M.request local)
+
+-- the label is a step of a task that asks to freeze this variable
+pub record Freezes {S E R A L : Type 0} (M : Machine S E R A L) (c : State S E L) (l : Label E) (v : ℕ) : Type 0 where
+  pub task : Name E
+  pub local : L
+  pub forks : ℕ
+  pub adds : ℕ
+  pub puts : ℕ
+  pub pools : List ℕ
+  pub label : l ≡ Act task
+  pub is : c.tasks task ≡ Live local forks adds puts
+  pub asked : M.request local ≡ Freeze v pools

@@ -1,0 +1,5 @@
+pub mod Machine
+pub mod Program
+pub mod Calculus
+pub mod Laws
+pub mod Handing

@@ -1,0 +1,66 @@
+use std::marker::Model;
+
+/// What goes wrong.
+#[derive(Clone, Copy, Debug, PartialEq, Eq)]
+pub enum ErrorKind {
+    /// A put whose join is top.
+    Conflict,
+    /// A put that would raise a frozen variable.
+    Frozen,
+    /// A handler that comes to a frozen variable.
+    Late,
+    /// A result outside 64 bits.
+    Overflow,
+    /// A divisor 0.
+    Zero,
+    /// A number outside a counter's range.
+    Range,
+    /// A name of more than 64 parts, or more than 64 frames.
+    Deep,
+}
+
+/// The pools that a freeze names, by number.
+#[derive(Debug, Drop)]
+pub struct Pools {
+    items: Vec<usize>,
+}
+
+impl Model for Pools {
+    ghost use Rattle.std.specs.Prelude.{List, ℕ};
+
+    ghost Value = { List ℕ };
+
+    ghost view = { λ p. p.items.items };
+}
+
+/// What a task asks for: over states `S`, reads `R` and local states `L`.
+#[derive(Debug, Drop)]
+pub enum Request<S, R, L> {
+    /// Joins the state to the variable's.
+    Put(usize, S),
+    /// Waits until the read has an answer in the variable's state.
+    Get(usize, R),
+    /// Starts a task in this local state.
+    Fork(L),
+    /// Adds a handler to the pool that runs the procedure on each event.
+    Add(usize, usize),
+    /// Freezes the variable, once its handlers are drained and the pools' tasks have ended.
+    Freeze(usize, Pools),
+    /// Lets others go on.
+    Pause,
+    /// The task has ended.
+    End,
+    /// The task's own computation went wrong.
+    Fault(ErrorKind),
+}
+
+/// What a task is told: over states `S` and answers `A`.
+#[derive(Debug, Drop)]
+pub enum Reply<S, A> {
+    /// The action was made.
+    Done,
+    /// The answer of a get.
+    Answer(A),
+    /// The exact content of a frozen variable.
+    Frozen(S),
+}
