@@ -189,9 +189,24 @@ IsRun M d [] last = d ≡ last
 IsRun M (Running c) (l ∷ ls) last = IsEnabled M c l × IsRun M (step M c l) ls last
 IsRun M (Error kind v t) (l ∷ ls) last = ⊥
 
+-- in a configuration the label is enabled; after an error nothing is
+abbrev pub CanStep : {S E R A L : Type 0} → Machine S E R A L → Configuration S E L → Label E → Type 0
+CanStep M (Running c) l = IsEnabled M c l
+CanStep M (Error kind v t) l = ⊥
+
+-- the configuration after a step with a label that is enabled in this one
+abbrev pub next : {S E R A L : Type 0} → Machine S E R A L → Configuration S E L → Label E → Configuration S E L
+next M (Running c) l = step M c l
+next M (Error kind v t) l = Error kind v t
+
 -- no label is enabled
 abbrev pub IsEnd : {S E R A L : Type 0} → Machine S E R A L → State S E L → Type 0
 IsEnd {S} {E} M c = (l : Label E) → IsEnabled M c l → ⊥
+
+-- an end without an error: no label is enabled
+abbrev pub IsEnded : {S E R A L : Type 0} → Machine S E R A L → Configuration S E L → Type 0
+IsEnded M (Running c) = IsEnd M c
+IsEnded M (Error kind v t) = ⊥
 
 -- some task is at a step that is an error
 abbrev pub IsDoomedRequest : {S E R A L : Type 0} → Machine S E R A L → State S E L → Name E → Request S R L → Type 0
