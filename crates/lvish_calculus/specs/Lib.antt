@@ -3,3 +3,4 @@ pub mod Program
 pub mod Calculus
 pub mod Laws
 pub mod Handing
+pub mod Live
