@@ -4,3 +4,4 @@ pub mod Calculus
 pub mod Laws
 pub mod Handing
 pub mod Live
+pub mod Examples

@@ -7,11 +7,14 @@
 //! contracts are the laws, of every program and every run.
 #![tactic(auto)]
 
+pub mod examples;
 pub mod label;
 pub mod laws;
 pub mod meaning;
 pub mod program;
 pub mod request;
+#[cfg(test)]
+mod tests;
 
 pub use label::Label;
 pub use meaning::Meaning;

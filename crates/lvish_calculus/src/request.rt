@@ -1,3 +1,6 @@
+ghost use Rattle.std.specs.Prelude.{◌≡◌, IfOk};
+
+use std::alloc::{AllocError, Global};
 use std::marker::Model;
 
 /// What goes wrong.
@@ -31,6 +34,35 @@ impl Model for Pools {
     ghost Value = { List ℕ };
 
     ghost view = { λ p. p.items.items };
+}
+
+impl From<Vec<usize>> for Pools {
+    ghost from_gives = { λ items pools. pools ≡ items.items };
+
+    fn from(items: Vec<usize>) -> Pools {
+        Pools { items }
+    }
+}
+
+impl Pools {
+    /// The pools' numbers, in the order in which they were given.
+    pub fn as_slice(&self) -> &[usize]
+        ensures { result.now ≡ self.now }
+    {
+        &self.items
+    }
+
+    /// The same pools.
+    ///
+    /// # Errors
+    ///
+    /// Where there is no room for them.
+    pub fn copy(&self, alloc: Global) -> Result<Pools, AllocError>
+        ensures { IfOk result (λ p. p ≡ self.now) }
+    {
+        let items = Vec::from_slice(alloc, &self.items)?;
+        Ok(Pools { items })
+    }
 }
 
 /// What a task asks for: over states `S`, reads `R` and local states `L`.

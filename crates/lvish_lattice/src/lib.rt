@@ -1,4 +1,20 @@
 //! Lattices whose states are sets of events, and threshold reads.
+//!
+//! A shared variable holds a state of a lattice. A put joins to it, so the order of puts is
+//! lost; a join may be top, which is no state and stands for an error. Each state is the join
+//! of finitely many events, in one ascending order: what a put brings to a state is the list of
+//! its fresh events. A variable is read by a threshold set: members that pairwise join to top,
+//! so at most one is at or below the state, and the read answers that one and not the state
+//! (Kuper and Newton, LVars, FHPC 2013, section 3).
+//!
+//! ```text
+//! let mut state = Flat::Bottom;
+//! let put = Flat::Value(5);
+//! let fresh = Flat::fresh(alloc, &state, &put)?;   // [5]
+//! let joined = state.merge(alloc, &put)?;          // true: the state is Value(5)
+//! let answer = Flat::trigger(&FlatRead::Any, &state); // Some(5)
+//! let again = state.merge(alloc, &Flat::Value(6))?; // false: top, and the state is Value(5)
+//! ```
 #![tactic(auto)]
 
 mod flat;
@@ -6,6 +22,8 @@ mod integers;
 mod items;
 mod lattice;
 mod numbered;
+#[cfg(test)]
+mod tests;
 
 pub use flat::{Flat, FlatRead};
 pub use items::Items;

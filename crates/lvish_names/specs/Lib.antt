@@ -1,2 +1,4 @@
 pub mod Names
 pub mod NameOrder
+pub mod OrderLaws
+pub mod NameText

@@ -1,7 +1,7 @@
 -- The order of names: part by part from main, a prefix first.
-use Rattle.std.specs.Prelude.{ℕ, Bool, true, false, ◌&&◌, List, reverse, nat_eq}
+use Rattle.std.specs.Prelude.{Bool, false, ◌&&◌, reverse, nat_eq}
 use Rattle.std.specs.declared.cmp.Ordering.{Ordering}
-use Rattle.std.specs.declared.cmp.Ordering.TheVariants.{Less, Equal, Greater}
+use Rattle.std.specs.declared.cmp.Ordering.TheVariants.{Less, Greater}
 use Rattle.std.specs.Ordering.{nat_cmp, ordering_then}
 use Rattle.std.specs.Cmp.Lexicographic.{slice_cmp}
 use Rattle.lvish_names.specs.declared.part.Part.{Part}

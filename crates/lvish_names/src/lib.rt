@@ -3,12 +3,26 @@
 //! A name says where a task comes from: `main/2` is the second task that `main` forked, and
 //! `main/h1:0:3` handles the event of key 0 and number 3 for the first handler that `main` added.
 //! So the same task has the same name in every schedule.
+//!
+//! ```
+//! let main = TaskName::<i64>::main(alloc);
+//! let handler = HandlerName::new(alloc, &main, 1)?;
+//! let task = TaskName::handled(alloc, &handler, &3)?;
+//! assert_eq!(rt; task.text(alloc)?.as_str(), "main/h1:0:3");
+//! ```
 #![tactic(auto)]
 
 mod handler_name;
+mod laws;
+mod name_fault;
 mod part;
 mod task_name;
 
 pub use handler_name::HandlerName;
+pub use laws::{handler_names_identical, task_names_identical};
+pub use name_fault::NameFault;
 pub use part::Part;
 pub use task_name::TaskName;
+
+#[cfg(test)]
+mod tests;

@@ -1,0 +1,32 @@
+//! Worked examples: small programs, whose runs the definitions compute.
+
+ghost use Rattle.std.specs.Prelude.{◌≡◌};
+ghost use Rattle.lvish_calculus.specs.Laws.{IsCrossed};
+ghost use Rattle.lvish_calculus.specs.Handing.{handed_to, IsCoreRun};
+ghost use Rattle.lvish_calculus.specs.Examples.{EndsAs, LeadsTo, over_sets, crossing, u_first, t_first, both_freeze, u_first_end, t_first_end, both_freeze_error};
+ghost use Rattle.lvish_calculus.specs.Examples.{late, freeze_first, put_first, freeze_first_error, put_first_end};
+ghost use Rattle.lvish_calculus.specs.Examples.{handing, copier, in_put_order, one_first, handing_end, three_then_one, one_then_three};
+
+/// Two runs of one program that cross, and end differently. A third run of it is in error.
+///
+/// `main` forks `u` and `t`. `u` freezes v, and puts 0 into w where v is empty; `t` freezes w, and
+/// puts 0 into v where w is empty.
+pub fn crossing_runs()
+    // v = {}, w = {0}.
+    ensures u_first { EndsAs crossing u_first u_first_end }
+    // v = {0}, w = {}.
+    ensures t_first { EndsAs crossing t_first t_first_end }
+    ensures crossed { IsCrossed (over_sets crossing) u_first t_first }
+    // Frozen, by u's put into w.
+    ensures error { LeadsTo crossing both_freeze both_freeze_error }
+{}
+
+/// A put that comes after the freeze is an error, and one that comes before it isn't.
+///
+/// `main` forks a task that puts 1 into s, and freezes s.
+pub fn late_put()
+    // Frozen, by the writer's put into s.
+    ensures freeze_first { LeadsTo late freeze_first freeze_first_error }
+    // s = {1}.
+    ensures put_first { EndsAs late put_first put_first_end }
+{}

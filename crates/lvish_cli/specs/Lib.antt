@@ -1,0 +1,7 @@
+pub mod Answers
+pub mod Faults
+pub mod Lines
+pub mod Orders
+pub mod Performs
+pub mod Statuses
+pub mod Streams

@@ -1,0 +1,35 @@
+-- The statuses with which the program ends, and what it says on standard error.
+use Rattle.std.specs.Prelude.{ℕ, List, Option, None, Some, codes, string_bytes}
+use Rattle.lvish_cli.specs.Lines.{line_of}
+use Rattle.lvish_cli.specs.declared.status.Status.{Status}
+use Rattle.lvish_cli.specs.declared.status.Status.TheVariants.{Done, Blocked, Usage, Unreadable, Refused, Error, Budget, Memory, NoThread, Stopped, Mixed, Unwritten}
+
+-- the exit status of the process
+abbrev pub status_number : Status → ℕ
+status_number Done = 0
+status_number Blocked = 1
+status_number (Usage text) = 2
+status_number Unreadable = 3
+status_number Refused = 4
+status_number Error = 5
+status_number Budget = 6
+status_number Memory = 7
+status_number NoThread = 8
+status_number Stopped = 8
+status_number Mixed = 8
+status_number Unwritten = 8
+
+-- what goes to standard error
+abbrev pub status_message : Status → Option (List ℕ)
+status_message Done = None
+status_message Blocked = None
+status_message (Usage text) = Some (string_bytes text)
+status_message Unreadable = Some (line_of (codes "unreadable"))
+status_message Refused = None
+status_message Error = None
+status_message Budget = None
+status_message Memory = Some (line_of (codes "memory"))
+status_message NoThread = Some (line_of (codes "nothread"))
+status_message Stopped = Some (line_of (codes "stopped"))
+status_message Mixed = Some (line_of (codes "mixed"))
+status_message Unwritten = None

@@ -1,0 +1,25 @@
+//! The command line of the program `lvish`: its words, what it reads and writes, and its statuses.
+#![tactic(auto)]
+
+mod answering;
+mod faults;
+mod lines;
+mod order;
+mod performing;
+mod program;
+mod reading;
+mod status;
+mod words;
+mod writing;
+
+pub use answering::{Answer, answer_to};
+pub use order::{Order, UsageFault};
+pub use performing::perform;
+pub use program::command;
+pub use reading::{MOST_READ, ReadFault, read_text};
+pub use status::Status;
+pub use words::order_of;
+pub use writing::{WriteFault, write_text};
+
+#[cfg(test)]
+mod tests;

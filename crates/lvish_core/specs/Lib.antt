@@ -1,0 +1,6 @@
+pub mod Core
+pub mod Labels
+pub mod Tasks
+pub mod Kept
+pub mod Acts
+pub mod Sample

@@ -1,0 +1,59 @@
+-- The steps in which a deal is made.
+use Rattle.std.proofs.Common.{◌≡◌, ℕ, ◌+◌, ◌-◌, ◌<◌, ◌≤◌, List, [], ◌∷◌, ◌++◌, length, map, set, get_or, take, refl, ap, ◌∙◌, sym, subst, arith}
+use Rattle.std.specs.Global.{Global, Vec}
+use Rattle.crossbeam_deque.specs.Handles.{worker_deque}
+use native.Mathlib.Decide.{ℕ_discrete}
+use mathlib.Core.Logic.{dite}
+use Rattle.std.proofs.Math.ListN.{length-set}
+use Rattle.std.proofs.Math.Seq.{map-set_same}
+use Rattle.std.proofs.lemmas.List.{get_or-set_same, get_or-set_other, get_or-map, length-map, map_push, take_more}
+use Rattle.lvish_deal.specs.declared.reach.Reach.{Reach}
+use Rattle.lvish_deal.specs.Reaches.{reach_deque, reach_got}
+use Rattle.lvish_deal.specs.Deals.{IsNew, IsNewRow, Own, deques}
+use Rattle.lvish_deal.specs.Place.{Place, Deal, AreFreshFrom}
+
+module _ {T : Type 0} where
+  -- the first k owners have given up a part
+  abbrev pub Cut : ℕ → ℕ → List (Own T) → Type 0
+  Cut parts k ws = (j : ℕ) (d : Own T) → j < length ws → (j < k → IsNew (parts - 1) (get_or ws j d)) × (k ≤ j → IsNew parts (get_or ws j d))
+
+  pub cut_step : (parts k : ℕ) (ws : List (Own T)) (w' : Own T) → k < length ws → Cut parts k ws → IsNew (parts - 1) w' → Cut parts (k + 1) (set ws k w')
+  cut_step parts k ws w' inside cut new j d within =
+      let within' : j < length ws = rw length-set at within in
+      dite (ℕ_discrete j k)
+      (λ (e : j ≡ k). ((λ _. rw (e, get_or-set_same ws k w' d inside) new), λ above. absurd (omega arith)))
+      (λ (ne : ¬ (j ≡ k)). ((λ below. rw (get_or-set_other ws k j w' d ne) ((cut j d within').0 (omega arith))), λ above. rw (get_or-set_other ws k j w' d ne) ((cut j d within').1 (omega arith))))
+
+  pub names_step : (ws ws' : List (Own T)) (k : ℕ) (w w' : Own T) → w ≡ get_or ws k w → worker_deque w' ≡ worker_deque w → deques ws ≡ deques ws' → deques (set ws k w') ≡ deques ws'
+  names_step ws ws' k w w' here same names = map-set_same worker_deque ws k w' w (same ∙ ap worker_deque here) ∙ names
+
+  pub name_here : (ws : List (Own T)) (deal : Deal) (k : ℕ) (w : Own T) (e : (ℕ × ℕ) × Global) → k < length ws → w ≡ get_or ws k w → deques ws ≡ deal → get_or deal k e ≡ worker_deque w
+  name_here ws deal k w e inside here names = ap (λ l. get_or l k e) (sym names) ∙ get_or-map worker_deque ws k w e inside ∙ ap worker_deque (sym here)
+
+  pub row_step : (row : List (Reach T)) (r : Reach T) (deal : Deal) (k : ℕ) (e : (ℕ × ℕ) × Global) → k < length deal → map reach_deque row ≡ take k deal → reach_deque r ≡ get_or deal k e → map reach_deque (row ++ r ∷ []) ≡ take (k + 1) deal
+  row_step row r deal k e inside is this = map_push reach_deque row r ∙ (λ i. is i ++ this i ∷ []) ∙ sym (take_more deal k e inside)
+
+  pub none_step : (row : List (Reach T)) (r : Reach T) (deal : Deal) (k : ℕ) (e : (ℕ × ℕ) × Global) → k < length deal → map reach_got row ≡ map (λ _. []) (take k deal) → reach_got r ≡ [] → map reach_got (row ++ r ∷ []) ≡ map (λ _. []) (take (k + 1) deal)
+  none_step row r deal k e inside is this = map_push reach_got row r ∙ (λ i. is i ++ this i ∷ []) ∙ sym (map_push (λ _. []) (take k deal) (get_or deal k e)) ∙ ap (map (λ _. [])) (sym (take_more deal k e inside))
+
+  pub peel : (f : Own T → (ℕ × ℕ) × Global) (new : List (Own T)) (x : Own T) (deal : Deal) → map f (new ++ x ∷ []) ≡ take (length (new ++ x ∷ [])) deal → (map f new ≡ take (length new) deal) × ((e : (ℕ × ℕ) × Global) → get_or deal (length new) e ≡ f x)
+  peel f [] x [] e = absurd (cc)
+  peel f [] x (y ∷ ys) e = (refl, λ _. cc)
+  peel f (z ∷ zs) x [] e = absurd (cc)
+  peel f (z ∷ zs) x (y ∷ ys) e =
+      let tails : map f (zs ++ x ∷ []) ≡ take (length (zs ++ x ∷ [])) ys = cc in
+      let heads : f z ≡ y = cc in
+      let rest = peel f zs x ys tails in ((λ i. heads i ∷ rest.0 i), rest.1)
+
+  pub seat_step : (deal : Deal) (k m n : ℕ) (row : Vec (Reach T)) (s : Place T) (ss : List (Place T)) → m ≡ k + 1 → n ≡ k → IsNewRow deal row
+      → s ≡ record { deal = map reach_deque row.items; number = n; pushed = []; popped = []; stolen = map reach_got row.items } → AreFreshFrom deal m ss → AreFreshFrom deal k (s ∷ ss)
+  seat_step deal k m n row s ss next nth new is rest = (
+    (ap (λ (p : Place T). p.deal) is ∙ new.0, ap (λ (p : Place T). p.number) is ∙ nth, ap (λ (p : Place T). p.pushed) is, ap (λ (p : Place T). p.popped) is, ap (λ (p : Place T). p.stolen) is ∙ new.1),
+    subst (λ (j : ℕ). AreFreshFrom deal j ss) (next ∙ (omega arith)) rest,
+  )
+
+  pub row_own : (deal : Deal) (row : Vec (Reach T)) (k : ℕ) (w : Own T) (d : Reach T) → map reach_deque row.items ≡ deal → k < length row.items → get_or deal k (worker_deque w) ≡ worker_deque w → reach_deque (get_or row.items k d) ≡ worker_deque w
+  row_own deal row k w d is inside here = sym (get_or-map reach_deque row.items k d (worker_deque w) inside) ∙ ap (λ l. get_or l k (worker_deque w)) is ∙ here
+
+  pub row_long : (ws : List (Own T)) (row : Vec (Reach T)) → map reach_deque row.items ≡ deques ws → length row.items ≡ length ws
+  row_long ws row is = sym (length-map row.items reach_deque) ∙ ap length is ∙ length-map ws worker_deque

@@ -1,0 +1,7 @@
+use Rattle.std.proofs.Common.{ap, arith}
+use Rattle.lvish_deal.specs.Rule.{parts}
+use Rattle.lvish_deal.proofs.Rules.{forks}
+use Rattle.lvish_deal.proofs.dealing.reach.Goals as goal
+
+pub another-pass-requires : goal.another-pass-requires
+another-pass-requires g c = let e = ap parts c.requires.0.view in forks _ _ (omega (arith, e))

@@ -1,0 +1,115 @@
+-- What follows from the definitions of names.
+use Rattle.std.proofs.Common.{◌≡◌, ◌⊎◌, ◌↔◌, inl, inr, suc, ◌<◌, Bool, true, false, List, reverse, length, nat_le, refl, sym, ◌∙◌, ap, subst}
+use Rattle.std.proofs.lemmas.Bool.{and_parts, cases_Bool, both_ways, false_from_ne_true, false≢true, eqb-true, leb-false, lt-leb}
+use Rattle.std.proofs.lemmas.List.{length-reverse}
+use Rattle.std.proofs.lemmas.Map.Lookups.{CmpEqualImpliesEq}
+use Rattle.std.specs.declared.cmp.Ordering.{Ordering}
+use Rattle.std.specs.declared.cmp.Ordering.TheVariants.{Equal}
+use Rattle.std.specs.Ordering.{eq_by_cmp, is_eq}
+use Rattle.std.specs.Cmp.{IsTotalOrder}
+use Rattle.std.proofs.lemmas.Cmp.{tied_itself}
+use Rattle.lvish_lattice.specs.Lattice.{IsIdentity}
+use Rattle.lvish_names.specs.declared.part.Part.{Part}
+use Rattle.lvish_names.specs.Names.{Name, Handler, main, forked, handed, parts, is_deep, same_name, same_handler}
+use Rattle.lvish_names.specs.NameOrder.{name_cmp, handler_cmp}
+pub use Rattle.lvish_names.specs.OrderLaws.{same_name-refl, same_handler-refl}
+use Rattle.lvish_names.specs.OrderLaws.{name_total, handler_total, name_ties, handler_ties}
+
+-- ---- how many parts a name has
+
+-- the number of parts is the length of the list
+pub parts-length : {E : Type 0} (t : Name E) → parts t ≡ length t
+parts-length main = refl
+parts-length (forked t i) = ap suc (parts-length t)
+parts-length (handed t j e) = ap suc (parts-length t)
+
+pub is_deep-length : {E : Type 0} (t : Name E) → is_deep t ≡ nat_le 64 (length t)
+is_deep-length t = ap (λ n. nat_le 64 n) (parts-length t)
+
+pub is_deep-from_parts : {E : Type 0} (xs : List (Part E)) → is_deep (reverse xs) ≡ nat_le 64 (length xs)
+is_deep-from_parts xs = is_deep-length (reverse xs) ∙ ap (λ n. nat_le 64 n) (length-reverse xs)
+
+-- a name that isn't deep has room for one more part
+pub lt-from_not_deep : {E : Type 0} (t : Name E) → is_deep t ≡ false → length t < 64
+lt-from_not_deep t h = leb-false 64 (length t) (sym (is_deep-length t) ∙ h)
+
+pub few-from_not_deep : {E : Type 0} (xs : List (Part E)) (t : Name E) → reverse xs ≡ t → is_deep t ≡ false → length xs < 64
+few-from_not_deep xs t e h = subst (λ n. n < 64) (sym (ap length e) ∙ length-reverse xs) (lt-from_not_deep t h)
+
+pub not_deep-from_lt : {E : Type 0} (t : Name E) → length t < 64 → is_deep t ≡ false
+not_deep-from_lt t h = is_deep-length t ∙ lt-leb 64 (length t) h
+
+pub not_deep-from_parts : {E : Type 0} (xs : List (Part E)) → length xs < 64 → is_deep (reverse xs) ≡ false
+not_deep-from_parts xs h = is_deep-from_parts xs ∙ lt-leb 64 (length xs) h
+
+-- ---- `==` holds of one name alone
+
+module _ {E : Type 0} {eq : E → E → Bool} (same : IsIdentity eq) where
+  pub same_name-true : (t u : Name E) → same_name eq t u ≡ true → t ≡ u
+  same_name-true main main e = refl
+  same_name-true main (forked u k) e = absurd (false≢true e)
+  same_name-true main (handed u k f) e = absurd (false≢true e)
+  same_name-true (forked t i) main e = absurd (false≢true e)
+  same_name-true (forked t i) (forked u k) e =
+      let p = and_parts _ _ e in
+      let q : t ≡ u = same_name-true t u p.1 in
+      let r : i ≡ k = eqb-true i k p.0 in cc
+  same_name-true (forked t i) (handed u k f) e = absurd (false≢true e)
+  same_name-true (handed t i x) main e = absurd (false≢true e)
+  same_name-true (handed t i x) (forked u k) e = absurd (false≢true e)
+  same_name-true (handed t i x) (handed u k f) e =
+      let p = and_parts _ _ e in
+      let p2 = and_parts _ _ p.1 in
+      let q : t ≡ u = same_name-true t u p2.1 in
+      let s : x ≡ f = same x f p2.0 in
+      let r : i ≡ k = eqb-true i k p.0 in cc
+
+  pub same_handler-true : (h k : Handler E) → same_handler eq h k ≡ true → h ≡ k
+  same_handler-true h k e =
+      let p = and_parts _ _ e in
+      let q : h.adder ≡ k.adder = same_name-true _ _ p.1 in
+      let r : h.number ≡ k.number = eqb-true _ _ p.0 in
+      λ i. record { adder = q i; number = r i }
+
+  pub same_name-other : (t u : Name E) → (t ≡ u → ⊥) → same_name eq t u ≡ false
+  same_name-other t u ne = false_from_ne_true _ (λ e. ne (same_name-true t u e))
+
+  pub same_handler-other : (h k : Handler E) → (h ≡ k → ⊥) → same_handler eq h k ≡ false
+  same_handler-other h k ne = false_from_ne_true _ (λ e. ne (same_handler-true h k e))
+
+  module _ (own : (e : E) → eq e e ≡ true) where
+    pub same_name-iff : (t u : Name E) → (same_name eq t u ≡ true) ↔ (t ≡ u)
+    same_name-iff t u = (same_name-true t u, λ e. subst (λ x. same_name eq t x ≡ true) e (same_name-refl eq own t))
+
+    pub same_handler-iff : (h k : Handler E) → (same_handler eq h k ≡ true) ↔ (h ≡ k)
+    same_handler-iff h k = (same_handler-true h k, λ e. subst (λ x. same_handler eq h x ≡ true) e (same_handler-refl eq own h))
+
+    -- a test of names, decided
+    pub cases_name : (t u : Name E) → (t ≡ u) ⊎ (t ≡ u → ⊥)
+    cases_name t u = elim (cases_Bool (same_name eq t u)) [ inl e ↦ inl (same_name-true t u e) | inr e ↦ inr (λ q. both_ways _ e ((same_name-iff t u).1 q)) ]
+
+    pub cases_handler : (h k : Handler E) → (h ≡ k) ⊎ (h ≡ k → ⊥)
+    cases_handler h k = elim (cases_Bool (same_handler eq h k)) [ inl e ↦ inl (same_handler-true h k e) | inr e ↦ inr (λ q. both_ways _ e ((same_handler-iff h k).1 q)) ]
+
+-- ---- the order tells all names apart
+
+module _ {E : Type 0} {eq : E → E → Bool} (cmp : E → E → Ordering) (same : IsIdentity eq) (ties : (x y : E) → eq x y ≡ eq_by_cmp cmp x y) where
+  pub name_exact : CmpEqualImpliesEq (name_cmp cmp)
+  name_exact t u e = same_name-true same t u (name_ties cmp ties t u ∙ ap is_eq e)
+
+  pub handler_exact : CmpEqualImpliesEq (handler_cmp cmp)
+  handler_exact h k e = same_handler-true same h k (handler_ties cmp ties h k ∙ ap is_eq e)
+
+  -- as a map's look-up tests its keys
+  pub name_at-other : (t u : Name E) → (t ≡ u → ⊥) → is_eq (name_cmp cmp t u) ≡ false
+  name_at-other t u ne = sym (name_ties cmp ties t u) ∙ same_name-other same t u ne
+
+  pub handler_at-other : (h k : Handler E) → (h ≡ k → ⊥) → is_eq (handler_cmp cmp h k) ≡ false
+  handler_at-other h k ne = sym (handler_ties cmp ties h k) ∙ same_handler-other same h k ne
+
+  module _ (total : IsTotalOrder cmp) where
+    pub name_cmp-iff : (t u : Name E) → (name_cmp cmp t u ≡ Equal) ↔ (t ≡ u)
+    name_cmp-iff t u = (name_exact t u, λ e. subst (λ x. name_cmp cmp t x ≡ Equal) e (tied_itself (name_total total) t))
+
+    pub handler_cmp-iff : (h k : Handler E) → (handler_cmp cmp h k ≡ Equal) ↔ (h ≡ k)
+    handler_cmp-iff h k = (handler_exact h k, λ e. subst (λ x. handler_cmp cmp h x ≡ Equal) e (tied_itself (handler_total total) h))

@@ -1,0 +1,8 @@
+use Rattle.lvish_names.proofs.NameLaws.{same_handler-iff, handler_cmp-iff}
+use Rattle.lvish_names.proofs.laws.handler_names_identical.Goals as goal
+
+pub returns-clause-eq : goal.returns-clause-eq
+returns-clause-eq g c = same_handler-iff g.met.E.Plain.identical g.met.E.Eq.laws.refl
+
+pub returns-clause-cmp : goal.returns-clause-cmp
+returns-clause-cmp g c = handler_cmp-iff g.E.Ord.cmp g.met.E.Plain.identical g.met.E.Ord.matches_eq g.met.E.Ord.total

@@ -1,0 +1,4 @@
+mod Walks
+mod Reports
+mod Texts
+mod Plainly

@@ -1,0 +1,5 @@
+pub mod Honest
+pub mod Picked
+pub mod Walk
+pub mod Text
+pub mod Scripts

@@ -1,0 +1,77 @@
+ghost use Rattle.std.specs.Prelude.{◌≡◌, IfOk};
+ghost use Rattle.lvish_run.specs.Walk.{IsReportOf, AreCopies, IsStanding};
+
+use crate::counts::Counts;
+use crate::entry::Entry;
+use crate::outcome::Outcome;
+use crate::report::{FinalState, Report};
+use crate::states::States;
+use crate::trace::Trace;
+use lvish_calculus::{Meaning, Program};
+use lvish_core::Core;
+use lvish_lattice::Lattice;
+use std::alloc::{AllocError, Global};
+
+/// Copies of the contents, none of which is frozen.
+fn final_states<S: Lattice>(alloc: Global, contents: &[S]) -> Result<States<S>, AllocError>
+    ensures { IfOk result (λ s. AreCopies contents.now s) }
+{
+    let mut states = Vec::new(alloc);
+    for content in contents {
+        states.push(FinalState {
+            content: content.copy(alloc)?,
+            frozen: false,
+        })?;
+    }
+    Ok(States::from(states))
+}
+
+/// How a run stands that met no error: whether something is enabled.
+fn outcome_of<P: Program>(
+    alloc: Global,
+    core: &Core<'_, P>,
+) -> Result<Outcome<<P::Lat as Lattice>::Event>, AllocError>
+    ensures { IfOk result (λ o. IsStanding (⟦<P as Meaning>⟧.machine core.now.program) core.now o) }
+{
+    let labels = core.labels(alloc)?;
+    match labels.as_slice() {
+        [] => Ok(Outcome::Ended),
+        [_, ..] => Ok(Outcome::Budget),
+    }
+}
+
+/// The report of the steps that led to the core.
+pub fn report_of<P: Program>(
+    alloc: Global,
+    core: &Core<'_, P>,
+    trace: Vec<Entry<<P::Lat as Lattice>::Event>>,
+) -> Result<Report<P::Lat, <P::Lat as Lattice>::Event>, AllocError>
+    ensures { IfOk result (λ r. IsReportOf (⟦<P as Meaning>⟧.machine core.now.program) (P.functions core.now.program).variables core.now trace.items r) }
+{
+    let mut by_worker = Vec::new(alloc);
+    by_worker.push(core.steps())?;
+    let by_worker = Counts::from(by_worker);
+    let trace = Trace::from(trace);
+    match core.fault() {
+        Some(fault) => Ok(Report {
+            outcome: Outcome::Error {
+                kind: fault.kind,
+                variable: fault.variable,
+                task: fault.task.copy(alloc)?,
+            },
+            states: States::from(Vec::new(alloc)),
+            steps: core.steps(),
+            blocked: 0,
+            trace,
+            by_worker,
+        }),
+        None => Ok(Report {
+            outcome: outcome_of(alloc, core)?,
+            states: final_states(alloc, core.contents())?,
+            steps: core.steps(),
+            blocked: core.running() as u64,
+            trace,
+            by_worker,
+        }),
+    }
+}

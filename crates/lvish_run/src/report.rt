@@ -1,0 +1,27 @@
+use crate::counts::Counts;
+use crate::outcome::Outcome;
+use crate::states::States;
+use crate::trace::Trace;
+
+/// A variable's content, and whether it is frozen.
+#[derive(Debug, Drop)]
+pub struct FinalState<S> {
+    pub content: S,
+    pub frozen: bool,
+}
+
+/// What a run came to, over states `S` and events `E`.
+#[derive(Debug, Drop)]
+pub struct Report<S, E> {
+    pub outcome: Outcome<E>,
+    /// Each variable's content and frozen mark, none after an error.
+    pub states: States<S>,
+    /// The number of steps.
+    pub steps: u64,
+    /// The number of tasks that haven't ended, 0 after an error.
+    pub blocked: u64,
+    /// The steps in their order.
+    pub trace: Trace<E>,
+    /// How many steps each worker made, by its number.
+    pub by_worker: Counts,
+}

@@ -1,0 +1,36 @@
+ghost use Rattle.std.specs.Prelude.{◌≡◌};
+
+use crate::entry::Entry;
+use std::marker::Model;
+
+/// The steps of a run, seen by contracts as a list.
+#[derive(Debug, Drop)]
+pub struct Trace<E> {
+    items: Vec<Entry<E>>,
+}
+
+impl<E> Model for Trace<E> {
+    ghost use Rattle.std.specs.Prelude.{List};
+    ghost use Rattle.lvish_run.specs.declared.entry.Entry.{Entry};
+
+    ghost Value = { List (Entry E) };
+
+    ghost view = { λ t. t.items.items };
+}
+
+impl<E> Trace<E> {
+    /// The steps in their order.
+    pub fn as_slice(&self) -> &[Entry<E>]
+        ensures { result.now ≡ self.now }
+    {
+        &self.items
+    }
+}
+
+impl<E> From<Vec<Entry<E>>> for Trace<E> {
+    ghost from_gives = { λ v t. t ≡ v.items };
+
+    fn from(items: Vec<Entry<E>>) -> Trace<E> {
+        Trace { items }
+    }
+}

@@ -1,0 +1,66 @@
+-- Lists by their cuts: what holds of each item and the items before it.
+use Rattle.std.proofs.Common.{◌≡◌, ℕ, zero, suc, ◌<◌, ◌≤◌, Bool, true, false, ◌||◌, ◌&&◌, List, [], ◌∷◌, ◌++◌, length, map, refl, sym, ap, ◌∙◌, arith}
+use Rattle.std.specs.List.{list_any, list_all}
+use Rattle.std.specs.Str.{bytes_eq}
+use Rattle.std.proofs.lemmas.Slice.Eq.{bytes_eq-Decides}
+use Rattle.lvish_script.specs.Text.{Word}
+use Rattle.lvish_script.specs.Name.{has_name, has_repeat}
+
+-- ---- tests
+
+pub left_fails : (a b : Bool) → (a || b) ≡ false → a ≡ false
+left_fails true b e = absurd cc
+left_fails false b e = refl
+
+pub right_fails : (a b : Bool) → (a || b) ≡ false → b ≡ false
+right_fails true b e = absurd cc
+right_fails false b e = e
+
+pub neither : (a b : Bool) → a ≡ false → b ≡ false → (a || b) ≡ false
+neither true b e h = absurd cc
+neither false b e h = h
+
+pub both_hold : (a b : Bool) → a ≡ true → b ≡ true → (a && b) ≡ true
+both_hold true b e h = h
+both_hold false b e h = absurd cc
+
+pub same_name : (x : Word) → bytes_eq x x ≡ true
+same_name x = (bytes_eq-Decides x x).1 refl
+
+differs : (x y : Word) (b : Bool) → bytes_eq x y ≡ b → bytes_eq y x ≡ false → bytes_eq x y ≡ false
+differs x y true k e =
+    let p : x ≡ y = (bytes_eq-Decides x y).0 k in
+    let q : bytes_eq y x ≡ true = (bytes_eq-Decides y x).1 (sym p) in
+    absurd cc
+differs x y false k e = k
+
+-- ---- every cut
+
+pub all_by_cut : {X : Type 0} (p : X → Bool) (xs : List X) → ((b : List X) (x : X) (a : List X) → xs ≡ b ++ x ∷ a → p x ≡ true) → list_all p xs ≡ true
+all_by_cut p [] h = refl
+all_by_cut p (x ∷ xs) h = both_hold (p x) _ (h [] x xs refl) (all_by_cut p xs (λ b y a e. h (x ∷ b) y a (ap (λ t. x ∷ t) e)))
+
+pub none_by_cut : {X : Type 0} (p : X → Bool) (xs : List X) → ((b : List X) (x : X) (a : List X) → xs ≡ b ++ x ∷ a → p x ≡ false) → list_any p xs ≡ false
+none_by_cut p [] h = refl
+none_by_cut p (x ∷ xs) h = neither (p x) _ (h [] x xs refl) (none_by_cut p xs (λ b y a e. h (x ∷ b) y a (ap (λ t. x ∷ t) e)))
+
+-- no more than n items, where each has fewer than n before it
+pub few_by_cut : {X : Type 0} (n : ℕ) (xs : List X) → ((b : List X) (x : X) (a : List X) → xs ≡ b ++ x ∷ a → length b < n) → length xs ≤ n
+few_by_cut n [] h = omega arith
+few_by_cut zero (x ∷ xs) h = let e : zero < zero = h [] x xs refl in absurd (omega arith)
+few_by_cut (suc n) (x ∷ xs) h =
+    let more : length xs ≤ n = few_by_cut n xs (λ b y a e. let m : length (x ∷ b) < suc n = h (x ∷ b) y a (ap (λ t. x ∷ t) e) in omega arith) in
+    omega arith
+
+module _ {X : Type 0} (name : X → Word) where
+  apart : (x : X) (xs : List X) → ((b : List X) (y : X) (a : List X) → xs ≡ b ++ y ∷ a → bytes_eq (name x) (name y) ≡ false) → has_name (name x) (map name xs) ≡ false
+  apart x [] h = refl
+  apart x (y ∷ xs) h = neither (bytes_eq (name y) (name x)) _ (differs (name y) (name x) _ refl (h [] y xs refl)) (apart x xs (λ b z a e. h (y ∷ b) z a (ap (λ t. y ∷ t) e)))
+
+  -- the names differ, where none is among those before it
+  pub differ_by_cut : (xs : List X) → ((b : List X) (x : X) (a : List X) → xs ≡ b ++ x ∷ a → has_name (name x) (map name b) ≡ false) → has_repeat (map name xs) ≡ false
+  differ_by_cut [] h = refl
+  differ_by_cut (x ∷ xs) h =
+      neither (has_name (name x) (map name xs)) _
+      (apart x xs (λ b y a e. left_fails (bytes_eq (name x) (name y)) _ (h (x ∷ b) y a (ap (λ t. x ∷ t) e))))
+      (differ_by_cut xs (λ b y a e. right_fails (bytes_eq (name x) (name y)) _ (h (x ∷ b) y a (ap (λ t. x ∷ t) e))))

@@ -1,0 +1,14 @@
+pub mod NameText
+pub mod Cleaned
+pub mod Cuts
+pub mod Seen
+pub mod Counted
+pub mod Scans
+pub mod Soundness
+pub mod Loops
+pub mod Lines
+pub mod Forms
+pub mod Order
+pub mod Nesting
+pub mod Reading
+pub mod Numbers

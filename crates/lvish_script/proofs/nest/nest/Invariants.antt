@@ -1,0 +1,14 @@
+use Rattle.std.proofs.Common.{◌≡◌, ◌≤◌, ℕ, false, take, []}
+use Rattle.std.specs.Prelude.{filter}
+use Rattle.std.specs.List.{list_any}
+use Rattle.lvish_script.specs.Checks.{open_after, is_procedure}
+use Rattle.lvish_script.specs.Spells.{says_something}
+use Rattle.lvish_script.specs.Nested.{draft_lines, openers, HasNone}
+use Rattle.lvish_script.proofs.nest.nest.Given as goal
+
+abbrev pub invariant-loop-line : goal.invariant-loop-line
+invariant-loop-line l = record {
+  lines : draft_lines l.draft ≡ filter says_something (take l.line-index l.said);
+  opened : openers l.draft.opened ≡ open_after [] (take l.line-index l.said);
+  none : list_any is_procedure (take l.line-index l.said) ≡ false → HasNone l.draft.procedures.items l.draft.opened;
+}

@@ -1,0 +1,11 @@
+pub mod Equality
+pub mod Text
+pub mod Name
+pub mod Fault
+pub mod Arities
+pub mod Form
+pub mod Checks
+pub mod Known
+pub mod Sound
+pub mod Spells
+pub mod Nested

@@ -1,0 +1,48 @@
+ghost use Rattle.std.specs.Prelude.{◌≡◌, ◌||◌, not, false, IfOk, OnOk};
+ghost use Rattle.std.specs.Str.{bytes_eq};
+ghost use Rattle.lvish_script.specs.Text.{Word};
+ghost use Rattle.lvish_script.specs.Name.{has_name};
+
+use crate::name::Name;
+use indexmap::IndexSet;
+use std::alloc::{AllocError, Global};
+use std::marker::Model;
+
+/// Names of a script, to be looked up.
+#[derive(Drop)]
+pub struct NameSet<'a> {
+    names: IndexSet<&'a str>,
+}
+
+impl<'a> Model for NameSet<'a> {
+    ghost use Rattle.std.specs.Prelude.{List, ℕ, map};
+
+    ghost Value = { List (List ℕ) };
+
+    ghost view = { λ s. map (λ k. k.now) s.names.keys };
+}
+
+impl<'a> NameSet<'a> {
+    pub fn new(alloc: Global) -> NameSet<'a>
+        ensures { (q : Word) → has_name q result ≡ false }
+    {
+        NameSet {
+            names: IndexSet::new(alloc),
+        }
+    }
+
+    /// Adds a name, and says whether it wasn't there.
+    pub fn add(&mut self, name: &'a Name) -> Result<bool, AllocError>
+        ensures fresh { IfOk result (λ is_new. is_new ≡ not (has_name name.now self.old)) }
+        ensures names { OnOk result ((q : Word) → has_name q self.new ≡ (bytes_eq name.now q || has_name q self.old)) }
+    {
+        let (_, is_new) = self.names.insert_full(name.as_str())?;
+        Ok(is_new)
+    }
+
+    pub fn contains(&self, name: &Name) -> bool
+        ensures { result ≡ has_name name.now self.now }
+    {
+        self.names.contains(name.as_str())
+    }
+}

@@ -1,0 +1,70 @@
+-- Values of locals by number and by name.
+use Rattle.std.proofs.Common.{◌≡◌, ◌≢◌, ℕ, ℤ, pos, zero, suc, ◌+◌, ◌<◌, Bool, true, false, not, cond, List, [], ◌∷◌, ◌++◌, length, map, refl, sym, ap, ◌∙◌, subst, arith}
+use Rattle.std.specs.Prelude.{if◌then◌else◌, replicate}
+use Rattle.std.specs.Str.{bytes_eq}
+use Rattle.std.specs.List.{slice_index_or, slice_set}
+use Rattle.std.proofs.lemmas.List.{get_or-set_same, get_or-set_other}
+use Rattle.lvish_script.specs.Text.{Word}
+use Rattle.lvish_script.specs.Name.{has_name}
+use Rattle.lvish_script.specs.declared.term.Term.{Term}
+use Rattle.lvish_script.specs.declared.term.Term.TheVariants.{Local, Number}
+use Rattle.lvish_task.specs.Numbering.{number_of}
+use Rattle.lvish_task.specs.Compile.{operand_of}
+use Rattle.lvish_task.specs.Run.{operand_value}
+use Rattle.lvish_task.specs.Meaning.{Values, term_value, with_value, bound}
+use Rattle.lvish_task.proofs.Numbers.{place_below}
+use Rattle.lvish_task.proofs.Names.{text_is}
+
+zeros : (n k : ℕ) → slice_index_or (replicate n (pos 0)) k (pos 0) ≡ pos 0
+zeros zero k = refl
+zeros (suc n) zero = refl
+zeros (suc n) (suc k) = zeros n k
+
+index_next : (v : ℤ) (vs : List ℤ) (k : ℕ) → slice_index_or (v ∷ vs) (1 + k) (pos 0) ≡ slice_index_or vs k (pos 0)
+index_next v vs k = let e : 1 + k ≡ suc k = omega arith in ap (λ n. slice_index_or (v ∷ vs) n (pos 0)) e
+
+-- at its beginning a procedure has its arguments, and zeros
+pub bound_at : (xs more : List Word) (vs : List ℤ) (n : ℕ) (y : Word) → length vs ≡ length xs → slice_index_or (vs ++ replicate n (pos 0)) (number_of (xs ++ more) y) (pos 0) ≡ bound xs vs y
+bound_at [] more [] n y e = zeros n (number_of more y)
+bound_at [] more (v ∷ vs) n y e = absurd (omega arith)
+bound_at (x ∷ xs) more [] n y e = absurd (omega arith)
+bound_at (x ∷ xs) more (v ∷ vs) n y e = go (bytes_eq x y) (bound_at xs more vs n y (omega arith))
+  where
+    go : (b : Bool) → slice_index_or (vs ++ replicate n (pos 0)) (number_of (xs ++ more) y) (pos 0) ≡ bound xs vs y → slice_index_or (v ∷ (vs ++ replicate n (pos 0))) (cond (not b) (1 + number_of (xs ++ more) y) 0) (pos 0) ≡ (if b then v else bound xs vs y)
+    go true h = refl
+    go false h = index_next v (vs ++ replicate n (pos 0)) (number_of (xs ++ more) y) ∙ h
+
+-- two names that stand and have one number are one
+same_number : (names : List Word) (x y : Word) → number_of names x < length names → number_of names y ≡ number_of names x → y ≡ x
+same_number [] x y h e = absurd (omega arith)
+same_number (z ∷ zs) x y h e = go (bytes_eq z x) refl (bytes_eq z y) refl (same_number zs x y) h e
+  where
+    go : (b : Bool) → bytes_eq z x ≡ b → (d : Bool) → bytes_eq z y ≡ d → (number_of zs x < length zs → number_of zs y ≡ number_of zs x → y ≡ x) → cond (not b) (1 + number_of zs x) 0 < suc (length zs) → cond (not d) (1 + number_of zs y) 0 ≡ cond (not b) (1 + number_of zs x) 0 → y ≡ x
+    go true p true q i h e = sym (text_is z y q) ∙ text_is z x p
+    go true p false q i h e = absurd (omega arith)
+    go false p true q i h e = absurd (omega arith)
+    go false p false q i h e = i (omega arith) (omega arith)
+
+-- a value given to a local is given to its name
+pub stored_at : (names : List Word) (vs : List ℤ) (f : Values) (x : Word) (a : ℤ) → length vs ≡ length names → has_name x names ≡ true → ((y : Word) → slice_index_or vs (number_of names y) (pos 0) ≡ f y) → (y : Word) → slice_index_or (slice_set vs (number_of names x) a) (number_of names y) (pos 0) ≡ with_value f x a y
+stored_at names vs f x a long has values y = go (bytes_eq y x) refl
+  where
+    within : number_of names x < length names
+    within = place_below (λ z. bytes_eq z x) names has
+
+    go : (b : Bool) → bytes_eq y x ≡ b → slice_index_or (slice_set vs (number_of names x) a) (number_of names y) (pos 0) ≡ (if b then a else f y)
+    go true is =
+        ap (λ z. slice_index_or (slice_set vs (number_of names x) a) (number_of names z) (pos 0)) (text_is y x is)
+        ∙ get_or-set_same vs (number_of names x) a (pos 0) (subst (λ n. number_of names x < n) (sym long) within)
+    go false is =
+        let other : number_of names y ≢ number_of names x = λ e. let s = same_number names x y within e in let t : bytes_eq y x ≡ true = ap (λ z. bytes_eq z x) s ∙ (Rattle.std.specs.Cmp.Lexicographic.bytes_decides x x).1 refl in absurd cc in
+        get_or-set_other vs (number_of names x) (number_of names y) a (pos 0) other ∙ values y
+
+module _ (names : List Word) (vs : List ℤ) (f : Values) (values : (y : Word) → slice_index_or vs (number_of names y) (pos 0) ≡ f y) where
+  pub value_at : (t : Term) → operand_value vs (operand_of names t) ≡ term_value f t
+  value_at (Local x) = values x
+  value_at (Number n) = refl
+
+  pub values_at : (ts : List Term) → map (operand_value vs) (map (operand_of names) ts) ≡ map (term_value f) ts
+  values_at [] = refl
+  values_at (t ∷ ts) = let h = value_at t in let k = values_at ts in cc

@@ -1,0 +1,9 @@
+pub mod Equality
+pub mod Numbering
+pub mod Sound
+pub mod Compile
+pub mod Run
+pub mod Meaning
+pub mod Pictures
+pub mod Laws
+pub mod ProgramLaws

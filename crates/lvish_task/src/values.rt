@@ -1,0 +1,84 @@
+ghost use Rattle.std.specs.Prelude.{◌≡◌, IfOk, OnOk, ◌++◌, replicate, length, pos, ◌-◌, ◌≤◌};
+ghost use Rattle.std.specs.List.{slice_set, slice_index_or};
+
+use std::alloc::{AllocError, Global};
+use std::marker::Model;
+
+/// The values of locals, by number.
+#[derive(Debug, Drop)]
+pub struct Values {
+    items: Vec<i64>,
+}
+
+impl Model for Values {
+    ghost use Rattle.std.specs.Prelude.{List, ℤ};
+
+    ghost Value = { List ℤ };
+
+    ghost view = { λ v. v.items.items };
+}
+
+impl PartialEq for Values {
+    ghost use Rattle.lvish_task.specs.Equality.{values_eq, values_equivalence};
+    ghost use Rattle.std.specs.Cmp.{partial_equiv_from_equiv};
+
+    ghost eq = { values_eq };
+
+    ghost laws = { partial_equiv_from_equiv values_equivalence };
+
+    fn eq(&self, other: &Values) -> bool {
+        self.items.as_slice() == other.items.as_slice()
+    }
+}
+
+impl Eq for Values {
+    ghost use Rattle.lvish_task.specs.Equality.{values_equivalence};
+
+    ghost laws = { values_equivalence };
+}
+
+impl Values {
+    /// These values, and zeros after them, so many in all.
+    pub fn new(mut values: Vec<i64>, count: usize) -> Result<Values, AllocError>
+        requires { length values.items ≤ count }
+        ensures { IfOk result (λ v. v ≡ values.items ++ replicate (count - length values.items) (pos 0)) }
+    {
+        values.resize(count, 0)?;
+        Ok(Values { items: values })
+    }
+
+    /// How many there are.
+    pub fn len(&self) -> usize
+        ensures { result ≡ length self.now }
+    {
+        self.items.len()
+    }
+
+    /// The value of a local, 0 where there is no such local.
+    pub fn get(&self, local: usize) -> i64
+        ensures { result ≡ slice_index_or self.now local (pos 0) }
+    {
+        match self.items.get(local) {
+            Some(value) => *value,
+            None => 0,
+        }
+    }
+
+    /// Gives a local a value; nothing where there is no such local.
+    pub fn set(&mut self, local: usize, value: i64)
+        ensures { self.new ≡ slice_set self.old local value }
+    {
+        if local < self.items.len() {
+            self.items[local] = value;
+        }
+    }
+
+    /// Equal values.
+    pub fn copy(&self, alloc: Global) -> Result<Values, AllocError>
+        ensures { IfOk result (λ v. v ≡ self.now) }
+    {
+        Ok(Values {
+            items: Vec::from_slice(alloc, &self.items)?,
+        })
+    }
+}
