@@ -1,7 +1,7 @@
 -- Worked runs, computed.
-use Rattle.std.proofs.Common.{◌≡◌, ◌↔◌, ℕ, Bool, true, false, List, [], ◌∷◌, Option, Some, None, refl, sym, subst, ◌∙◌, arith, inl, inr, nat_eq}
+use Rattle.std.proofs.Common.{◌≡◌, ◌↔◌, ℕ, Bool, true, false, List, [], Some, None, refl, sym, subst, ◌∙◌, arith, inl, inr, nat_eq}
 use Rattle.lvish_calculus.specs.Machine.{Machine}
-use Rattle.lvish_calculus.specs.Calculus.{State, Running, Name, main, Handler, Label, Act, Hand, Task, Live, Absent, Ended, IsLive, is_live, IsQuiet, IsToHand, IsOn, IsEnabled, IsReadyTask, Post, same_name, same_handler}
+use Rattle.lvish_calculus.specs.Calculus.{State, Running, Name, main, Handler, Label, Act, Hand, Task, Live, Absent, Ended, IsLive, is_live, IsQuiet, IsToHand, IsEnabled, IsReadyTask, same_name}
 use Rattle.lvish_calculus.specs.Laws.{IsCrossed}
 use Rattle.lvish_calculus.specs.Program.{Functions}
 use Rattle.lvish_calculus.specs.Examples.{Set, over_sets, LeadsTo, EndsAs, shown, CrossingAt, crossing, u_first, t_first, u_first_end, t_first_end, u, t, u_freezing, t_freezing}
@@ -21,7 +21,7 @@ module _ {S E R A L : Type 0} (M : Machine S E R A L) where
     ended = λ t i live. let z = i.listed in absurd (omega (arith, z.1));
   }
 
-nat_same : (a b : ℕ) → (nat_eq a b ≡ true) ↔ (a ≡ b)
+pub nat_same : (a b : ℕ) → (nat_eq a b ≡ true) ↔ (a ≡ b)
 nat_same a b = (nat_eq-true a b, λ e. subst (λ x. nat_eq a x ≡ true) e (nat_eq-refl a))
 
 -- what holds of these three names, and of each other one, holds of all
@@ -38,25 +38,25 @@ by_names x y z P px py pz others n = elim (cases_name nat_eq nat_same n x) [
   ]
 ]
 
-ended_dead : {L : Type 0} (k : Task L) → k ≡ Ended → IsLive k → ⊥
+pub ended_dead : {L : Type 0} (k : Task L) → k ≡ Ended → IsLive k → ⊥
 ended_dead Absent e x = elim x [ ]
 ended_dead (Live l f a p) e x = cc
 ended_dead Ended e x = elim x [ ]
 
-absent_dead : {L : Type 0} (k : Task L) → k ≡ Absent → IsLive k → ⊥
+pub absent_dead : {L : Type 0} (k : Task L) → k ≡ Absent → IsLive k → ⊥
 absent_dead Absent e x = elim x [ ]
 absent_dead (Live l f a p) e x = cc
 absent_dead Ended e x = elim x [ ]
 
 -- a configuration in which these three tasks have ended, and there is no other
-record IsOver {L : Type 0} (c : State Set ℕ L) (x y z : Name ℕ) : Type 0 where
-  first : c.tasks x ≡ Ended
-  second : c.tasks y ≡ Ended
-  third : c.tasks z ≡ Ended
-  others : (n : Name ℕ) → same_name nat_eq n x ≡ false → same_name nat_eq n y ≡ false → same_name nat_eq n z ≡ false → c.tasks n ≡ Absent
+pub record IsOver {L : Type 0} (c : State Set ℕ L) (x y z : Name ℕ) : Type 0 where
+  pub first : c.tasks x ≡ Ended
+  pub second : c.tasks y ≡ Ended
+  pub third : c.tasks z ≡ Ended
+  pub others : (n : Name ℕ) → same_name nat_eq n x ≡ false → same_name nat_eq n y ≡ false → same_name nat_eq n z ≡ false → c.tasks n ≡ Absent
 
 -- a run to such a configuration, with nothing left to be handed, ends
-ends : {L : Type 0} (f : Functions Set ℕ ℕ ℕ L) (run : List (Label ℕ)) (seen : List (List ℕ × Bool)) (x y z : Name ℕ) (c : State Set ℕ L) → LeadsTo f run (Running c)
+pub ends : {L : Type 0} (f : Functions Set ℕ ℕ ℕ L) (run : List (Label ℕ)) (seen : List (List ℕ × Bool)) (x y z : Name ℕ) (c : State Set ℕ L) → LeadsTo f run (Running c)
     → IsOver c x y z → ((h : Handler ℕ) (e : ℕ) → IsToHand (over_sets f) c h e → ⊥) → shown c f.variables ≡ seen → EndsAs f run seen
 ends f run seen x y z c way over drained are = record {
   last = c;

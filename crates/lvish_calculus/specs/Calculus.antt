@@ -24,6 +24,7 @@ pub record State (S E L : Type 0) : Type 0 where
   pub handlers : Handler E → Option Post
   pub handled : Handler E → E → Bool
 
+-- a state, or the error that the run met: its kind, its variable if it has one, and the task (LVars and LVish: error)
 pub data Configuration (S E L : Type 0) : Type 0 where
   Running : State S E L → Configuration S E L
   Error : ErrorKind → Option ℕ → Name E → Configuration S E L
@@ -37,11 +38,13 @@ pub record Change (S E L : Type 0) : Type 0 where
   pub froze : Option ℕ  -- a variable that is frozen
   pub handing : Option (Handler E × E)  -- an event that is handed to a handler
 
+-- what a step comes to: a change, or an error. Nothing stands for labels that aren't enabled
 pub data Outcome (S E L : Type 0) : Type 0 where
   Changes : Change S E L → Outcome S E L
   Fails : ErrorKind → Option ℕ → Name E → Outcome S E L
   Nothing : Outcome S E L
 
+-- every variable at bottom and unfrozen, main alone in its first local state, and no handler
 abbrev pub start : {S E R A L : Type 0} → Machine S E R A L → State S E L
 start M = record {
   content = λ v. M.bottom;
@@ -65,6 +68,7 @@ pub record IsIn {S E L : Type 0} (c : State S E L) (t : Name E) (pools : List �
   pub is : c.handlers handler ≡ Some post
   pub listed : Contains pools post.pool
 
+-- a task that is there and hasn't ended
 pub data IsLive {L : Type 0} : Task L → Type 0 where
   is_live : {l : L} {f a p : ℕ} → IsLive (Live l f a p)
 
@@ -73,11 +77,13 @@ pub record IsQuiet {S E R A L : Type 0} (M : Machine S E R A L) (c : State S E L
   pub drained : (h : Handler E) (e : E) → IsOn M c h v → IsBelow M e (c.content v) → c.handled h e ≡ true
   pub ended : (t : Name E) → IsIn c t pools → IsLive (c.tasks t) → ⊥
 
+-- the request can be made: a Get has its answer, a Freeze finds its variable quiet, and every other request is always ready (LVars: threshold reads block; LVish: freeze after)
 abbrev pub IsReady : {S E R A L : Type 0} → Machine S E R A L → State S E L → Request S R L → Type 0
 IsReady M c (Get v r) = IsSome (M.answer r (c.content v))
 IsReady M c (Freeze v pools) = IsQuiet M c v pools
 IsReady M c _ = Unit {0}
 
+-- a live task whose request is ready
 abbrev pub IsReadyTask : {S E R A L : Type 0} → Machine S E R A L → State S E L → Task L → Type 0
 IsReadyTask M c (Live l f a p) = IsReady M c (M.request l)
 IsReadyTask M c Absent = ⊥
@@ -90,6 +96,7 @@ pub record IsToHand {S E R A L : Type 0} (M : Machine S E R A L) (c : State S E 
   pub below : IsBelow M e (c.content variable)
   pub unhandled : c.handled h e ≡ false
 
+-- a task's step is enabled where its request is ready, a handing where the event is to be handed
 abbrev pub IsEnabled : {S E R A L : Type 0} → Machine S E R A L → State S E L → Label E → Type 0
 IsEnabled M c (Act t) = IsReadyTask M c (c.tasks t)
 IsEnabled M c (Hand h e) = IsToHand M c h e
@@ -98,16 +105,19 @@ IsEnabled M c (Hand h e) = IsToHand M c h e
 abbrev pub just : {S E L : Type 0} → Name E → Task L → Change S E L
 just t k = record { own = Some (t, k); made = None; added = None; joined = None; froze = None; handing = None }
 
+-- a put whose join is top is the error Conflict; one that would raise a frozen variable the error Frozen; else the join is made (LVish: put and frozen contents)
 abbrev pub put_outcome : {S E R A L : Type 0} → Machine S E R A L → State S E L → Name E → Task L → ℕ → S → Option S → Outcome S E L
 put_outcome M c t k v d None = Fails Conflict (Some v) t
 put_outcome M c t k v d (Some s) =
     if c.frozen v && not (M.same s (c.content v)) then Fails Frozen (Some v) t
     else Changes (record { own = Some (t, k); made = None; added = None; joined = Some (v, d); froze = None; handing = None })
 
+-- a get goes on with its answer, and changes nothing else
 abbrev pub get_outcome : {S E R A L : Type 0} → Machine S E R A L → Name E → L → ℕ → ℕ → ℕ → Option A → Outcome S E L
 get_outcome M t l f a p None = Nothing
 get_outcome M t l f a p (Some x) = Changes (just t (Live (M.resume l (Answer x)) f a p))
 
+-- a handler that comes to a frozen variable is the error Late; else it is there under its name
 abbrev pub add_outcome : {S E L : Type 0} → State S E L → Name E → Task L → Handler E → Post → Option ℕ → Outcome S E L
 add_outcome c t k h post None = Nothing
 add_outcome c t k h post (Some v) =
@@ -130,11 +140,13 @@ request_outcome M c t l f a p Pause = Changes (just t (Live (M.resume l Done) f 
 request_outcome M c t l f a p End = Changes (just t Ended)
 request_outcome M c t l f a p (Fault kind) = Fails kind None t
 
+-- what the step of a live task comes to
 abbrev pub task_outcome : {S E R A L : Type 0} → Machine S E R A L → State S E L → Name E → Task L → Outcome S E L
 task_outcome M c t (Live l f a p) = request_outcome M c t (M.at l) f a p (M.request l)
 task_outcome M c t Absent = Nothing
 task_outcome M c t Ended = Nothing
 
+-- a handing starts the handler's procedure on the event, as a new task in the handler's pool (LVish: spawning handlers)
 abbrev pub hand_outcome : {S E R A L : Type 0} → Machine S E R A L → Handler E → E → Option Post → Outcome S E L
 hand_outcome M h e None = Nothing
 hand_outcome M h e (Some post) =
@@ -145,26 +157,32 @@ abbrev pub outcome : {S E R A L : Type 0} → Machine S E R A L → State S E L 
 outcome M c (Act t) = task_outcome M c t (c.tasks t)
 outcome M c (Hand h e) = hand_outcome M h e (c.handlers h)
 
+-- the tasks, but for a new standing under one name
 abbrev pub with_task : {E L : Type 0} → (E → E → Bool) → Option (Name E × Task L) → (Name E → Task L) → Name E → Task L
 with_task eq None tasks u = tasks u
 with_task eq (Some new) tasks u = if same_name eq u new.0 then new.1 else tasks u
 
+-- the handlers, but for a new one under its name
 abbrev pub with_handler : {E : Type 0} → (E → E → Bool) → Option (Handler E × Post) → (Handler E → Option Post) → Handler E → Option Post
 with_handler eq None handlers h = handlers h
 with_handler eq (Some new) handlers h = if same_handler eq h new.0 then Some new.1 else handlers h
 
+-- the contents, but for one variable's, to which a state is joined
 abbrev pub with_join : {S : Type 0} → (S → S → Option S) → Option (ℕ × S) → (ℕ → S) → ℕ → S
 with_join join None content v = content v
 with_join join (Some new) content v = if nat_eq v new.0 then unwrap_or (join (content v) new.1) (content v) else content v
 
+-- the frozen marks, and one more
 abbrev pub with_frozen : Option ℕ → (ℕ → Bool) → ℕ → Bool
 with_frozen None frozen v = frozen v
 with_frozen (Some new) frozen v = nat_eq v new || frozen v
 
+-- what was handed to which handler, and one event more
 abbrev pub with_handled : {E : Type 0} → (E → E → Bool) → Option (Handler E × E) → (Handler E → E → Bool) → Handler E → E → Bool
 with_handled eq None handled h e = handled h e
 with_handled eq (Some new) handled h e = (same_handler eq h new.0 && eq e new.1) || handled h e
 
+-- a state with a change made to it
 abbrev pub changed : {S E R A L : Type 0} → Machine S E R A L → Change S E L → State S E L → State S E L
 changed M ch c = record {
   content = with_join M.join ch.joined c.content;
@@ -174,6 +192,7 @@ changed M ch c = record {
   handled = with_handled M.event_same ch.handing c.handled;
 }
 
+-- the configuration after a step that comes to this
 abbrev pub after : {S E R A L : Type 0} → Machine S E R A L → State S E L → Outcome S E L → Configuration S E L
 after M c (Changes ch) = Running (changed M ch c)
 after M c (Fails kind v t) = Error kind v t
@@ -218,6 +237,7 @@ IsDoomedRequest M c t (Add pool procedure) = (is_deep t ≡ true) ⊎ ((v : ℕ)
 IsDoomedRequest M c t (Fault kind) = Unit {0}
 IsDoomedRequest M c t _ = ⊥
 
+-- some task that hasn't ended is at a step that is an error
 pub record IsDoomed {S E R A L : Type 0} (M : Machine S E R A L) (c : State S E L) : Type 0 where
   pub task : Name E
   pub local : L

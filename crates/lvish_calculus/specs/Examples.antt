@@ -1,10 +1,9 @@
 -- Small programs over sets of numbers, their runs, and what these lead to.
 use Rattle.std.specs.Prelude.{◌≡◌, ℕ, zero, suc, Bool, true, false, not, ◌&&◌, ◌||◌, List, [], ◌∷◌, ◌++◌, Option, Some, None, nat_eq, if◌then◌else◌}
 use Rattle.std.specs.Ordering.{nat_cmp}
-use Rattle.lvish_calculus.specs.Machine.{Machine, Request, Put, Fork, Add, Freeze, End, Reply, Content, ErrorKind, Frozen}
+use Rattle.lvish_calculus.specs.Machine.{Machine, Request, Put, Fork, Add, Freeze, End, Reply, Content, Frozen}
 use Rattle.lvish_calculus.specs.Program.{Functions, machine_of}
 use Rattle.lvish_calculus.specs.Calculus.{Name, main, forked, handed, Handler, Label, Act, Hand, State, Configuration, Running, Error, start, IsRun, IsEnd}
-use Rattle.lvish_calculus.specs.Laws.{Reaches}
 use Rattle.lvish_calculus.specs.Live.{HasLive}
 
 -- a set of some of the numbers 0, 1 and 3

@@ -30,3 +30,21 @@ pub fn late_put()
     // s = {1}.
     ensures put_first { EndsAs late put_first put_first_end }
 {}
+
+/// A handler is handed what one task puts in the order of its puts. That is more than a run in
+/// itself promises: in another run of the same program it is handed the numbers ascending.
+///
+/// `main` adds a handler, puts 3 and then 1 into s, and freezes s after the handler's tasks, which
+/// copy each number into out.
+pub fn handing_order()
+    // s = {1, 3}, out = {1, 3}.
+    ensures ends { EndsAs handing in_put_order handing_end }
+    // 3, then 1.
+    ensures handed { handed_to (over_sets handing) copier in_put_order ≡ three_then_one }
+    // The same end.
+    ensures other_ends { EndsAs handing one_first handing_end }
+    // 1, then 3.
+    ensures other_handed { handed_to (over_sets handing) copier one_first ≡ one_then_three }
+    // The other run hands 1 before 3, which was introduced before it.
+    ensures other_is_no_core_run { IsCoreRun (over_sets handing) one_first → ⊥ }
+{}

@@ -18,7 +18,7 @@ pub fn lawful<P: Program>()
 /// Of two different enabled steps without an error, each can be made after the other and both
 /// orders give one configuration, or the configuration after one of them is doomed.
 ///
-/// POPL 2014, section 4 (independence and quasi-determinism).
+/// Kuper, Turon, Krishnaswami and Newton (POPL 2014): independence, quasi-determinism.
 pub fn moves_commute<P: Program>()
     ensures { (p : P) → MovesCommute (⟦<P as Meaning>⟧.machine p) }
 {

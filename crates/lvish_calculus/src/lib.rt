@@ -3,7 +3,7 @@
 //!
 //! A [`Program`] says what each task asks for. `specs/` defines, from that, the configurations,
 //! which labels are enabled, what a step does and what a run is, after Kuper, Turon,
-//! Krishnaswami and Newton (POPL 2014). The five functions of [`laws`] have no code: their
+//! Krishnaswami and Newton (POPL 2014). The functions of [`laws`] have no code: their
 //! contracts are the laws, of every program and every run.
 #![tactic(auto)]
 

@@ -11,7 +11,7 @@ pub trait Plain: Ord + Copy {
 /// The states of an LVar: a partial join with a least state, each state the join of its events.
 ///
 /// A state is an element of the lattice other than its greatest, which stands for error
-/// (Kuper and Newton, FHPC 2013, section 3).
+/// (Kuper and Newton, LVars, FHPC 2013).
 pub trait Lattice: Eq + Drop {
     /// What a state is made of; a put introduces the events that it brings.
     type Event: Plain;
@@ -69,7 +69,7 @@ pub trait Lattice: Eq + Drop {
     ghost has_events: { HasEvents least joined Self.Event.eq Self.Event.cmp events_of };
 }
 
-/// A lattice that is read by threshold sets (FHPC 2013, section 3.3).
+/// A lattice that is read by threshold sets (Kuper and Newton, LVars, FHPC 2013).
 pub trait Reads: Lattice {
     /// A threshold set, as a program writes it.
     type Read: Drop;

@@ -5,7 +5,7 @@
 //! of finitely many events, in one ascending order: what a put brings to a state is the list of
 //! its fresh events. A variable is read by a threshold set: members that pairwise join to top,
 //! so at most one is at or below the state, and the read answers that one and not the state
-//! (Kuper and Newton, LVars, FHPC 2013, section 3).
+//! (Kuper and Newton, LVars, FHPC 2013).
 //!
 //! ```text
 //! let mut state = Flat::Bottom;
