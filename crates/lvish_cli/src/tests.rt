@@ -91,7 +91,7 @@ fn a_name_of_64_parts_has_no_child(rt: HostRuntime) {
     assert_eq!(rt; run_all(rt.alloc(), script, &mut writer), Status::Error);
     let text = writer.text();
     assert!(rt; text.starts_with(b"error Deep - main/1/1/1"));
-    assert_eq!(rt; text.len(), 16 + 64 * 2 + 1);
+    assert_eq!(rt; text.len(), 17 + 64 * 2 + 1);
 }
 
 #[test]

@@ -3,4 +3,3 @@ pub mod Labels
 pub mod Tasks
 pub mod Kept
 pub mod Acts
-pub mod Sample

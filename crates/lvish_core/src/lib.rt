@@ -16,6 +16,3 @@ pub use fault::{Fault, StepFault, Stepped};
 pub use machine::Core;
 pub use runs::Runs;
 pub use stage::Stage;
-
-#[cfg(test)]
-mod tests;

@@ -87,7 +87,7 @@ fn picks_name_the_label_by_its_number(rt: HostRuntime) -> Result<(), Fail> {
     for (picks, steps, order) in [
         ([].as_slice(), 6, "main main main main/1 main/1 main/2 "),
         (&[0, 0, 0, 1], 5, "main main main main/2 main/1 "),
-        (&[7, 3, 4, 3], 4, "main main/1 main main/2 "),
+        (&[7, 3, 4, 5], 4, "main main/1 main main/2 "),
     ] {
         let report = run_picks(rt.alloc(), &script, picks, 100_000)?;
         assert_eq!(rt; report.steps, steps);

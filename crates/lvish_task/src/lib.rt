@@ -3,6 +3,11 @@
 //! [`Code::new`] turns the nested statements of a script into instructions. [`Code`] is a
 //! [`Program`](lvish_calculus::Program) whose tasks mean what the nested statements mean:
 //! [`laws::code_means`].
+//!
+//! ```
+//! let code = Code::new(alloc, &script)?;
+//! let asks = code.ask(alloc, &code.start(alloc)?)?;
+//! ```
 #![tactic(auto)]
 
 mod code;

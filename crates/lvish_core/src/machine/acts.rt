@@ -99,6 +99,7 @@ impl<'p, P: Program> Core<'p, P> {
         }
     }
 
+    /// Joins the state to the variable's content, or fails where the join is top.
     fn put(
         &mut self,
         alloc: Global,
@@ -126,6 +127,7 @@ impl<'p, P: Program> Core<'p, P> {
         Ok(Stepped::Done)
     }
 
+    /// Takes the reply to a request that changes nothing else.
     fn go_on(
         &mut self,
         alloc: Global,
@@ -149,6 +151,7 @@ impl<'p, P: Program> Core<'p, P> {
         Ok(Stepped::Done)
     }
 
+    /// Adds the task's next child, or fails where its name would have more than 64 parts.
     fn fork(
         &mut self,
         alloc: Global,
@@ -185,6 +188,7 @@ impl<'p, P: Program> Core<'p, P> {
         Ok(Stepped::Done)
     }
 
+    /// Ends the task.
     fn end(&mut self, name: &TaskName<<P::Lat as Lattice>::Event>) -> Stepped
         requires { (at : P.Local) × (f : ℕ) × (a : ℕ) × (p : ℕ) × IsAsking (⟦<P as Meaning>⟧.machine self.old.program) self.old name.now at f a p End }
         ensures { IsStep (⟦<P as Meaning>⟧.machine self.old.program) self.old (Act name.now) self.new result }
@@ -196,6 +200,7 @@ impl<'p, P: Program> Core<'p, P> {
         Stepped::Done
     }
 
+    /// Makes the step that gives an error.
     fn fail(
         &mut self,
         alloc: Global,

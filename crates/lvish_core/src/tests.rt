@@ -1,2 +1,0 @@
-mod sample;
-mod steps;
