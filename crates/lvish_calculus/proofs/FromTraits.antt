@@ -3,7 +3,7 @@ use Rattle.std.proofs.Common.{◌≡◌, ◌↔◌, ◌⊎◌, inl, inr, Bool, t
 use Rattle.std.proofs.lemmas.Map.Views.{Contains-from_any, list_any-from_Contains}
 use Rattle.std.specs.Cmp.{IsEquivalence, IsTotalOrder, tied_itself}
 use Rattle.std.specs.Ordering.{is_le}
-use Rattle.std.specs.Set.{is_member, IsUnion}
+use Rattle.std.specs.Set.{IsUnion}
 use Rattle.lvish_lattice.specs.Lattice.{IsIdentity, IsJoin, HasEvents, IsAnswered, IsChecked}
 use Rattle.lvish_calculus.specs.Machine.{IsLawful}
 use Rattle.lvish_calculus.specs.Program.{Functions, IsProgram, machine_of}

@@ -1,10 +1,12 @@
 -- The runs of the handing example, computed.
-use Rattle.std.proofs.Common.{◌≡◌, ◌⊎◌, ℕ, true, false, ◌||◌, [], ◌∷◌, Some, None, refl, sym, subst, ap, ◌∙◌, arith, inl, inr, nat_eq, Contains}
+use Rattle.std.proofs.Common.{◌≡◌, ◌⊎◌, ℕ, Bool, true, false, ◌||◌, List, [], ◌∷◌, ◌++◌, Some, None, refl, sym, subst, ap, ◌∙◌, arith, inl, inr, nat_eq, Contains, append_assoc, append-nil}
 use Rattle.std.proofs.lemmas.Bool.{cases_Bool, both_ways}
 use Rattle.std.proofs.lemmas.Map.Views.{list_any-from_Contains}
 use Rattle.std.specs.Cmp.{nat_eq_equiv}
-use Rattle.lvish_calculus.specs.Calculus.{State, Running, Name, main, handed, Handler, Post, Act, IsLive, IsOn, IsQuiet, IsToHand, Ended, Absent, same_name, same_handler, handler_of}
-use Rattle.lvish_calculus.specs.Handing.{IsCoreRun}
+use Rattle.lvish_calculus.specs.Machine.{Machine, IsBelow}
+use Rattle.lvish_calculus.specs.Calculus.{State, Configuration, Running, Error, Label, Hand, IsRun, step, Name, main, handed, Handler, Post, Act, IsLive, IsOn, IsQuiet, IsToHand, Ended, Absent, same_name, same_handler, handler_of}
+use Rattle.lvish_calculus.specs.Laws.{Reaches}
+use Rattle.lvish_calculus.specs.Handing.{IsCoreRun, IsNoLater}
 use Rattle.lvish_calculus.specs.Examples.{Set, over_sets, LeadsTo, EndsAs, numbers, HandingAt, handing, copier, in_put_order, one_first, handing_end}
 use Rattle.lvish_calculus.proofs.Names.{cases_handler, same_handler-other, nat_eq-true}
 use Rattle.lvish_calculus.proofs.Sound.{some_is}
@@ -150,3 +152,121 @@ not_core core =
     let first = core (Act main ∷ Act main ∷ Act main ∷ []) _ copier 1 refl _ (tt, (tt, (tt, refl))) 0 (record { post = record { pool = 0; procedure = 0 }; is = refl; of = refl }) 3 (1, omega arith, refl) refl in
     let later : Contains (3 ∷ []) 1 = first.0 (Act main ∷ Act main ∷ []) (Act main ∷ []) _ refl (tt, (tt, refl)) (0, omega arith, refl) in
     absurd (both_ways _ refl (list_any-from_Contains nat_eq_equiv 1 (3 ∷ []) later))
+
+-- one run leads to one configuration
+runs_same : {S E R A L : Type 0} (M : Machine S E R A L) (d a b : Configuration S E L) (ls : List (Label E)) → IsRun M d ls a → IsRun M d ls b → a ≡ b
+runs_same M d a b [] r s = sym r ∙ s
+runs_same M (Running c) a b (l ∷ ls) r s = runs_same M (step M c l) a b ls r.1 s.1
+runs_same M (Error kind v t) a b (l ∷ ls) r s = absurd r
+
+state_is : (c d : State Set ℕ HandingAt) (p : List (Label ℕ)) → Reaches (over_sets handing) p c → Reaches (over_sets handing) p d → c ≡ d
+state_is c d p r s = let e : Running c ≡ Running d = runs_same (over_sets handing) _ (Running c) (Running d) p r s in cc
+
+-- what holds at each handing of a run, with the steps before it
+abbrev AllHandings : (List (Label ℕ) → Handler ℕ → ℕ → Type 0) → List (Label ℕ) → List (Label ℕ) → Type 0
+AllHandings P done [] = Unit {0}
+AllHandings P done (Act t ∷ ls) = AllHandings P (done ++ Act t ∷ []) ls
+AllHandings P done (Hand h e ∷ ls) = P done h e × AllHandings P (done ++ Hand h e ∷ []) ls
+
+goes_on : (P : List (Label ℕ) → Type 0) (done p : List (Label ℕ)) (l k : Label ℕ) → l ≡ k → P ((done ++ l ∷ []) ++ p) → P (done ++ k ∷ p)
+goes_on P done p l k e x = subst P (append_assoc done (l ∷ []) p ∙ ap (λ (m : Label ℕ). done ++ m ∷ p) e) x
+
+each_handing : (P : List (Label ℕ) → Handler ℕ → ℕ → Type 0) (done ls p s : List (Label ℕ)) (h : Handler ℕ) (e : ℕ) → AllHandings P done ls → ls ≡ p ++ Hand h e ∷ s → P (done ++ p) h e
+each_handing P done [] [] s h e all eq = absurd cc
+each_handing P done [] (y ∷ p) s h e all eq = absurd cc
+each_handing P done (Act t ∷ ls) [] s h e all eq = absurd cc
+each_handing P done (Act t ∷ ls) (y ∷ p) s h e all eq =
+    let l : Act t ≡ y = cc in
+    goes_on (λ q. P q h e) done p (Act t) y l (each_handing P (done ++ Act t ∷ []) ls p s h e all cc)
+each_handing P done (Hand g x ∷ ls) [] s h e all eq =
+    let a : g ≡ h = cc in
+    let b : x ≡ e = cc in
+    subst (λ q. P q h e) (sym (append-nil done)) (subst (λ y. P done h y) b (subst (λ k. P done k x) a all.0))
+each_handing P done (Hand g x ∷ ls) (y ∷ p) s h e all eq =
+    let l : Hand g x ≡ y = cc in
+    goes_on (λ q. P q h e) done p (Hand g x) y l (each_handing P (done ++ Hand g x ∷ []) ls p s h e all.1 cc)
+
+-- what holds after each of the first steps of a run
+abbrev AfterEach : (List (Label ℕ) → Type 0) → List (Label ℕ) → List (Label ℕ) → Type 0
+AfterEach P done [] = P done
+AfterEach P done (l ∷ ls) = P done × AfterEach P (done ++ l ∷ []) ls
+
+each_prefix : (P : List (Label ℕ) → Type 0) (done ls q r : List (Label ℕ)) → AfterEach P done ls → ls ≡ q ++ r → P (done ++ q)
+each_prefix P done [] [] r all eq = subst P (sym (append-nil done)) all
+each_prefix P done [] (y ∷ q) r all eq = absurd cc
+each_prefix P done (l ∷ ls) [] r all eq = subst P (sym (append-nil done)) all.0
+each_prefix P done (l ∷ ls) (y ∷ q) r all eq =
+    let k : l ≡ y = cc in
+    goes_on P done q l y k (each_prefix P (done ++ l ∷ []) ls q r all.1 cc)
+
+-- e came to s no later than x, and is the lesser if they came at once
+abbrev ComesFirst : List (Label ℕ) → ℕ → ℕ → Type 0
+ComesFirst p e x = IsNoLater (over_sets handing) p 0 e x × (IsNoLater (over_sets handing) p 0 x e → (over_sets handing).event_le e x ≡ true)
+
+-- the handing of e to h after the steps p is one of a core run
+abbrev IsFirstAt : List (Label ℕ) → Handler ℕ → ℕ → State Set ℕ HandingAt → ℕ → Type 0
+IsFirstAt p h e c v = (x : ℕ) → IsBelow (over_sets handing) x (c.content v) → c.handled h x ≡ false
+    → IsNoLater (over_sets handing) p v e x × (IsNoLater (over_sets handing) p v x e → (over_sets handing).event_le e x ≡ true)
+
+abbrev HandsFirst : List (Label ℕ) → Handler ℕ → ℕ → Type 0
+HandsFirst p h e = (c : State Set ℕ HandingAt) → Reaches (over_sets handing) p c → (v : ℕ) → IsOn (over_sets handing) c h v → IsFirstAt p h e c v
+
+hands_first : (p : List (Label ℕ)) (e : ℕ) (d : State Set ℕ HandingAt) → Reaches (over_sets handing) p d → d.handlers copier ≡ Some (record { pool = 0; procedure = 0 }) → IsFirstAt p copier e d 0 → HandsFirst p copier e
+hands_first p e d there is first c reached v on =
+    let same : d ≡ c = state_is d c p there reached in
+    let post : on.post ≡ record { pool = 0; procedure = 0 } = some_is (sym on.is ∙ ap (λ (s : State Set ℕ HandingAt). s.handlers copier) (sym same) ∙ is) in
+    let pool : on.post.pool ≡ 0 = ap (λ (q : Post). q.pool) post in
+    let v_is : 0 ≡ v = some_is (subst (λ q. handing.pool_variable q ≡ Some v) pool on.of) in
+    subst (λ w. IsFirstAt p copier e c w) v_is (subst (λ s. IsFirstAt p copier e s 0) same first)
+
+-- 3 came no later than 1
+abbrev ThreeWithOne : List (Label ℕ) → Type 0
+ThreeWithOne q = (c : State Set ℕ HandingAt) → Reaches (over_sets handing) q c → Contains (numbers (c.content 0)) 1 → Contains (numbers (c.content 0)) 3
+
+three_with_one : (q : List (Label ℕ)) (d : State Set ℕ HandingAt) → Reaches (over_sets handing) q d → (Contains (numbers (d.content 0)) 1 → Contains (numbers (d.content 0)) 3) → ThreeWithOne q
+three_with_one q d there f c reached = subst (λ (s : State Set ℕ HandingAt). Contains (numbers (s.content 0)) 1 → Contains (numbers (s.content 0)) 3) (state_is d c q there reached) f
+
+none_there : {x : ℕ} → Contains [] x → ⊥
+none_there z = absurd (omega (arith, z.1))
+
+three_no_later : AfterEach ThreeWithOne [] (Act main ∷ Act main ∷ Act main ∷ [])
+three_no_later = (
+  three_with_one [] _ refl (λ z. absurd (none_there z)),
+  (
+    three_with_one (Act main ∷ []) _ (tt, refl) (λ z. absurd (none_there z)),
+    (three_with_one (Act main ∷ Act main ∷ []) _ (tt, (tt, refl)) (λ z. (0, omega arith, refl)), three_with_one (Act main ∷ Act main ∷ Act main ∷ []) _ (tt, (tt, (tt, refl))) (λ z. (1, omega arith, refl))),
+  ),
+)
+
+three_is_first : HandsFirst (Act main ∷ Act main ∷ Act main ∷ []) copier 3
+three_is_first = hands_first _ 3 _ (tt, (tt, (tt, refl))) refl (λ x below unhandled. elim (one_or_three x below) [
+  | inl z ↦ subst (λ y. ComesFirst (Act main ∷ Act main ∷ Act main ∷ []) 3 y) (sym z) (
+    λ q r c eq. each_prefix ThreeWithOne [] _ q r three_no_later eq c,
+    λ no_later. let one : Contains (3 ∷ []) 1 = no_later (Act main ∷ Act main ∷ []) (Act main ∷ []) _ refl (tt, (tt, refl)) (0, omega arith, refl) in
+        absurd (both_ways _ refl (list_any-from_Contains nat_eq_equiv 1 (3 ∷ []) one)),
+  )
+  | inr z ↦ subst (λ y. ComesFirst (Act main ∷ Act main ∷ Act main ∷ []) 3 y) (sym z)
+      (λ q r c eq reached below. below, λ no_later. refl)
+])
+
+holds_there : (f : ℕ → Bool) (x y : ℕ) → x ≡ y → f x ≡ false → f y ≡ true → ⊥
+holds_there f x y e off on = both_ways _ (sym (ap f e) ∙ off) on
+
+-- once 3 was handed, 1 comes
+one_comes : (p : List (Label ℕ)) (c : State Set ℕ HandingAt) → c.handled copier 3 ≡ true → numbers (c.content 0) ≡ 1 ∷ 3 ∷ [] → IsFirstAt p copier 1 c 0
+one_comes p c three is x below unhandled = elim (one_or_three x (subst (λ xs. Contains xs x) is below)) [
+  | inl z ↦ subst (λ y. ComesFirst p 1 y) (sym z)
+      (λ q r d eq reached there. there, λ no_later. refl)
+  | inr z ↦ absurd (holds_there (c.handled copier) x 3 z unhandled three)
+]
+
+one_is_next_at : (p : List (Label ℕ)) (c : State Set ℕ HandingAt) → Reaches (over_sets handing) p c → c.handlers copier ≡ Some (record { pool = 0; procedure = 0 }) → c.handled copier 3 ≡ true → numbers (c.content 0) ≡ 1 ∷ 3 ∷ [] → HandsFirst p copier 1
+one_is_next_at p c there handler three is = hands_first p 1 c there handler (one_comes p c three is)
+
+one_is_next : HandsFirst (Act main ∷ Act main ∷ Act main ∷ Hand copier 3 ∷ Act three_copied ∷ Act three_copied ∷ []) copier 1
+one_is_next = one_is_next_at _ _
+    (tt, (tt, (tt, (record { variable = 0; on = record { post = record { pool = 0; procedure = 0 }; is = refl; of = refl }; below = (1, omega arith, refl); unhandled = refl }, (tt, (tt, refl))))))
+    refl refl refl
+
+pub is_core : IsCoreRun (over_sets handing) in_put_order
+is_core p s h e eq = each_handing HandsFirst [] in_put_order p s h e (three_is_first, (one_is_next, tt)) eq

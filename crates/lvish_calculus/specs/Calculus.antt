@@ -1,5 +1,5 @@
 -- Names, configurations, steps and runs.
-use Rattle.std.specs.Prelude.{◌≡◌, ◌≢◌, ◌⊎◌, ℕ, suc, Bool, true, false, not, ◌&&◌, ◌||◌, List, [], ◌∷◌, Option, Some, None, IsSome, Contains, nat_eq, nat_le, if◌then◌else◌, unwrap_or}
+use Rattle.std.specs.Prelude.{◌≡◌, ◌≢◌, ◌⊎◌, ℕ, suc, Bool, true, false, not, ◌&&◌, ◌||◌, List, [], ◌∷◌, Option, Some, None, IsSome, Contains, nat_eq, if◌then◌else◌, unwrap_or}
 pub use Rattle.lvish_names.specs.Names.{Name, main, forked, handed, Handler, handler_of, is_deep, same_name, same_handler}
 pub use Rattle.lvish_calculus.specs.declared.label.Label.{Label}
 pub use Rattle.lvish_calculus.specs.declared.label.Label.TheVariants.{Task as Act, Hand}

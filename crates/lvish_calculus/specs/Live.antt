@@ -1,6 +1,6 @@
 -- How many tasks haven't ended.
 use Rattle.std.specs.Prelude.{◌≡◌, ◌↔◌, ℕ, List, length}
-use Rattle.lvish_calculus.specs.Calculus.{Name, State, Configuration, Running, Error, IsLive}
+use Rattle.lvish_calculus.specs.Calculus.{Name, State, IsLive}
 use Rattle.lvish_calculus.specs.Handing.{IsAmong, NoRepeats}
 
 -- n tasks haven't ended: so long is a list, without repeats, of just their names

@@ -41,6 +41,8 @@ pub fn handing_order()
     ensures ends { EndsAs handing in_put_order handing_end }
     // 3, then 1.
     ensures handed { handed_to (over_sets handing) copier in_put_order ≡ three_then_one }
+    // Each time the event that was introduced first.
+    ensures is_core_run { IsCoreRun (over_sets handing) in_put_order }
     // The same end.
     ensures other_ends { EndsAs handing one_first handing_end }
     // 1, then 3.
