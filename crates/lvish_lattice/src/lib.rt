@@ -17,15 +17,22 @@
 //! ```
 #![tactic(auto)]
 
+mod ascending;
 mod flat;
+mod grow_set;
 mod integers;
 mod items;
 mod lattice;
+mod max_counter;
 mod numbered;
+mod reads;
 #[cfg(test)]
 mod tests;
+mod tuples;
 
 pub use flat::{Flat, FlatRead};
+pub use grow_set::{GrowSet, Members};
 pub use items::Items;
 pub use lattice::{Lattice, Plain, Reads};
+pub use max_counter::{Levels, MaxCounter, Range};
 pub use numbered::Numbered;

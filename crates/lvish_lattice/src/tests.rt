@@ -1,9 +1,12 @@
-//! Worked examples: the cells of a script, and each item at a concrete type through its bound.
+//! Worked examples, and each item at a concrete type through its bound.
 
 use crate::{Flat, FlatRead, Items, Lattice, Numbered, Reads};
 use std::alloc::{AllocError, Global};
 use std::process::Abort;
 use std::test::Fail;
+
+mod counters;
+mod sets;
 
 type Cell = Flat<i64>;
 

@@ -1,0 +1,34 @@
+-- Numbers that only grow.
+use Rattle.std.specs.Prelude.{◌≡◌, ◌≤◌, ℤ, pos, Bool, cond, List, Option, Some, Contains, find, map, option_map, nat_le}
+use Rattle.std.proofs.Common.{lit≤}
+use Rattle.std.specs.List.{range_with_len}
+use Rattle.lvish_lattice.specs.declared.max_counter.MaxCounter.{MaxCounter}
+use Rattle.lvish_lattice.specs.declared.max_counter.Levels.{Levels}
+use Rattle.lvish_lattice.specs.declared.max_counter.Levels.TheVariants.{In}
+
+-- the number that a counter holds
+abbrev pub number_of : MaxCounter → ℤ
+number_of c = pos c.value
+
+abbrev pub zero : MaxCounter
+zero = record { value = 0; bounded = lit≤ tt }
+
+-- the greater of the two
+abbrev pub joined : MaxCounter → MaxCounter → Option MaxCounter
+joined a b = Some (cond (nat_le a.value b.value) b a)
+
+-- the numbers from 1 up
+abbrev pub events_of : MaxCounter → List ℤ
+events_of c = map pos (range_with_len 1 c.value)
+
+-- the levels that are waited for
+abbrev pub listed : Levels → List MaxCounter
+listed (In xs) = xs
+
+-- the members are the listed levels, each of which answers its number
+abbrev pub Member : Levels → MaxCounter → ℤ → Type 0
+Member r c a = Contains (listed r) c × (number_of c ≡ a)
+
+-- the number of the first of the listed levels that the counter has reached
+abbrev pub answer_of : Levels → MaxCounter → Option ℤ
+answer_of r c = option_map number_of (find (λ level. nat_le level.value c.value) (listed r))

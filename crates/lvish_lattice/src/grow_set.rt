@@ -1,0 +1,171 @@
+ghost use Rattle.std.specs.Prelude.{◌≡◌, ◌↔◌, [], IfOk, IsTrue, Contains, find};
+ghost use Rattle.std.specs.Set.{is_member};
+ghost use Rattle.std.specs.List.Sorted.{IsStrictlySortedBy, IsStrictlySortedBy-prop};
+
+use crate::ascending::{beyond, copied, has, is_within, merged, sorted};
+use crate::items::Items;
+use crate::lattice::{Lattice, Plain, Reads};
+use crate::reads::has_one_value;
+use std::alloc::{AllocError, Global};
+
+/// A set that only grows.
+///
+/// What stands behind it is its elements in ascending order.
+#[derive(Debug, Drop)]
+pub struct GrowSet<V: Plain> {
+    items: Items<V>,
+    ghost ascending: { IsStrictlySortedBy V.cmp items } by { IsStrictlySortedBy-prop V.cmp items },
+}
+
+/// What is waited for: one of a list of elements.
+#[derive(Debug, Drop)]
+pub enum Members<V> {
+    In(Items<V>),
+}
+
+impl<V> Members<V> {
+    ghost use Rattle.lvish_lattice.specs.Members.{listed};
+
+    /// The elements that are waited for, as they were listed.
+    pub fn listed(&self) -> &[V]
+        ensures { result.now ≡ listed self.now }
+    {
+        let Members::In(items) = self;
+        items.as_slice()
+    }
+}
+
+impl<V: Plain> GrowSet<V> {
+    ghost use Rattle.lvish_lattice.specs.GrowSet.{items_of};
+
+    /// The empty set.
+    pub fn new(alloc: Global) -> GrowSet<V>
+        ensures { items_of result ≡ [] }
+    {
+        GrowSet {
+            items: Items::new(Vec::new(alloc)),
+        }
+    }
+
+    /// The set of the listed values, which stand in any order, and may be repeated.
+    pub fn of(alloc: Global, values: &[V]) -> Result<GrowSet<V>, AllocError>
+        ensures { IfOk result (λ s. (x : V) → Contains (items_of s) x ↔ Contains values.now x) }
+    {
+        Ok(GrowSet {
+            items: Items::new(sorted(alloc, values)?),
+        })
+    }
+
+    /// The elements in ascending order, each once.
+    pub fn items(&self) -> &[V]
+        ensures same { result.now ≡ items_of self.now }
+        ensures ascending { IsStrictlySortedBy V.cmp (items_of self.now) }
+    {
+        self.items.as_slice()
+    }
+}
+
+impl<V: Plain> PartialEq for GrowSet<V> {
+    ghost use Rattle.std.specs.Cmp.{partial_equiv_from_equiv};
+    ghost use Rattle.lvish_lattice.specs.GrowSet.{alike, alike_equiv};
+
+    ghost eq = { alike V.eq };
+
+    ghost laws = { partial_equiv_from_equiv (alike_equiv V.Eq.laws) };
+
+    fn eq(&self, other: &GrowSet<V>) -> bool {
+        self.items() == other.items()
+    }
+}
+
+impl<V: Plain> Eq for GrowSet<V> {
+    ghost use Rattle.lvish_lattice.specs.GrowSet.{alike_equiv};
+
+    ghost laws = { alike_equiv V.Eq.laws };
+}
+
+impl<V: Plain> Lattice for GrowSet<V> {
+    ghost use Rattle.lvish_lattice.specs.GrowSet.{empty, joined, items_of};
+
+    type Event = V;
+
+    ghost least = { empty };
+
+    ghost joined = { joined };
+
+    ghost events_of = { items_of };
+
+    fn bottom(alloc: Global) -> GrowSet<V> {
+        GrowSet::new(alloc)
+    }
+
+    fn join(&self, alloc: Global, other: &GrowSet<V>) -> Result<Option<GrowSet<V>>, AllocError> {
+        let items = merged(alloc, self.items(), other.items())?;
+        Ok(Some(GrowSet {
+            items: Items::new(items),
+        }))
+    }
+
+    fn leq(&self, other: &GrowSet<V>) -> bool {
+        is_within(self.items(), other.items())
+    }
+
+    fn events(&self, alloc: Global) -> Result<Vec<V>, AllocError> {
+        copied(alloc, self.items())
+    }
+
+    fn fresh(alloc: Global, old: &GrowSet<V>, put: &GrowSet<V>) -> Result<Vec<V>, AllocError> {
+        beyond(alloc, old.items(), put.items())
+    }
+
+    fn copy(&self, alloc: Global) -> Result<GrowSet<V>, AllocError> {
+        Ok(GrowSet {
+            items: Items::new(copied(alloc, self.items())?),
+        })
+    }
+
+    fn merge(&mut self, _alloc: Global, put: &GrowSet<V>) -> Result<bool, AllocError> {
+        self.items.merge_in(put.items())?;
+        Ok(true)
+    }
+
+    ghost use Rattle.lvish_lattice.specs.Ascending.{ties_are_same};
+    ghost use Rattle.lvish_lattice.specs.GrowSet.{alike_identical, set_is_join, set_has_events};
+
+    ghost identical = { alike_identical V.identical };
+
+    ghost is_join = { set_is_join V.Ord.total (ties_are_same V.cmp V.identical V.matches_eq) };
+
+    ghost has_events = { set_has_events V.Ord.total V.eq V.matches_eq };
+}
+
+/// The first of the listed values that the ascending list has.
+fn first_held<V: Plain>(listed: &[V], items: &[V]) -> Option<V>
+    requires { IsStrictlySortedBy V.cmp items.now }
+    ensures { result ≡ find (is_member V.eq items.now) listed.now }
+{
+    listed.iter().copied().find(|x| has(items, *x))
+}
+
+impl<V: Plain> Reads for GrowSet<V> {
+    ghost use Rattle.lvish_lattice.specs.Members.{Member, answer_of};
+    ghost use Rattle.lvish_lattice.specs.MembersLaws.{sets_answer};
+
+    type Read = Members<V>;
+
+    type Answer = V;
+
+    ghost member = { Member };
+
+    ghost answer_of = { answer_of V.eq };
+
+    fn check(read: &Members<V>) -> bool {
+        has_one_value(read.listed())
+    }
+
+    fn trigger(read: &Members<V>, state: &GrowSet<V>) -> Option<V> {
+        first_held(read.listed(), state.items())
+    }
+
+    ghost answers = { sets_answer V.Ord.total V.eq V.matches_eq V.identical };
+}
