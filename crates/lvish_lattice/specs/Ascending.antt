@@ -1,5 +1,5 @@
 -- Ascending lists as sets: a list is determined by its members, and a merge is a join.
-use Rattle.std.specs.Prelude.{◌≡◌, Bool, true, false, cond, not, ◌||◌, ◌&&◌, List, [], ◌∷◌, ⊤, ◌↔◌, ◌++◌, All, refl, filter, slice_index_or, Contains, Result, Ok, Err, is_ok, nat_lt}
+use Rattle.std.specs.Prelude.{◌≡◌, Bool, true, false, not, ◌||◌, ◌&&◌, List, [], ◌∷◌, ◌↔◌, ◌++◌, All, refl, filter, slice_index_or, Contains, Result, Ok, Err, is_ok, nat_lt}
 use Rattle.std.proofs.Common.{sym, ◌∙◌, ap, subst, true≢false, arith, zero, suc, length, ◌<◌, ◌≤◌, ℕ, take, drop}
 use Rattle.std.proofs.Math.ListN.{drop_of_length-le}
 use Rattle.std.proofs.lemmas.List.{append-nil, take-append-drop, take_at}

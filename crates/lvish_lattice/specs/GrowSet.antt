@@ -1,5 +1,5 @@
 -- Sets that only grow, and that they are a lattice.
-use Rattle.std.specs.Prelude.{◌≡◌, ◌↔◌, Bool, true, false, not, List, [], ◌∷◌, Option, Some, None, option_and_then, is_some, unwrap_or, filter, refl}
+use Rattle.std.specs.Prelude.{◌≡◌, ◌↔◌, Bool, true, false, not, List, [], Option, Some, None, option_and_then, is_some, unwrap_or, filter, refl}
 use Rattle.std.proofs.Common.{sym, ◌∙◌, ap, subst}
 use mathlib.Core.HLevel.{Σ_prop_path}
 use Rattle.std.specs.Cmp.{IsTotalOrder, IsEquivalence}
@@ -7,7 +7,6 @@ use Rattle.std.specs.Cmp.Lexicographic.{pointwise}
 use Rattle.std.proofs.lemmas.Cmp.{lists_equiv}
 use Rattle.std.specs.Set.{is_member, sorted_merge, IsUnion}
 use Rattle.std.specs.Ordering.{is_eq}
-use Rattle.std.specs.declared.cmp.Ordering.{Ordering}
 use Rattle.std.specs.declared.cmp.Ordering.TheVariants.{Equal}
 use Rattle.lvish_lattice.specs.Lattice.{IsIdentity, IsJoin, HasEvents, fresh_of}
 use Rattle.std.specs.List.Sorted.{IsStrictlySortedBy, IsStrictlySortedBy-prop}

@@ -1,6 +1,6 @@
 -- Reads by a list: the first that passes, and where one value alone is listed.
 use Rattle.std.specs.Prelude.{◌≡◌, Bool, true, false, cond, List, [], ◌∷◌, Option, Some, None, Contains, find, option_map, refl}
-use Rattle.std.proofs.Common.{sym, ◌∙◌, ap, subst, arith, ◌+◌, ◌<◌, ℕ, zero, suc, length, slice_index_or}
+use Rattle.std.proofs.Common.{sym, ◌∙◌, ap, subst, arith, suc}
 
 module _ {X : Type 0} where
   first_contained : (x : X) (xs : List X) → Contains (x ∷ xs) x

@@ -1,5 +1,5 @@
 -- Numbers that only grow.
-use Rattle.std.specs.Prelude.{◌≡◌, ◌≤◌, ℤ, pos, Bool, cond, List, Option, Some, Contains, find, map, option_map, nat_le}
+use Rattle.std.specs.Prelude.{◌≡◌, ℤ, pos, cond, List, Option, Some, Contains, find, map, option_map, nat_le}
 use Rattle.std.proofs.Common.{lit≤}
 use Rattle.std.specs.List.{range_with_len}
 use Rattle.lvish_lattice.specs.declared.max_counter.MaxCounter.{MaxCounter}

@@ -1,6 +1,6 @@
 -- Counters are a lattice, and reads by levels answer.
-use Rattle.std.specs.Prelude.{◌≡◌, ◌⊎◌, ◌↔◌, ℕ, ◌+◌, ◌-◌, ◌<◌, ◌≤◌, ℤ, pos, negsuc, Bool, true, false, cond, not, ◌&&◌, ◌||◌, List, [], ◌∷◌, ◌++◌, length, map, Option, Some, None, option_map, filter, find, max, Contains, nat_eq, nat_le, nat_lt, refl}
-use Rattle.std.proofs.Common.{zero, suc, sym, ◌∙◌, ap, subst, inl, ⊎_elim, arith}
+use Rattle.std.specs.Prelude.{◌≡◌, ◌↔◌, ℕ, ◌+◌, ◌-◌, ◌<◌, ◌≤◌, ℤ, pos, negsuc, Bool, true, false, cond, not, ◌&&◌, ◌||◌, List, [], ◌∷◌, ◌++◌, length, map, Some, option_map, filter, find, max, Contains, nat_eq, nat_le, nat_lt, refl}
+use Rattle.std.proofs.Common.{zero, suc, sym, ◌∙◌, ap, inl, ⊎_elim, arith}
 use Rattle.std.proofs.Math.Bridge.{le_prop}
 use mathlib.Core.HLevel.{Σ_prop_path}
 use borrow.Author.Tests.{eqb-true, leb-true, leb-false, le-leb}
@@ -134,7 +134,7 @@ pub reaches : (m s : MaxCounter) → IsBelow joined m s ↔ (nat_le m.value s.va
 unfolding most
 reaches m s = (
   (λ h. let e : most m s ≡ s = cc in le-leb m.value s.value (omega (arith, value_of_most m s, ap (λ (x : MaxCounter). x.value) e))),
-  λ h. ap (λ t. Some (cond t s m)) h
+  λ h. ap (λ t. Some (cond t s m)) h,
 )
 
 -- any two listed levels are the same where the read is checked, and only there
@@ -147,8 +147,8 @@ counters_checked r = ((λ one m n a b s t. let same = one m n s.0 t.0 in inl (sa
 pub counters_answer : (r : Levels) → IsChecked joined (Member r) → IsAnswered joined (Member r) (answer_of r)
 counters_answer r checked s a = (
   (λ h.
-    let m = mapped number_of (find (λ level. nat_le level.value s.value) (listed r)) a h in
-    let f = found (λ level. nat_le level.value s.value) (listed r) m.0 m.1 in
-    (m.0, (f.0, m.2), (reaches m.0 s).1 f.1)),
-  λ m. ap (option_map number_of) (found_one (λ level. nat_le level.value s.value) (listed r) m.0 m.1.0 (λ y c. checked_is_one r checked y m.0 c m.1.0) ((reaches m.0 s).0 m.2)) ∙ ap (λ (n : ℤ). Some n) m.1.1
+      let m = mapped number_of (find (λ level. nat_le level.value s.value) (listed r)) a h in
+      let f = found (λ level. nat_le level.value s.value) (listed r) m.0 m.1 in
+      (m.0, (f.0, m.2), (reaches m.0 s).1 f.1)),
+  λ m. ap (option_map number_of) (found_one (λ level. nat_le level.value s.value) (listed r) m.0 m.1.0 (λ y c. checked_is_one r checked y m.0 c m.1.0) ((reaches m.0 s).0 m.2)) ∙ ap (λ (n : ℤ). Some n) m.1.1,
 )

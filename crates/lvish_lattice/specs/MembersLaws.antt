@@ -1,11 +1,10 @@
 -- Reads of a set by a list of elements: when they are checked, and what they answer.
-use Rattle.std.specs.Prelude.{◌≡◌, ◌⊎◌, ◌↔◌, Bool, true, List, [], ◌∷◌, Option, Some, None, All, Contains, refl}
-use Rattle.std.proofs.Common.{sym, ◌∙◌, ap, subst, inl, ⊎_elim, arith, slice_index_or}
+use Rattle.std.specs.Prelude.{◌≡◌, ◌↔◌, Bool, true, [], ◌∷◌, None, All, Contains, refl}
+use Rattle.std.proofs.Common.{sym, ◌∙◌, ap, subst, inl, ⊎_elim, arith}
 use Rattle.std.specs.Cmp.{IsTotalOrder}
-use Rattle.std.specs.Set.{is_member, sorted_merge}
+use Rattle.std.specs.Set.{is_member}
 use Rattle.std.specs.Ordering.{is_eq}
 use Rattle.std.proofs.lemmas.List.Elements.{All-cons, All-nil}
-use Rattle.std.specs.List.Sorted.{IsStrictlySortedBy}
 use Rattle.std.specs.declared.cmp.Ord as ord
 use Rattle.std.specs.declared.cmp.PartialEq as partial_eq
 use Rattle.std.specs.declared.cmp.PartialOrd as partial_ord
@@ -52,5 +51,5 @@ module _ {V : Type 0} {o : ord.Ghosts V} {e : partial_eq.Ghosts V} {p : partial_
     pub sets_answer : (r : Members V) → IsChecked joined (Member {o = o} {e = e} {p = p} r) → IsAnswered joined (Member {o = o} {e = e} {p = p} r) (answer_of {o = o} {e = e} {p = p} eq r)
     sets_answer r checked s a = (
       (λ h. let f = found (is_member eq s.items) (listed r) a h in (single a, (f.0, refl), below_has (single a) s a refl f.1)),
-      λ m. found_one (is_member eq s.items) (listed r) a m.1.0 (λ y c. checked_is_one r checked y a c m.1.0) (has_below m.0 s a m.1.1 m.2)
+      λ m. found_one (is_member eq s.items) (listed r) a m.1.0 (λ y c. checked_is_one r checked y a c m.1.0) (has_below m.0 s a m.1.1 m.2),
     )

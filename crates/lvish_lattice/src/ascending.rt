@@ -9,20 +9,12 @@ use crate::lattice::Plain;
 use std::alloc::{AllocError, Global};
 use std::cmp::Ordering;
 
-pub fn copied<V: Copy>(alloc: Global, xs: &[V]) -> Result<Vec<V>, AllocError>
-    ensures { IfOk result (λ v. v.items ≡ xs.now) }
-{
-    let mut copy = Vec::new(alloc);
-    copy.extend_from_slice(xs)?;
-    Ok(copy)
-}
-
 /// The values of the list in ascending order, each once.
 pub fn sorted<V: Plain>(alloc: Global, xs: &[V]) -> Result<Vec<V>, AllocError>
     ensures ascending { IfOk result (λ v. IsStrictlySortedBy V.cmp v.items) }
     ensures members { IfOk result (λ v. (x : V) → Contains v.items x ↔ Contains xs.now x) }
 {
-    let mut sorted = copied(alloc, xs)?;
+    let mut sorted = Vec::from_slice(alloc, xs)?;
     sorted.sort_unstable();
     sorted.dedup();
     Ok(sorted)

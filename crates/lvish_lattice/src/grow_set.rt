@@ -2,7 +2,7 @@ ghost use Rattle.std.specs.Prelude.{◌≡◌, ◌↔◌, [], IfOk, IsTrue, Cont
 ghost use Rattle.std.specs.Set.{is_member};
 ghost use Rattle.std.specs.List.Sorted.{IsStrictlySortedBy, IsStrictlySortedBy-prop};
 
-use crate::ascending::{beyond, copied, has, is_within, merged, sorted};
+use crate::ascending::{beyond, has, is_within, merged, sorted};
 use crate::items::Items;
 use crate::lattice::{Lattice, Plain, Reads};
 use crate::reads::has_one_value;
@@ -111,7 +111,7 @@ impl<V: Plain> Lattice for GrowSet<V> {
     }
 
     fn events(&self, alloc: Global) -> Result<Vec<V>, AllocError> {
-        copied(alloc, self.items())
+        Vec::from_slice(alloc, self.items())
     }
 
     fn fresh(alloc: Global, old: &GrowSet<V>, put: &GrowSet<V>) -> Result<Vec<V>, AllocError> {
@@ -120,7 +120,7 @@ impl<V: Plain> Lattice for GrowSet<V> {
 
     fn copy(&self, alloc: Global) -> Result<GrowSet<V>, AllocError> {
         Ok(GrowSet {
-            items: Items::new(copied(alloc, self.items())?),
+            items: Items::new(Vec::from_slice(alloc, self.items())?),
         })
     }
 

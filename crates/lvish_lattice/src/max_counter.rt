@@ -145,7 +145,10 @@ impl Reads for MaxCounter {
     }
 
     fn trigger(read: &Levels, state: &MaxCounter) -> Option<i64> {
-        let reached = read.listed().iter().find(|level| level.value <= state.value)?;
+        let reached = read
+            .listed()
+            .iter()
+            .find(|level| level.value <= state.value)?;
         Some(reached.get())
     }
 

@@ -23,14 +23,26 @@ fn held<'a>(s: &'a Numbers) -> &'a [i64] {
 }
 
 /// The elements of the join, which is never top.
-fn assert_join(rt: &impl Abort, alloc: Global, a: &[i64], b: &[i64], want: &[i64]) -> Result<(), AllocError> {
+fn assert_join(
+    rt: &impl Abort,
+    alloc: Global,
+    a: &[i64],
+    b: &[i64],
+    want: &[i64],
+) -> Result<(), AllocError> {
     let joined = join_of(alloc, &set(alloc, a)?, &set(alloc, b)?)?;
     assert_eq!(rt; joined.as_ref().map(held), Some(want), "{a:?} and {b:?}");
     Ok(())
 }
 
 /// The merge in place makes the same as the join.
-fn assert_merge(rt: &impl Abort, alloc: Global, a: &[i64], b: &[i64], want: &[i64]) -> Result<(), AllocError> {
+fn assert_merge(
+    rt: &impl Abort,
+    alloc: Global,
+    a: &[i64],
+    b: &[i64],
+    want: &[i64],
+) -> Result<(), AllocError> {
     let mut state = set(alloc, a)?;
     let joined = merge_into(alloc, &mut state, &set(alloc, b)?)?;
     assert!(rt; joined);

@@ -17,12 +17,11 @@ returns g c =
     let ends : sorted_merge R true us vs ≡ us ++ vs = elim c.loop-i-test.branch [
       | then-loop-i-test+else-j-ys w ↦ merge_second_ends R us vs (drop_of_length-le ys (omega (arith, w.if-j-ys.false)))
       | else-loop-i-test w ↦ merge_first_ends R us vs (drop_of_length-le xs (omega (arith, w.loop-i-test.false)))
-    ] in
-    (
+    ] in (
       (λ h. let all : i ≡ length xs = grind (arith, nat_tests, h) in
-        let none : us ≡ [] = drop_of_length-le xs (omega arith) in
-        c.loop-i.invariant.rest.1 (ends ∙ ap (λ l. l ++ vs) none)),
+          let none : us ≡ [] = drop_of_length-le xs (omega arith) in
+          c.loop-i.invariant.rest.1 (ends ∙ ap (λ l. l ++ vs) none)),
       λ m. let same : us ++ vs ≡ vs = sym ends ∙ c.loop-i.invariant.rest.0 m in
-        let all : i ≡ length xs = omega (arith, ap length same, length-append us vs, length-drop i xs, c.loop-i.invariant.first) in
-        grind (arith, nat_tests, all)
+          let all : i ≡ length xs = omega (arith, ap length same, length-append us vs, length-drop i xs, c.loop-i.invariant.first) in
+          grind (arith, nat_tests, all),
     )

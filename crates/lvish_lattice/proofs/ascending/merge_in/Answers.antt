@@ -1,4 +1,4 @@
-use Rattle.std.proofs.Common.{◌≡◌, ◌∙◌, ◌+◌, ◌<◌, ◌++◌, ◌∷◌, [], sym, ap, subst, length, take, true, arith}
+use Rattle.std.proofs.Common.{◌≡◌, ◌∙◌, ◌+◌, ◌++◌, ◌∷◌, [], sym, ap, subst, take, true, arith}
 use Rattle.std.proofs.lemmas.List.{take_more}
 use Rattle.std.specs.Set.{sorted_merge}
 use Rattle.std.specs.List.Sorted.{IsStrictlySortedBy}

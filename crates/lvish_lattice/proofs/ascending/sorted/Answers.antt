@@ -1,4 +1,3 @@
-use Rattle.std.proofs.Common.{sym}
 use Rattle.std.proofs.lemmas.List.Filters.{dedup_is}
 use Rattle.std.proofs.lemmas.List.Kept.{Contains-dedup, Contains-from_dedup, IsStrictlySortedBy-dedup}
 use Rattle.std.proofs.lemmas.List.Sorted.{Contains-permutation, IsPermutation-sym}
@@ -15,6 +14,6 @@ returns-clause-members g c =
     let is = dedup_is _ _ _ c.dedup.ensures.filtered in
     let moved = c.sort_unstable.ensures.permutation in
     λ x. (
-      (λ h. rw c.in_ok-sorted.ensures at (Contains-permutation _ _ x (IsPermutation-sym _ _ moved) (Contains-from_dedup _ _ x (rw is at h)))),
-      λ h. rw is (Contains-dedup v.Eq.laws v.Plain.identical _ x (Contains-permutation _ _ x moved (rw c.in_ok-sorted.ensures h)))
+      (λ h. rw c.in_ok-sorted.ensures.items at (Contains-permutation _ _ x (IsPermutation-sym _ _ moved) (Contains-from_dedup _ _ x (rw is at h)))),
+      λ h. rw is (Contains-dedup v.Eq.laws v.Plain.identical _ x (Contains-permutation _ _ x moved (rw c.in_ok-sorted.ensures.items h))),
     )

@@ -1,4 +1,3 @@
-use Rattle.std.proofs.Common.{◌∙◌}
 use Rattle.lvish_lattice.specs.GrowSet.{below_from}
 use Rattle.lvish_lattice.proofs.grow_set.GrowSetLattice.leq.Goals as goal
 
