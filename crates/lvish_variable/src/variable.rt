@@ -1,0 +1,104 @@
+ghost use Rattle.std.specs.Prelude.{◌≡◌, [], false, true, IfOk, IfErr};
+ghost use Rattle.lvish_variable.specs.Variable.{IsKept, IsPut, IsRefused};
+
+use crate::entry::Entry;
+use crate::put_fault::PutFault;
+use lvish_lattice::{Lattice, Reads};
+use lvish_names::TaskName;
+use std::alloc::{AllocError, Global};
+use std::marker::Model;
+
+/// A state that only grows, whether it is frozen, and its events in the order in which they came.
+#[derive(Debug, Drop)]
+pub struct Variable<L: Lattice> {
+    state: L,
+    frozen: bool,
+    log: Vec<Entry<L::Event>>,
+}
+
+impl<L: Lattice> Model for Variable<L> {
+    ghost use Rattle.lvish_variable.specs.Variable.{View, IsKept};
+
+    ghost Value = { View L L.Event };
+
+    ghost view = { λ v. record { state = v.state; frozen = v.frozen; log = v.log.items } };
+
+    ghost invariant = { λ v. IsKept L.events_of v.state v.log.items };
+}
+
+impl<L: Lattice> Variable<L> {
+    /// A variable at bottom.
+    pub fn new(alloc: Global) -> Self
+        ensures { result ≡ record { state = L.least; frozen = false; log = [] } }
+    {
+        Variable {
+            state: L::bottom(alloc),
+            frozen: false,
+            log: Vec::new(alloc),
+        }
+    }
+
+    /// Joins `put` to the state, and logs the events that it brings: the task's put of this number.
+    ///
+    /// # Errors
+    ///
+    /// `Conflict` where the join is top, else `Frozen` where the variable is frozen and the join
+    /// differs from its state; `Memory` where a growth was refused.
+    pub fn put(
+        &mut self,
+        _alloc: Global,
+        task: &TaskName<L::Event>,
+        number: u64,
+        put: &L,
+    ) -> Result<(), PutFault>
+        ensures ok { IfOk result (λ _. IsPut L.joined L.Event.eq L.events_of task.now number put.now self.old self.new) }
+        ensures why { IfErr result (λ f. IsRefused L.joined put.now self.old f) }
+        ensures refused { IfErr result (λ _. self.new ≡ self.old) }
+    {
+        Err(PutFault::Memory)
+    }
+
+    /// Freezes the variable, and answers its state.
+    ///
+    /// # Errors
+    ///
+    /// Where there is no room for the state.
+    pub fn freeze(&mut self, alloc: Global) -> Result<L, AllocError>
+        ensures answer { IfOk result (λ s. s ≡ self.old.state) }
+        ensures frozen { IfOk result (λ _. self.new ≡ record { state = self.old.state; frozen = true; log = self.old.log }) }
+        ensures refused { IfErr result (λ _. self.new ≡ self.old) }
+    {
+        let state = self.state.copy(alloc)?;
+        self.frozen = true;
+        Ok(state)
+    }
+
+    pub fn state(&self) -> &L
+        ensures { result.now ≡ self.now.state }
+    {
+        &self.state
+    }
+
+    pub fn is_frozen(&self) -> bool
+        ensures { result ≡ self.now.frozen }
+    {
+        self.frozen
+    }
+
+    /// The events of the state, each once, in the order in which they came.
+    pub fn log(&self) -> &[Entry<L::Event>]
+        ensures log { result.now ≡ self.now.log }
+        ensures kept { IsKept L.events_of self.now.state self.now.log }
+    {
+        &self.log
+    }
+}
+
+impl<L: Reads> Variable<L> {
+    /// The answer of the read in the state, if there is one.
+    pub fn read(&self, read: &L::Read) -> Option<L::Answer>
+        ensures { result ≡ L.answer_of read.now self.now.state }
+    {
+        L::trigger(read, &self.state)
+    }
+}
