@@ -1,4 +1,9 @@
+ghost use Rattle.std.specs.Prelude.{◌≡◌, IfOk};
+ghost use Rattle.lvish_variable.specs.Variable.{entries};
+
+use lvish_lattice::Plain;
 use lvish_names::TaskName;
+use std::alloc::{AllocError, Global};
 
 /// An event of a variable, and the put that brought it.
 #[derive(Debug, Drop)]
@@ -8,4 +13,25 @@ pub struct Entry<E> {
     pub task: TaskName<E>,
     /// The number of the put among that task's puts, from 1.
     pub number: u64,
+}
+
+/// The entries of one put.
+pub(crate) fn entries_of<E: Plain>(
+    alloc: Global,
+    events: &[E],
+    task: &TaskName<E>,
+    number: u64,
+) -> Result<Vec<Entry<E>>, AllocError>
+    ensures { IfOk result (λ v. v.items ≡ entries task.now number events.now) }
+{
+    let mut made = Vec::with_capacity(alloc, events.len())?;
+    for event in events {
+        let task = task.copy(alloc)?;
+        made.push(Entry {
+            event: *event,
+            task,
+            number,
+        })?;
+    }
+    Ok(made)
 }

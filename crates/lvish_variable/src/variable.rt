@@ -1,7 +1,7 @@
-ghost use Rattle.std.specs.Prelude.{◌≡◌, [], false, true, IfOk, IfErr};
+ghost use Rattle.std.specs.Prelude.{◌≡◌, [], false, true, Some, IsTrue, IfOk, IfErr};
 ghost use Rattle.lvish_variable.specs.Variable.{IsKept, IsPut, IsRefused};
 
-use crate::entry::Entry;
+use crate::entry::{Entry, entries_of};
 use crate::put_fault::PutFault;
 use lvish_lattice::{Lattice, Reads};
 use lvish_names::TaskName;
@@ -46,7 +46,7 @@ impl<L: Lattice> Variable<L> {
     /// differs from its state; `Memory` where a growth was refused.
     pub fn put(
         &mut self,
-        _alloc: Global,
+        alloc: Global,
         task: &TaskName<L::Event>,
         number: u64,
         put: &L,
@@ -55,7 +55,33 @@ impl<L: Lattice> Variable<L> {
         ensures why { IfErr result (λ f. IsRefused L.joined put.now self.old f) }
         ensures refused { IfErr result (λ _. self.new ≡ self.old) }
     {
-        Err(PutFault::Memory)
+        if self.frozen {
+            return self.allow(alloc, put);
+        }
+        let fresh = L::fresh(alloc, &self.state, put)?;
+        let mut entries = entries_of(alloc, &fresh, task, number)?;
+        self.log.reserve(entries.len())?;
+        if !self.state.merge(alloc, put)? {
+            return Err(PutFault::Conflict);
+        }
+        // There is room for the entries, so this isn't refused.
+        self.log.append(&mut entries)?;
+        Ok(())
+    }
+
+    /// Whether a frozen variable takes the put, which leaves it as it is.
+    fn allow(&self, alloc: Global, put: &L) -> Result<(), PutFault>
+        requires { IsTrue self.now.frozen }
+        ensures ok { IfOk result (λ _. L.joined self.now.state put.now ≡ Some self.now.state) }
+        ensures why { IfErr result (λ f. IsRefused L.joined put.now self.now f) }
+    {
+        if put.leq(&self.state) {
+            return Ok(());
+        }
+        match self.state.join(alloc, put)? {
+            Some(_) => Err(PutFault::Frozen),
+            None => Err(PutFault::Conflict),
+        }
     }
 
     /// Freezes the variable, and answers its state.

@@ -1,0 +1,135 @@
+-- What a put leaves: a log that grows by the fresh events has each event of the join once.
+use Rattle.std.proofs.Common.{◌≡◌, ◌≢◌, ◌⊎◌, ◌↔◌, inl, inr, ℕ, zero, suc, ◌<◌, Bool, true, false, not, ◌&&◌, ◌||◌, List, [], ◌∷◌, ◌++◌, map, Option, Some, None, is_some, unwrap_or, refl, sym, ap, ◌∙◌, subst, arith, AllPairs, Contains, filter, get_or}
+use Rattle.std.specs.Bool.{Decides}
+use Rattle.std.specs.Set.{is_member, IsUnion}
+use Rattle.std.specs.List.Sorted.{IsStrictlySortedBy}
+use Rattle.std.specs.Cmp.{IsEquivalence, IsTotalOrder}
+use Rattle.std.specs.declared.cmp.Ordering.{Ordering}
+use Rattle.std.specs.declared.cmp.Ordering.TheVariants.{Less}
+use Rattle.std.proofs.lemmas.Bool.{and_parts, cases_Bool, both_ways, not-true}
+use Rattle.std.proofs.lemmas.List.{map-append, append-nil}
+use Rattle.std.proofs.lemmas.List.Elements.{Contains-append_left, Contains-append_right, Contains-append_cases, Contains-get_or}
+use Rattle.std.proofs.lemmas.List.Kept.{AllPairs-filter}
+use Rattle.std.proofs.lemmas.Map.Keys.{Less-from_sorted}
+use Rattle.std.proofs.lemmas.Map.Made.{is_member-Decides, is_member-filter}
+use Rattle.lvish_lattice.specs.Lattice.{IsIdentity, HasEvents, fresh_of}
+use Rattle.lvish_names.specs.Names.{Name}
+use Rattle.lvish_variable.specs.declared.entry.Entry.{Entry}
+use Rattle.lvish_variable.specs.Variable.{View, logged, entries, IsKept, IsPut}
+
+-- ---- lists
+
+append_pairs : {X : Type 0} (R : X → X → Type 0) (xs ys : List X) → AllPairs R xs → AllPairs R ys → ((x y : X) → Contains xs x → Contains ys y → R x y) → AllPairs R (xs ++ ys)
+append_pairs R [] ys a b h i j d lt ins = b i j d lt ins
+append_pairs R (x ∷ xs) ys a b h i zero d lt ins = absurd (omega arith)
+append_pairs R (x ∷ xs) ys a b h zero (suc j) d lt ins =
+    let y = get_or (xs ++ ys) j d in
+    elim (Contains-append_cases xs ys y (Contains-get_or (xs ++ ys) j d (omega arith))) [
+      | inl u ↦ subst (λ z. R x z) u.2 (a 0 (suc u.0) y (omega arith) (omega (arith, u.1)))
+      | inr u ↦ h x y (0, omega arith, refl) u
+    ]
+append_pairs R (x ∷ xs) ys a b h (suc i) (suc j) d lt ins =
+    append_pairs R xs ys (λ i2 j2 d2 l w. a (suc i2) (suc j2) d2 (omega arith) (omega arith)) b
+    (λ x2 y2 u w. h x2 y2 (suc u.0, omega (arith, u.1), u.2) w) i j d (omega arith) (omega arith)
+
+-- ---- the log's events
+
+logged-entries : {E : Type 0} (task : Name E) (number : ℕ) (es : List E) → logged (entries task number es) ≡ es
+logged-entries task number [] = refl
+logged-entries task number (e ∷ es) = ap (λ z. e ∷ z) (logged-entries task number es)
+
+logged-append : {E : Type 0} (log : List (Entry E)) (task : Name E) (number : ℕ) (es : List E) → logged (log ++ entries task number es) ≡ logged log ++ es
+logged-append log task number es = map-append _ log (entries task number es) ∙ ap (λ z. logged log ++ z) (logged-entries task number es)
+
+-- a log with room made and the entries of one put appended
+pub appended : {E : Type 0} (task : Name E) (number : ℕ) (log same more all : List (Entry E)) (es seen : List E) → all ≡ same ++ more → same ≡ log → more ≡ entries task number seen → seen ≡ es → all ≡ log ++ entries task number es
+appended task number log same more all es seen a b c d = a ∙ ap (λ z. z ++ more) b ∙ ap (λ z. log ++ z) (c ∙ ap (λ z. entries task number z) d)
+
+-- ---- the fresh events
+
+-- a merge that answers true leaves the join
+pub merged_join : {S : Type 0} (o : Option S) (b : Bool) (old new : S) → b ≡ is_some o → new ≡ unwrap_or o old → b ≡ true → o ≡ Some new
+merged_join (Some s) b old new e f g = ap (λ z. Some z) (sym f)
+merged_join None b old new e f g = absurd cc
+
+-- those of the second list that the first hasn't
+abbrev beyond : {E : Type 0} → (E → E → Bool) → List E → List E → List E
+beyond eq old new = filter (λ e. not (is_member eq old e)) new
+
+none_of : {E : Type 0} (m : E → Bool) (xs : List E) → ((x : E) → Contains xs x → m x ≡ true) → filter (λ e. not (m e)) xs ≡ []
+none_of m [] h = refl
+none_of m (x ∷ xs) h = let e : m x ≡ true = h x (0, omega arith, refl) in rw e (none_of m xs (λ y c. h y (suc c.0, omega (arith, c.1), c.2)))
+
+differ : {E : Type 0} (cmp : E → E → Ordering) → IsTotalOrder cmp → (xs : List E) → IsStrictlySortedBy cmp xs → AllPairs (λ x y. x ≢ y) xs
+differ cmp total xs sorted i j d lt ins e =
+    let x = get_or xs i d in
+    let less : cmp x x ≡ Less = subst (λ z. cmp x z ≡ Less) (sym e) (Less-from_sorted cmp xs i j d sorted lt ins) in
+    let swapped = total.antisymm x x in
+    cc
+
+module _ {E : Type 0} {eq : E → E → Bool} (same : IsIdentity eq) (laws : IsEquivalence eq) where
+  decides : (x y : E) → Decides (eq x y) (x ≡ y)
+  decides x y = (same x y, λ e. subst (λ z. eq x z ≡ true) e (laws.refl x))
+
+  has : (xs : List E) (q : E) → Decides (is_member eq xs q) (Contains xs q)
+  has xs q = is_member-Decides decides xs q
+
+  in_beyond : (old new : List E) (q : E) → is_member eq (beyond eq old new) q ≡ (is_member eq new q && not (is_member eq old q))
+  in_beyond old new q = is_member-filter laws (λ e. not (is_member eq old e)) q (λ x e. ap (λ z. not (is_member eq old z)) (same q x e)) new
+
+  -- the log, whose events are the old ones, and then what is beyond those in the union
+  grown : (cmp : E → E → Ordering) → IsTotalOrder cmp → (log old put new : List E) → IsUnion eq old put new → IsStrictlySortedBy cmp new
+      → ((e : E) → Contains log e ↔ Contains old e) → AllPairs (λ x y. x ≢ y) log
+      → ((e : E) → Contains (log ++ beyond eq old new) e ↔ Contains new e) × AllPairs (λ x y. x ≢ y) (log ++ beyond eq old new)
+  grown cmp total log old put new union sorted are once = (λ e. (there e, back e), append_pairs (λ x y. x ≢ y) log more once (AllPairs-filter (λ x y. x ≢ y) (λ e. not (is_member eq old e)) new (differ cmp total new sorted)) apart)
+    where
+      more : List E
+      more = beyond eq old new
+
+      more_parts : (e : E) → Contains more e → (is_member eq new e ≡ true) × (not (is_member eq old e) ≡ true)
+      more_parts e c = and_parts _ _ (sym (in_beyond old new e) ∙ (has more e).1 c)
+
+      there : (e : E) → Contains (log ++ more) e → Contains new e
+      there e c = elim (Contains-append_cases log more e c) [
+        | inl a ↦ let m : is_member eq old e ≡ true = (has old e).1 ((are e).0 a) in (has new e).0 (union e ∙ rw m refl)
+        | inr b ↦ (has new e).0 (more_parts e b).0
+      ]
+
+      back : (e : E) → Contains new e → Contains (log ++ more) e
+      back e c = elim (cases_Bool (is_member eq old e)) [
+        | inl m ↦ Contains-append_left log more e ((are e).1 ((has old e).0 m))
+        | inr m ↦ let n : is_member eq new e ≡ true = (has new e).1 c in Contains-append_right log more e ((has more e).0 (in_beyond old new e ∙ rw (m, n) refl))
+      ]
+
+      apart : (x y : E) → Contains log x → Contains more y → x ≢ y
+      apart x y a b e =
+          let m : is_member eq old x ≡ true = (has old x).1 ((are x).0 a) in
+          both_ways _ (not-true _ (more_parts y b).1) (subst (λ z. is_member eq old z ≡ true) e m)
+
+  module _ {S : Type 0} (join : S → S → Option S) (events : S → List E) where
+    fresh_is : (old put new : S) → join old put ≡ Some new → fresh_of join eq events old put ≡ beyond eq (events old) (events new)
+    fresh_is old put new j = rw j refl
+
+    -- an accepted put keeps the log: each event of the state once and no other
+    pub kept : {least : S} {cmp : E → E → Ordering} → IsTotalOrder cmp → HasEvents least join eq cmp events → (old put new : S) (log all : List (Entry E)) (task : Name E) (number : ℕ)
+        → join old put ≡ Some new → IsKept events old log → all ≡ log ++ entries task number (fresh_of join eq events old put) → IsKept events new all
+    kept {cmp = cmp} total law old put new log all task number j k is_all =
+        let r = grown cmp total (logged log) (events old) (events put) (events new) (law.union old put new j) (law.ascending new) k.same k.once in
+        let e : logged all ≡ logged log ++ beyond eq (events old) (events new) = ap (λ z. logged z) is_all ∙ logged-append log task number (fresh_of join eq events old put) ∙ ap (λ z. logged log ++ z) (fresh_is old put new j) in
+        record {
+          same = λ x. subst (λ q. Contains q x ↔ Contains (events new) x) (sym e) (r.0 x);
+          once = subst (λ q. AllPairs (λ x y. x ≢ y) q) (sym e) r.1;
+        }
+
+    -- a put that changes nothing brings no events
+    none_fresh : (old put : S) → join old put ≡ Some old → fresh_of join eq events old put ≡ []
+    none_fresh old put j = fresh_is old put old j ∙ none_of (is_member eq (events old)) (events old) (λ x c. (has (events old) x).1 c)
+
+    -- a put that changes nothing is accepted, and the variable stays as it is
+    pub unchanged : (task : Name E) (number : ℕ) (put : S) (v : View S E) → join v.state put ≡ Some v.state → IsPut join eq events task number put v v
+    unchanged task number put v j = record {
+      joined = j;
+      mark = refl;
+      allowed = λ _. refl;
+      log = sym (append-nil v.log) ∙ ap (λ z. v.log ++ entries task number z) (sym (none_fresh v.state put j));
+    }
