@@ -1,5 +1,5 @@
 -- What a put leaves: a log that grows by the fresh events has each event of the join once.
-use Rattle.std.proofs.Common.{◌≡◌, ◌≢◌, ◌⊎◌, ◌↔◌, inl, inr, ℕ, zero, suc, ◌<◌, Bool, true, false, not, ◌&&◌, ◌||◌, List, [], ◌∷◌, ◌++◌, map, Option, Some, None, is_some, unwrap_or, refl, sym, ap, ◌∙◌, subst, arith, AllPairs, Contains, filter, get_or}
+use Rattle.std.proofs.Common.{◌≡◌, ◌≢◌, ◌↔◌, inl, inr, ℕ, zero, suc, Bool, true, not, ◌&&◌, List, [], ◌∷◌, ◌++◌, Option, Some, None, is_some, unwrap_or, refl, sym, ap, ◌∙◌, subst, arith, AllPairs, Contains, filter, get_or}
 use Rattle.std.specs.Bool.{Decides}
 use Rattle.std.specs.Set.{is_member, IsUnion}
 use Rattle.std.specs.List.Sorted.{IsStrictlySortedBy}
