@@ -1,5 +1,6 @@
 //! Worked examples: each call once through its bound, and the log as text.
 mod cells;
+mod sets;
 
 use crate::{Entry, PutFault, Variable};
 use lvish_lattice::{Lattice, Reads};
