@@ -14,7 +14,17 @@
 //! let joined = state.merge(alloc, &put)?;          // true: the state is Value(5)
 //! let answer = Flat::trigger(&FlatRead::Any, &state); // Some(5)
 //! let again = state.merge(alloc, &Flat::Value(6))?; // false: top, and the state is Value(5)
+//!
+//! let mut state = GrowSet::of(alloc, &[3, 1])?;
+//! let put = GrowSet::of(alloc, &[2, 3])?;
+//! let fresh = GrowSet::fresh(alloc, &state, &put)?; // [2]
+//! let joined = state.merge(alloc, &put)?;           // true: the state is {1 2 3}
+//! let read = Members::In(Items::new(vec![in alloc; 2]?));
+//! let answer = GrowSet::trigger(&read, &state);     // Some(2)
 //! ```
+//!
+//! `Flat` is a cell that is written once, `GrowSet` a set and `MaxCounter` a number that only
+//! grow. The joins of the last two are never top.
 #![tactic(auto)]
 
 mod ascending;

@@ -68,6 +68,32 @@ fn sets_join_to_their_union(rt: HostRuntime) -> Result<(), Fail> {
     Ok(())
 }
 
+/// Merges, and asks again where memory was refused: the set is as it was.
+fn merge_at_last(
+    rt: &impl Abort,
+    alloc: Global,
+    state: &mut Numbers,
+    put: &Numbers,
+) -> Result<bool, AllocError> {
+    match merge_into(alloc, state, put) {
+        Ok(joined) => Ok(joined),
+        Err(AllocError) => {
+            assert_eq!(rt; held(state), [1, 3].as_slice());
+            merge_into(alloc, state, put)
+        }
+    }
+}
+
+#[test]
+fn a_refused_merge_can_be_asked_again(rt: HostRuntime) -> Result<(), Fail> {
+    let alloc = rt.alloc();
+    let mut state = set(alloc, &[1, 3])?;
+    let put = set(alloc, &[0, 2, 4, 5, 6, 7])?;
+    assert!(rt; merge_at_last(&rt, alloc, &mut state, &put)?);
+    assert_eq!(rt; held(&state), [0, 1, 2, 3, 4, 5, 6, 7].as_slice());
+    Ok(())
+}
+
 #[test]
 fn the_empty_set_is_bottom(rt: HostRuntime) -> Result<(), Fail> {
     let alloc = rt.alloc();
