@@ -1,0 +1,28 @@
+ghost use Rattle.std.specs.Prelude.{IfOk, IfErr};
+ghost use Rattle.lvish_handlers.specs.Handlers.{IsByName};
+ghost use Rattle.lvish_handlers.specs.Places.{IsAt, IsGap};
+
+use lvish_lattice::Plain;
+use lvish_names::HandlerName;
+
+/// A handler: the pool in which its tasks run, the procedure that they run, and how many entries
+/// of the variable's log it was handed.
+#[derive(Debug, Drop)]
+pub struct Held<E> {
+    pub name: HandlerName<E>,
+    pub pool: usize,
+    pub procedure: usize,
+    pub handed: usize,
+}
+
+/// Where the handler of this name is, or where it would go.
+pub(crate) fn place_of<E: Plain>(
+    held: &[Held<E>],
+    name: &HandlerName<E>,
+) -> Result<usize, usize>
+    requires { IsByName E.cmp held.now }
+    ensures found { IfOk result (IsAt held.now name.now) }
+    ensures gap { IfErr result (IsGap E.cmp held.now name.now) }
+{
+    held.binary_search_by(|handler| handler.name.cmp(name))
+}
