@@ -1,2 +1,4 @@
 pub mod Rising
 pub mod Places
+pub mod Sums
+pub mod Changes

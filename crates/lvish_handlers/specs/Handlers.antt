@@ -1,10 +1,11 @@
 -- The handlers of a variable, and the tasks in its pools.
-use Rattle.std.specs.Prelude.{◌≡◌, ◌<◌, ◌≤◌, ℕ, suc, Bool, List, ◌∷◌, ◌++◌, Option, Some, All, Contains, length, map, find, option_map, slice_get, option_and_then}
+use Rattle.std.specs.Prelude.{◌≡◌, ◌<◌, ◌≤◌, ◌+◌, ℕ, Bool, List, ◌∷◌, ◌++◌, Option, Some, All, Contains, length, map, find, slice_get, option_and_then}
 use Rattle.std.specs.List.Sorted.{IsStrictlySortedBy}
 use Rattle.std.specs.declared.cmp.Ordering.{Ordering}
 use Rattle.lvish_names.specs.Names.{Handler, same_handler}
 use Rattle.lvish_names.specs.NameOrder.{handler_cmp}
 use Rattle.lvish_variable.specs.declared.entry.Entry.{Entry}
+use Rattle.lvish_variable.specs.Variable.{logged}
 use Rattle.lvish_handlers.specs.declared.held.Held.{Held}
 
 -- the handlers by name, and for each pool how many tasks run in it
@@ -34,7 +35,7 @@ IsWithin hs log = All (λ h. h.handed ≤ length log) hs.held
 
 -- the event of the entry after those that the handler was handed
 abbrev pub next_of : {E : Type 0} → (E → E → Bool) → List (Entry E) → List (Held E) → Handler E → Option E
-next_of eq log held name = option_and_then (λ h. option_map (λ e. e.event) (slice_get log h.handed)) (held_as eq held name)
+next_of eq log held name = option_and_then (λ h. slice_get (logged log) h.handed) (held_as eq held name)
 
 -- the handler stands among the others, and nothing else is changed
 pub record IsAdded {E : Type 0} (handler : Held E) (old new : View E) : Type 0 where
@@ -46,7 +47,7 @@ pub record IsAdded {E : Type 0} (handler : Held E) (old new : View E) : Type 0 w
 
 -- the handler was handed one entry more
 abbrev pub one_more : {E : Type 0} → Held E → Held E
-one_more h = record { name = h.name; pool = h.pool; procedure = h.procedure; handed = suc h.handed }
+one_more h = record { name = h.name; pool = h.pool; procedure = h.procedure; handed = h.handed + 1 }
 
 -- the handler of this name was handed one entry more, which the log has, and nothing else is changed
 pub record IsAdvanced {E : Type 0} (eq : E → E → Bool) (log : List (Entry E)) (name : Handler E) (old new : View E) : Type 0 where

@@ -62,7 +62,7 @@ impl<L: Lattice> Handlers<L> {
         requires not_held { ¬ (IsHeld self.old.held name) }
         requires pool_is_there { pool < length self.old.running }
         ensures ok { OnOk result (IsAdded (record { name = name; pool = pool; procedure = procedure; handed = 0 }) self.old self.new) }
-        ensures by_name { IsByName L.Event.cmp self.new.held }
+        ensures by_name { OnOk result (IsByName L.Event.cmp self.new.held) }
         ensures within { IsWithin self.old variable.now.log → IsWithin self.new variable.now.log }
         ensures late { IsErrOf result AddFault.Late ↔ IsTrue variable.now.frozen }
         ensures kept { OnErr result (self.new ≡ self.old) }

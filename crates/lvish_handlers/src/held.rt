@@ -16,10 +16,7 @@ pub struct Held<E> {
 }
 
 /// Where the handler of this name is, or where it would go.
-pub(crate) fn place_of<E: Plain>(
-    held: &[Held<E>],
-    name: &HandlerName<E>,
-) -> Result<usize, usize>
+pub(crate) fn place_of<E: Plain>(held: &[Held<E>], name: &HandlerName<E>) -> Result<usize, usize>
     requires { IsByName E.cmp held.now }
     ensures found { IfOk result (IsAt held.now name.now) }
     ensures gap { IfErr result (IsGap E.cmp held.now name.now) }
