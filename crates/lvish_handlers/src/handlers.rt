@@ -10,11 +10,11 @@ use std::alloc::{AllocError, Global};
 use std::marker::Model;
 
 /// The handlers of a variable, and how many tasks run in each pool.
-#[derive(Drop)]
+#[derive(Debug, Drop)]
 pub struct Handlers<L: Lattice> {
     held: Vec<Held<L::Event>>,
-    // how many entries were handed in all, so that nothing is counted when a freeze asks
-    handed: u128,
+    // how many entries were handed in all, so that `drained` need not go through the handlers
+    total: u128,
     running: Vec<u64>,
 }
 
@@ -26,7 +26,7 @@ impl<L: Lattice> Model for Handlers<L> {
 
     ghost view = { λ h. record { held = h.held.items; running = h.running.items } };
 
-    ghost invariant = { λ h. IsCounted L.Event.cmp h.held.items h.handed };
+    ghost invariant = { λ h. IsCounted L.Event.cmp h.held.items h.total };
 }
 
 impl<L: Lattice> Handlers<L> {
@@ -41,7 +41,7 @@ impl<L: Lattice> Handlers<L> {
         let running = vec![in alloc; 0; pools]?;
         Ok(Handlers {
             held: Vec::new(alloc),
-            handed: 0,
+            total: 0,
             running,
         })
     }
@@ -140,7 +140,7 @@ impl<L: Lattice> Handlers<L> {
             return Err(Nothing);
         }
         self.held[at].handed = handed + 1;
-        self.handed += 1;
+        self.total += 1;
         Ok(())
     }
 
@@ -149,7 +149,7 @@ impl<L: Lattice> Handlers<L> {
         requires { IsWithin self.now variable.now.log }
         ensures { IsTrue result ↔ All (λ h. h.handed ≡ length variable.now.log) self.now.held }
     {
-        self.handed == self.held.len() as u128 * variable.log().len() as u128
+        self.total == self.held.len() as u128 * variable.log().len() as u128
     }
 
     /// Whether no task runs in any of these pools.

@@ -25,7 +25,7 @@ overflow_add-self g c =
     let place = rw c.deref.ensures.value at c.in-Ok.ensures.found in
     let left = handed_at held c.args.name.now c.in-Ok.at (length log) place c.index.result.now c.index.ensures (rw c.log.ensures.log at c.if-handed-log.false) in
     let within = subst (λ (v : View _). All (λ h. h.handed ≤ length log) v.held) (sym c.self.view_is) c.requires in
-    let total = total_below log held c.args.name.now c.in-Ok.at c.self.inside.handed place left within c.self.invariant in
+    let total = total_below log held c.args.name.now c.in-Ok.at c.self.inside.total place left within c.self.invariant in
     let short : length held < 18446744073709551616 = subst (λ hs. length hs < 18446744073709551616) c.deref.ensures.value c.deref.type_inv.0 in
     let few : length log < 18446744073709551616 = subst (λ es. length es < 18446744073709551616) c.log.ensures.log c.log.type_inv.0 in
     let fits = fits_total (length held) (length log) _ short few total in search rules
@@ -34,7 +34,7 @@ pub invariant_of-self : goal.invariant_of-self
 invariant_of-self g c =
     let held = c.self.inside.held.items in
     let place = rw c.deref.ensures.value at c.in-Ok.ensures.found in
-    counted_set held c.args.name.now c.in-Ok.at c.self.inside.handed place _ (raised_at held c.args.name.now c.in-Ok.at place c.index.result.now c.index_mut.result.now c.index.ensures c.index_mut.ensures.value) c.self.invariant
+    counted_set held c.args.name.now c.in-Ok.at c.self.inside.total place _ (raised_at held c.args.name.now c.in-Ok.at place c.index.result.now c.index_mut.result.now c.index.ensures c.index_mut.ensures.value) c.self.invariant
 
 pub returns-clause-ok : goal.returns-clause-ok
 returns-clause-ok g c =

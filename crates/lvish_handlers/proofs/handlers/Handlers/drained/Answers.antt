@@ -10,6 +10,6 @@ returns g c =
     let held = c.self.inside.held.items in
     let n = length c.args.variable.now.log in
     let len : c.len.result ≡ length held = omega (arith, c.len.ensures, c.self.inside.held.ok.0) in
-    let by_sum : All (λ h. h.handed ≤ n) held → IsTrue (nat_eq c.self.inside.handed (length held * n)) ↔ All (λ h. h.handed ≡ n) held =
-    λ all. full_test (λ (h : Held _). h.handed) held n c.self.inside.handed all c.self.invariant.sum in
-    rw (len, c.log.ensures.log) (subst (λ (v : View _). All (λ h. h.handed ≤ n) v.held → IsTrue (nat_eq c.self.inside.handed (length held * n)) ↔ All (λ h. h.handed ≡ n) v.held) c.self.view_is by_sum c.requires)
+    let by_sum : All (λ h. h.handed ≤ n) held → IsTrue (nat_eq c.self.inside.total (length held * n)) ↔ All (λ h. h.handed ≡ n) held =
+    λ all. full_test (λ (h : Held _). h.handed) held n c.self.inside.total all c.self.invariant.sum in
+    rw (len, c.log.ensures.log) (subst (λ (v : View _). All (λ h. h.handed ≤ n) v.held → IsTrue (nat_eq c.self.inside.total (length held * n)) ↔ All (λ h. h.handed ≡ n) v.held) c.self.view_is by_sum c.requires)
