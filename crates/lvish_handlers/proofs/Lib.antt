@@ -2,3 +2,4 @@ pub mod Rising
 pub mod Places
 pub mod Sums
 pub mod Changes
+pub mod AsMap

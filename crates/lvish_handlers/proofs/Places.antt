@@ -7,7 +7,7 @@ use Rattle.std.specs.Cmp.{IsTotalOrder}
 use Rattle.std.specs.List.{HoldsAt, AllByRecursion}
 use Rattle.std.specs.List.Sorted.{IsSearchInRange, IsBinarySearchResult, IsStrictlySortedBy}
 use Rattle.std.proofs.lemmas.Bool.{cases_lt, false≢true}
-use Rattle.std.proofs.lemmas.Option.{slice_get_cases}
+use Rattle.std.proofs.lemmas.Option.{slice_get_cases, slice_get-get_or}
 use Rattle.lvish_lattice.specs.Lattice.{IsIdentity}
 use Rattle.lvish_names.specs.Names.{Handler, same_handler}
 use Rattle.lvish_names.specs.NameOrder.{handler_cmp}
@@ -31,6 +31,10 @@ held_from_get : {E : Type 0} (held : List (Held E)) (at : ℕ) (h : Held E) → 
 held_from_get [] at h e = absurd cc
 held_from_get (x ∷ xs) zero h e = let q : x ≡ h = cc in (0, omega arith, ap (λ (y : Held _). y.name) q)
 held_from_get (x ∷ xs) (suc at) h e = let w = held_from_get xs at h e in (suc w.0, omega arith, w.2)
+
+-- where a name isn't held, no handler has it
+pub free_from_not_held : {E : Type 0} (held : List (Held E)) (name : Handler E) → (IsHeld held name → ⊥) → IsFree held name
+free_from_not_held held name none k d lt q = none (subst (λ n. IsHeld held n) q (held_from_get held k (get_or held k d) (slice_get-get_or held k d lt)))
 
 pub is_held : {E : Type 0} (held : List (Held E)) (name : Handler E) (at : ℕ) → IsAt held name at → IsHeld held name
 is_held held name at w = subst (λ n. IsHeld held n) w.named (held_from_get held at w.handler w.is)
@@ -76,7 +80,7 @@ module _ {E : Type 0} {eq : E → E → Bool} (cmp : E → E → Ordering) (same
   held_as-free (x ∷ xs) name h = ap (λ b. cond b (Some x) (held_as eq xs name)) (same_handler-other same name x.name (λ q. h 0 x (omega arith) (sym q))) ∙ held_as-free xs name (λ k d lt. h (suc k) d (omega arith))
 
   module _ (own : (e : E) → eq e e ≡ true) where
-    found_by_name : (held : List (Held E)) (at : ℕ) (h : Held E) → IsByName cmp held → slice_get held at ≡ Some h → held_as eq held h.name ≡ Some h
+    pub found_by_name : (held : List (Held E)) (at : ℕ) (h : Held E) → IsByName cmp held → slice_get held at ≡ Some h → held_as eq held h.name ≡ Some h
     unfolding IsStrictlySortedBy
     found_by_name [] at h s e = absurd cc
     found_by_name (x ∷ xs) zero h s e =
