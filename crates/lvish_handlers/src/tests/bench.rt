@@ -22,10 +22,8 @@ impl<L: Lattice> Bench<L> {
     pub fn new(alloc: Global, puts: &[L]) -> Result<Bench<L>, PutFault> {
         let main = TaskName::main(alloc);
         let mut variable = Variable::new(alloc);
-        let mut number = 0;
-        for put in puts {
-            variable.put(alloc, &main, number, put)?;
-            number = if number < 9 { number + 1 } else { 9 };
+        for (i, put) in puts.iter().enumerate() {
+            variable.put(alloc, &main, i as u64 + 1, put)?;
         }
         let handlers = Handlers::new(alloc, 1)?;
         Ok(Bench { variable, handlers })
