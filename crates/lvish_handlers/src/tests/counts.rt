@@ -38,3 +38,18 @@ fn a_pool_has_ended_while_no_task_runs_in_it(rt: HostRuntime) -> Result<(), Fail
     assert_eq!(rt; one_task::<Set>(rt.alloc())?, want);
     Ok(())
 }
+
+/// Whether the only pool has ended, while a task runs in it and after it.
+fn only_pool<L: Lattice>(alloc: Global) -> Result<[bool; 2], AllocError> {
+    let mut handlers = Handlers::<L>::new(alloc, 1)?;
+    handlers.task_started(0);
+    let during = handlers.ended(&[0]);
+    handlers.task_ended(0);
+    Ok([during, handlers.ended(&[0])])
+}
+
+#[test]
+fn the_only_pool_ends_with_its_task(rt: HostRuntime) -> Result<(), Fail> {
+    assert_eq!(rt; only_pool::<Set>(rt.alloc())?, [false, true]);
+    Ok(())
+}
