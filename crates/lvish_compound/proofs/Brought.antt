@@ -1,0 +1,209 @@
+-- What the entries of a put bring.
+use Rattle.std.proofs.Common.{◌≡◌, ◌==◌, ℕ, zero, suc, ◌+◌, ◌<◌, ◌≤◌, ◌⊎◌, inl, inr, Bool, true, false, cond, not, ◌&&◌, ◌||◌, List, [], ◌∷◌, map, filter, length, get_or, Option, Some, None, is_some, true≢false, refl, sym, ◌∙◌, ap, subst, arith}
+use Rattle.std.proofs.lemmas.Bool.Decides.{nat_tests}
+use Rattle.std.proofs.lemmas.Bool.{cases_lt}
+use Rattle.std.proofs.lemmas.List.{get_or_default}
+use Rattle.std.specs.declared.cmp.Ordering.{Ordering}
+use Rattle.std.specs.declared.cmp.Ordering.TheVariants.{Less, Equal, Greater}
+use Rattle.std.specs.Ordering.{eq_by_cmp, is_eq, ordering_then}
+use Rattle.std.specs.Cmp.{IsTotalOrder, Equal-is, tied_itself, alike_right, eq_by_cmp_equiv, then_flip, tied_then}
+use Rattle.std.specs.Set.{is_member}
+use Rattle.std.specs.List.Sorted.{IsStrictlySortedBy}
+use Rattle.std.proofs.lemmas.Map.Made.{is_member-filter}
+use Rattle.std.proofs.lemmas.List.Kept.{IsStrictlySortedBy-filter}
+use Rattle.lvish_lattice.specs.Lattice.{IsJoin, IsBelow, HasEvents, fresh_of, events_beyond}
+use Rattle.lvish_lattice.specs.Ascending.{same_members, nothing_rises}
+use Rattle.lvish_compound.specs.Keyed.{key, at, add_all, all_joins, all_there}
+use Rattle.lvish_compound.specs.KeyedEvents.{both_tie, by_both, events_by, events_of, events_have, events_rise}
+use Rattle.lvish_compound.proofs.Places.{turned, below_at}
+
+pub no_length : {A : Type 0} (xs : List A) (n : ℕ) → length xs ≡ n → true ≡ (n == 0) → xs ≡ []
+no_length [] n e t = refl
+no_length (x ∷ xs) n e t = let z : n ≡ 0 = grind (arith, nat_tests) in absurd (omega arith)
+
+pub some_length : {A : Type 0} (xs : List A) (n : ℕ) → length xs ≡ n → false ≡ (n == 0) → xs ≡ [] → ⊥
+some_length [] n e t h = let z : n ≡ 0 = omega arith in let s : (n == 0) ≡ true = grind (arith, nat_tests) in true≢false (sym s ∙ sym t)
+some_length (x ∷ xs) n e t h = absurd (cc h)
+
+module _ {K L : Type 0} (R : K → K → Ordering) (least : L) (join : L → L → Option L) (o : IsTotalOrder R) where
+  abbrev S : List (K × L) → Type 0
+  S es = IsStrictlySortedBy R (map key es)
+
+  -- an entry is what its key holds
+  at_index : (fs : List (K × L)) (i : ℕ) (f : K × L) → S fs → i < length fs → f ≡ get_or fs i f → at R least join fs f.0 ≡ f.1
+  unfolding IsStrictlySortedBy
+  at_index [] i f s l e = absurd (omega arith)
+  at_index (g ∷ fs) zero f s l e = subst (λ (z : K × L). at R least join (g ∷ fs) z.0 ≡ z.1) (sym e) (ap (λ c. cond (is_eq c) g.1 (at R least join fs g.0)) (tied_itself o g.0))
+  at_index (g ∷ fs) (suc i) f s l e = ap (λ c. cond (is_eq c) g.1 (at R least join fs f.0)) (turned R o g.0 f.0 Less (below_at R o g.0 fs i f s.0 (omega arith) e)) ∙ at_index fs i f s.1 (omega arith) e
+
+  known : (x : Option L) → is_some x ≡ true → (w : L) × (x ≡ Some w)
+  known None h = absurd (true≢false (sym h))
+  known (Some w) h = (w, refl)
+
+  abbrev pub EachJoins : List (K × L) → List (K × L) → ℕ → Type 0
+  EachJoins es fs n = (i : ℕ) (f : K × L) → i < n → f ≡ get_or fs i f → is_some (join (at R least join es f.0) f.1) ≡ true
+
+  -- one entry more
+  pub one_more : (es fs : List (K × L)) (n : ℕ) (x : K × L) → x ≡ get_or fs n x → n < length fs → EachJoins es fs n → is_some (join (at R least join es x.0) x.1) ≡ true → EachJoins es fs (n + 1)
+  one_more es fs n x e l h t i f b g = by_place (cases_lt i n)
+    where
+      by_place : (i < n) ⊎ (n ≤ i) → is_some (join (at R least join es f.0) f.1) ≡ true
+      by_place (inl below) = h i f below g
+      by_place (inr here) =
+          let same : i ≡ n = omega arith in
+          let item : x ≡ f = e ∙ get_or_default fs n x f l ∙ ap (λ k. get_or fs k f) (sym same) ∙ sym g in
+          subst (λ (z : K × L). is_some (join (at R least join es z.0) z.1) ≡ true) item t
+
+  module _ (j : IsJoin least join) (same_key : (x y : K) → R x y ≡ Equal → x ≡ y) where
+    each : (es fs : List (K × L)) → EachJoins es fs (length fs) → (q : K) → (w : L) × (join (at R least join es q) (at R least join fs q) ≡ Some w)
+    each es [] h q = (at R least join es q, j.commutative _ least ∙ j.unit _)
+    each es (f ∷ fs) h q =
+        let rest : (w : L) × (join (at R least join es q) (at R least join fs q) ≡ Some w) = each es fs (λ i g l e. h (suc i) g (omega arith) e) q in
+        elim (eq_by_cmp R q f.0) as (λ b. eq_by_cmp R q f.0 ≡ b → (w : L) × (join (at R least join es q) (cond b f.1 (at R least join fs q)) ≡ Some w)) [
+          | true ↦ λ t. subst (λ (z : K). (w : L) × (join (at R least join es z) f.1 ≡ Some w)) (sym (same_key q f.0 ((Equal-is (R q f.0)).0 t))) (known _ (h 0 f (omega arith) refl))
+          | false ↦ λ _. rest
+        ] refl
+
+    -- where each entry has a join, so have the lists
+    pub there : (es fs : List (K × L)) → S es → S fs → EachJoins es fs (length fs) → (gs : List (K × L)) × (add_all R least join es fs ≡ Some gs)
+    there es fs s t h = all_there R least join o j es fs s t (each es fs h)
+
+    -- and where one has none, nor have the lists
+    pub top : (es fs : List (K × L)) (i : ℕ) (f : K × L) → S es → S fs → i < length fs → f ≡ get_or fs i f → join (at R least join es f.0) f.1 ≡ None → add_all R least join es fs ≡ None
+    top es fs i f s t l e n = elim (add_all R least join es fs) as (λ x. add_all R least join es fs ≡ x → x ≡ None) [
+      | None ↦ λ _. refl
+      | Some gs ↦ λ h. absurd (cc (sym n ∙ ap (join (at R least join es f.0)) (sym (at_index fs i f t l e)) ∙ all_joins R least join o j es fs gs s t h f.0))
+    ] refl
+
+-- pairs by two orders
+module _ {K E : Type 0} (R : K → K → Ordering) (C : E → E → Ordering) (o : IsTotalOrder R) (oc : IsTotalOrder C) where
+  both_equal : (k c : Ordering) → ordering_then k c ≡ Equal → (k ≡ Equal) × (c ≡ Equal)
+  both_equal Less c h = absurd (cc h)
+  both_equal Equal c h = (refl, h)
+  both_equal Greater c h = absurd (cc h)
+
+  chain : (x y z : K × E) (k m : Ordering) → R x.0 y.0 ≡ k → R y.0 z.0 ≡ m → ordering_then k (C x.1 y.1) ≡ Less → ordering_then m (C y.1 z.1) ≡ Less → by_both R C x z ≡ Less
+  chain x y z Less Less a b p q = ap (λ r. ordering_then r (C x.1 z.1)) (o.trans x.0 y.0 z.0 a b)
+  chain x y z Less Equal a b p q = ap (λ r. ordering_then r (C x.1 z.1)) (sym (alike_right o y.0 z.0 x.0 b) ∙ a)
+  chain x y z Equal Less a b p q = ap (λ r. ordering_then r (C x.1 z.1)) (o.congr x.0 y.0 z.0 a ∙ b)
+  chain x y z Equal Equal a b p q = ap (λ r. ordering_then r (C x.1 z.1)) (o.congr x.0 y.0 z.0 a ∙ b) ∙ oc.trans x.1 y.1 z.1 p q
+  chain x y z Greater m a b p q = absurd (cc p)
+  chain x y z Less Greater a b p q = absurd (cc q)
+  chain x y z Equal Greater a b p q = absurd (cc q)
+
+  total_both : IsTotalOrder (by_both R C)
+  total_both = record {
+    antisymm = λ x y. (λ i. ordering_then (o.antisymm x.0 y.0 i) (oc.antisymm x.1 y.1 i)) ∙ then_flip (R y.0 x.0) (C y.1 x.1);
+    trans = λ x y z p q. chain x y z (R x.0 y.0) (R y.0 z.0) refl refl p q;
+    congr = λ x y z e. let b = both_equal (R x.0 y.0) (C x.1 y.1) e in λ i. ordering_then (o.congr x.0 y.0 z.0 b.0 i) (oc.congr x.1 y.1 z.1 b.1 i);
+  }
+
+-- the part of a lattice
+module _ {L E : Type 0} {least : L} {join : L → L → Option L} {ev : L → List E} (C : E → E → Ordering) (oc : IsTotalOrder C) (same_event : (x y : E) → C x y ≡ Equal → x ≡ y) (j : IsJoin least join) (h : HasEvents least join (eq_by_cmp C) C ev) where
+  abbrev has : List E → E → Bool
+  has = is_member (eq_by_cmp C)
+
+  abbrev kept : L → List E → List E
+  kept x ys = filter (λ e. not (has (ev x) e)) ys
+
+  kept_has : (x : L) (ys : List E) (q : E) → has (kept x ys) q ≡ (has ys q && not (has (ev x) q))
+  kept_has x ys q = is_member-filter (eq_by_cmp_equiv oc) (λ e. not (has (ev x) e)) q (λ y t. ap (λ e. not (has (ev x) e)) (same_event q y ((Equal-is (C q y)).0 t))) ys
+
+  kept_rises : (x : L) (ys : List E) → IsStrictlySortedBy C ys → IsStrictlySortedBy C (kept x ys)
+  kept_rises x ys s = IsStrictlySortedBy-filter C (λ e. not (has (ev x) e)) ys s
+
+  never_both : (b : Bool) → (b && not b) ≡ false
+  never_both true = refl
+  never_both false = refl
+
+  beyond_itself : (x : L) → kept x (ev x) ≡ []
+  beyond_itself x = same_members oc same_event _ _ (kept_rises x (ev x) (h.ascending x)) (nothing_rises C) (λ q. kept_has x (ev x) q ∙ never_both (has (ev x) q))
+
+  -- bottom brings nothing
+  pub least_brings : (x : L) → fresh_of join (eq_by_cmp C) ev x least ≡ []
+  least_brings x = ap (events_beyond (eq_by_cmp C) ev x) (j.commutative x least ∙ j.unit x) ∙ beyond_itself x
+
+  pub fresh_rises : (x p : L) → IsStrictlySortedBy C (fresh_of join (eq_by_cmp C) ev x p)
+  fresh_rises x p = elim (join x p) as (λ r. IsStrictlySortedBy C (events_beyond (eq_by_cmp C) ev x r)) [ None ↦ nothing_rises C | Some c ↦ kept_rises x (ev c) (h.ascending c) ]
+
+  all_kept : (ys : List E) → filter (λ e. true) ys ≡ ys
+  all_kept [] = refl
+  all_kept (y ∷ ys) = ap (λ zs. y ∷ zs) (all_kept ys)
+
+  -- to bottom a part brings all its events
+  pub to_least : (p : L) → (is_some (join least p) ≡ true) × (ev p ≡ fresh_of join (eq_by_cmp C) ev least p)
+  to_least p = (ap is_some (j.unit p), sym (ap (events_beyond (eq_by_cmp C) ev least) (j.unit p) ∙ ap (λ xs. filter (λ e. not (has xs e)) (ev p)) h.none ∙ all_kept (ev p)))
+
+  only_old : (a b c : Bool) → c ≡ (a || b) → (c && not a) ≡ false → c ≡ a
+  only_old true b c u n = u
+  only_old false b true u n = absurd (true≢false n)
+  only_old false b false u n = refl
+
+  -- where nothing is fresh the join is the old state, if there is one
+  old_join : (x p c : L) → join x p ≡ Some c → kept x (ev c) ≡ [] → c ≡ x
+  old_join x p c e n = h.determine c x (same_members oc same_event _ _ (h.ascending c) (h.ascending x) (λ q. only_old (has (ev x) q) (has (ev p) q) (has (ev c) q) (h.union x p c e q) (sym (kept_has x (ev c) q) ∙ ap (λ ys. has ys q) n)))
+
+  pub nothing_fresh : (x p : L) → fresh_of join (eq_by_cmp C) ev x p ≡ [] → (IsBelow join p x → ⊥) → join x p ≡ None
+  nothing_fresh x p n b = by_join (join x p) refl n
+    where
+      by_join : (r : Option L) → join x p ≡ r → events_beyond (eq_by_cmp C) ev x r ≡ [] → r ≡ None
+      by_join None e n = refl
+      by_join (Some c) e n = absurd (b (j.commutative p x ∙ e ∙ ap Some (old_join x p c e n)))
+
+  pub something_fresh : (x p : L) → (fresh_of join (eq_by_cmp C) ev x p ≡ [] → ⊥) → is_some (join x p) ≡ true
+  something_fresh x p n = elim (join x p) as (λ r. (events_beyond (eq_by_cmp C) ev x r ≡ [] → ⊥) → is_some r ≡ true) [ None ↦ λ n. absurd (n refl) | Some c ↦ λ _. refl ] n
+
+  pub below_joins : (x p : L) → IsBelow join p x → is_some (join x p) ≡ true
+  below_joins x p b = ap is_some (j.commutative x p ∙ b)
+
+  -- the same by a test that holds where two events tie
+  module _ (eq : E → E → Bool) (ties : (x y : E) → eq x y ≡ is_eq (C x y)) where
+    pub by_test : (x p : L) → fresh_of join (eq_by_cmp C) ev x p ≡ fresh_of join eq ev x p
+    by_test x p = ap (λ (t : E → E → Bool). fresh_of join t ev x p) (λ i a b. sym (ties a b) i)
+
+    pub brings_all : (x p : L) (vs : List E) → least ≡ x → vs ≡ ev p → (is_some (join x p) ≡ true) × (vs ≡ fresh_of join eq ev x p)
+    brings_all x p vs e f = subst (λ (z : L). (is_some (join z p) ≡ true) × (vs ≡ fresh_of join eq ev z p)) e ((to_least p).0, f ∙ (to_least p).1 ∙ by_test least p)
+
+    pub brings_top : (x held p : L) (vs : List E) → held ≡ x → vs ≡ fresh_of join eq ev held p → vs ≡ [] → (IsBelow join p held → ⊥) → join x p ≡ None
+    brings_top x held p vs e f n b = ap (λ z. join z p) (sym e) ∙ nothing_fresh held p (by_test held p ∙ sym f ∙ n) b
+
+    pub brings_some : (x held p : L) (vs : List E) → held ≡ x → vs ≡ fresh_of join eq ev held p → (vs ≡ [] → ⊥) → (is_some (join x p) ≡ true) × (vs ≡ fresh_of join eq ev x p)
+    brings_some x held p vs e f n = subst (λ (z : L). (is_some (join z p) ≡ true) × (vs ≡ fresh_of join eq ev z p)) e (something_fresh held p (λ h. n (f ∙ sym (by_test held p) ∙ h)), f)
+
+    pub brings_below : (x held p : L) (vs : List E) → held ≡ x → vs ≡ fresh_of join eq ev held p → IsBelow join p held → (is_some (join x p) ≡ true) × (vs ≡ fresh_of join eq ev x p)
+    brings_below x held p vs e f b = subst (λ (z : L). (is_some (join z p) ≡ true) × (vs ≡ fresh_of join eq ev z p)) e (below_joins held p b, f)
+
+  -- the whole list of entries
+  module _ {K : Type 0} (R : K → K → Ordering) (o : IsTotalOrder R) (same_key : (x y : K) → R x y ≡ Equal → x ≡ y) where
+    abbrev T : K × E → K × E → Bool
+    T = eq_by_cmp (by_both R C)
+
+    abbrev fresh_at : List (K × L) → K → L → List E
+    fresh_at es k p = fresh_of join (eq_by_cmp C) ev (at R least join es k) p
+
+    by_tie : (xs : List (K × E)) (q : K × E) → is_member T xs q ≡ is_member (both_tie R C) xs q
+    by_tie xs q = ap (λ (t : K × E → K × E → Bool). is_member t xs q) (λ i x y. sym (tied_then (R x.0 y.0) (C x.1 y.1)) i)
+
+    same_pair : (x y : K × E) → by_both R C x y ≡ Equal → x ≡ y
+    same_pair x y e =
+        let b = both_equal R C o oc (R x.0 y.0) (C x.1 y.1) e in
+        let p : x.0 ≡ y.0 = same_key x.0 y.0 b.0 in
+        let q : x.1 ≡ y.1 = same_event x.1 y.1 b.1 in
+        λ i. (p i, q i)
+
+    state_has : (es : List (K × L)) → IsStrictlySortedBy R (map key es) → (q : K × E) → is_member T (events_of ev es) q ≡ has (ev (at R least join es q.0)) q.1
+    state_has es s q = by_tie (events_of ev es) q ∙ events_have R C least join (λ _ v. ev v) o same_key (λ _. h.none) es s q.0 q.1
+
+    pub brought : (es fs gs : List (K × L)) → IsStrictlySortedBy R (map key es) → IsStrictlySortedBy R (map key fs) → IsStrictlySortedBy R (map key gs) → ((q : K) → join (at R least join es q) (at R least join fs q) ≡ Some (at R least join gs q))
+        → filter (λ e. not (is_member T (events_of ev es) e)) (events_of ev gs) ≡ events_by (fresh_at es) fs
+    brought es fs gs s t u joins =
+        let total = total_both R C o oc in
+        let p : K × E → Bool = λ e. not (is_member T (events_of ev es) e) in
+        same_members total same_pair _ _
+        (IsStrictlySortedBy-filter (by_both R C) p _ (events_rise R C least join (λ _ v. ev v) o (λ _ v. h.ascending v) gs u))
+        (events_rise R C least join (fresh_at es) o (λ k v. fresh_rises (at R least join es k) v) fs t)
+        (λ q. is_member-filter (eq_by_cmp_equiv total) p q (λ y e. ap p (same_pair q y ((Equal-is (by_both R C q y)).0 e))) (events_of ev gs)
+        ∙ (λ i. state_has gs u q i && not (state_has es s q i))
+        ∙ sym (by_tie (events_by (fresh_at es) fs) q ∙ events_have R C least join (fresh_at es) o same_key (λ k. least_brings (at R least join es k)) fs t q.0 q.1
+        ∙ ap (λ r. has (events_beyond (eq_by_cmp C) ev (at R least join es q.0) r) q.1) (joins q.0)
+        ∙ kept_has (at R least join es q.0) (ev (at R least join gs q.0)) q.1))

@@ -1,0 +1,5 @@
+pub mod Places
+pub mod Walks
+pub mod EventSteps
+pub mod Maps
+pub mod Brought

@@ -1,0 +1,110 @@
+-- What a call on entries means for the map.
+use Rattle.std.proofs.Common.{◌≡◌, ◌<◌, ◌≤◌, length, get_or, true≢false, arith, Bool, true, false, not, ◌&&◌, MatchOption, List, [], ◌∷◌, map, Option, Some, None, Result, Ok, Err, IfOk, IfErr, is_some, unwrap_or, option_and_then, refl, sym, ◌∙◌, ap, subst}
+use Rattle.std.specs.Cmp.{IsTotalOrder, both_tied}
+use Rattle.std.specs.Ordering.{eq_by_cmp, is_eq}
+use Rattle.std.specs.declared.cmp.Ordering.{Ordering}
+use Rattle.std.specs.declared.cmp.Ordering.TheVariants.{Equal}
+use Rattle.std.specs.List.Sorted.{IsStrictlySortedBy}
+use Rattle.lvish_lattice.specs.Lattice.{IsIdentity, IsJoin, HasEvents, fresh_of, events_beyond}
+use Rattle.lvish_lattice.specs.Ascending.{and_left}
+use Rattle.lvish_compound.specs.Keyed.{key, has_no, add, add_all, add_rises, add_above}
+use Rattle.lvish_compound.specs.MapOf.{same_map, map_of, map_of-entries, joined, at, map_events_of, with_entries, joins_places}
+use Rattle.lvish_compound.specs.KeyedEvents.{events_by}
+use Rattle.lvish_compound.proofs.Brought.{brought}
+use Rattle.std.specs.declared.cmp.Ord as ord
+use Rattle.std.specs.declared.cmp.PartialEq as partial_eq
+use Rattle.std.specs.declared.cmp.PartialOrd as partial_ord
+use Rattle.lvish_lattice.specs.declared.lattice.Lattice as lattice
+use Rattle.lvish_compound.specs.declared.map_of.MapOf.{MapOf}
+
+one_entry : {K L : Type 0} (xs : List (K × L)) (x y : K × L) → 1 ≤ length xs → length xs < 2 → x ≡ get_or xs 0 x → y ≡ get_or xs 0 y → xs ≡ (x.0, y.1) ∷ []
+one_entry [] x y low high g h = absurd (omega arith)
+one_entry (z ∷ []) x y low high g h = λ i. ((sym g i).0, (sym h i).1) ∷ []
+one_entry (z ∷ w ∷ zs) x y low high g h = absurd (omega arith)
+
+-- the only part of a map isn't bottom
+pub only_above : {K L : Type 0} (eq : L → L → Bool) (least : L) (es xs : List (K × L)) (x y : K × L) → xs ≡ es → 1 ≤ length xs → length xs < 2 → x ≡ get_or xs 0 x → y ≡ get_or xs 0 y → has_no eq least es ≡ true → eq y.1 least ≡ false
+only_above eq least es xs x y e low high g h n = by_test (eq y.1 least) (and_left _ _ (sym (ap (has_no eq least) (sym e ∙ one_entry xs x y low high g h)) ∙ n))
+  where
+    by_test : (b : Bool) → not b ≡ true → b ≡ false
+    by_test true h = absurd (true≢false (sym h))
+    by_test false h = refl
+
+module _ {K L Refused : Type 0} (R : K → K → Ordering) (least : L) (join : L → L → Option L) (o : IsTotalOrder R) (j : IsJoin least join) (k : K) (v : L) (es fs : List (K × L)) (q : Result Bool Refused)
+    (ok : IfOk q (λ b. (b ≡ is_some (add R least join k v es)) × (fs ≡ unwrap_or (add R least join k v es) es))) (err : IfErr q (λ _. fs ≡ es)) where
+  -- the entries stay as they were, or are those of the join
+  either : (P : List (K × L) → Type 0) → P es → ((gs : List (K × L)) → add R least join k v es ≡ Some gs → P gs) → P fs
+  either P old new = by_result q ok err
+    where
+      by_add : (a : Option (List (K × L))) → add R least join k v es ≡ a → fs ≡ unwrap_or a es → P fs
+      by_add None is h = subst P (sym h) old
+      by_add (Some gs) is h = subst P (sym h) (new gs is)
+
+      by_result : (q : Result Bool Refused) → IfOk q (λ b. (b ≡ is_some (add R least join k v es)) × (fs ≡ unwrap_or (add R least join k v es) es)) → IfErr q (λ _. fs ≡ es) → P fs
+      by_result (Ok b) ok err = by_add (add R least join k v es) refl ok.1
+      by_result (Err r) ok err = subst P (sym err) old
+
+  pub stays_ascending : IsStrictlySortedBy R (map key es) → IsStrictlySortedBy R (map key fs)
+  stays_ascending s = either (λ zs. IsStrictlySortedBy R (map key zs)) s (λ gs. add_rises R least join o j k v es gs s)
+
+  pub stays_above : (eq : L → L → Bool) → ((x : L) → eq x x ≡ true) → IsIdentity eq → eq v least ≡ false → has_no eq least es ≡ true → has_no eq least fs ≡ true
+  stays_above eq itself same p n = either (λ zs. has_no eq least zs ≡ true) n (λ gs. add_above R least join o j eq itself same k v es gs (ap not p) n)
+
+module _ {K L E : Type 0} {ko : ord.Ghosts K} {ke : partial_eq.Ghosts K} {kp : partial_ord.Ghosts K} {l : lattice.Ghosts L E} {le : partial_eq.Ghosts L} {eo : ord.Ghosts E} {ee : partial_eq.Ghosts E} {ep : partial_ord.Ghosts E} where
+  pub joined_some : (a b c : MapOf K L E ko ke kp l le eo ee ep) → add_all ko.cmp l.least l.joined a.entries b.entries ≡ Some c.entries → joined a b ≡ Some c
+  joined_some a b c h = ap (option_and_then map_of) h ∙ map_of-entries c
+
+  pub joined_none : (a b : MapOf K L E ko ke kp l le eo ee ep) → add_all ko.cmp l.least l.joined a.entries b.entries ≡ None → joined a b ≡ None
+  joined_none a b h = ap (option_and_then map_of) h
+
+  one_added : (a b : MapOf K L E ko ke kp l le eo ee ep) (k : K) (v : L) → b.entries ≡ (k, v) ∷ [] → add_all ko.cmp l.least l.joined a.entries b.entries ≡ add ko.cmp l.least l.joined k v a.entries
+  one_added a b k v h = ap (add_all ko.cmp l.least l.joined a.entries) h ∙ whole (add ko.cmp l.least l.joined k v a.entries)
+    where
+      whole : (x : Option (List (K × L))) → option_and_then (λ gs. Some gs) x ≡ x
+      whole None = refl
+      whole (Some gs) = refl
+
+  -- a put with one key is joined in place
+  pub merged_one : (a b m : MapOf K L E ko ke kp l le eo ee ep) (k : K) (v : L) (r : Bool) → b.entries ≡ (k, v) ∷ [] → r ≡ is_some (add ko.cmp l.least l.joined k v a.entries) → m.entries ≡ unwrap_or (add ko.cmp l.least l.joined k v a.entries) a.entries
+      → (r ≡ is_some (joined a b)) × (m ≡ unwrap_or (joined a b) a)
+  merged_one a b m k v r h is new = by_add (add ko.cmp l.least l.joined k v a.entries) refl is new
+    where
+      by_add : (x : Option (List (K × L))) → add ko.cmp l.least l.joined k v a.entries ≡ x → r ≡ is_some x → m.entries ≡ unwrap_or x a.entries → (r ≡ is_some (joined a b)) × (m ≡ unwrap_or (joined a b) a)
+      by_add None e is new = let top : joined a b ≡ None = joined_none a b (one_added a b k v h ∙ e) in (is ∙ ap is_some (sym top), same_map m a new ∙ ap (λ x. unwrap_or x a) (sym top))
+      by_add (Some gs) e is new = let there : joined a b ≡ Some m = joined_some a b m (one_added a b k v h ∙ e ∙ ap Some (sym new)) in (is ∙ ap is_some (sym there), ap (λ x. unwrap_or x a) (sym there))
+
+  -- the same of a call, and of a put whose only entry was read twice
+  module _ {Refused : Type 0} (a b m : MapOf K L E ko ke kp l le eo ee ep) (q : Result Bool Refused) where
+    pub merged_result : (xs : List (K × L)) (x y : K × L) (k : K) (v : L) → xs ≡ b.entries → 1 ≤ length xs → length xs < 2 → x ≡ get_or xs 0 x → y ≡ get_or xs 0 y → k ≡ x.0 → v ≡ y.1
+        → IfOk q (λ r. (r ≡ is_some (add ko.cmp l.least l.joined k v a.entries)) × (m.entries ≡ unwrap_or (add ko.cmp l.least l.joined k v a.entries) a.entries))
+        → IfOk q (λ r. (r ≡ is_some (joined a b)) × (m ≡ unwrap_or (joined a b) a))
+    merged_result xs x y k v e low high g h p w ok = by_result q ok
+      where
+        by_result : (q : Result Bool Refused) → IfOk q (λ r. (r ≡ is_some (add ko.cmp l.least l.joined k v a.entries)) × (m.entries ≡ unwrap_or (add ko.cmp l.least l.joined k v a.entries) a.entries)) → IfOk q (λ r. (r ≡ is_some (joined a b)) × (m ≡ unwrap_or (joined a b) a))
+        by_result (Ok r) ok = merged_one a b m k v r (sym e ∙ one_entry xs x y low high g h ∙ (λ i. (sym p i, sym w i) ∷ [])) ok.0 ok.1
+        by_result (Err f) ok = tt
+
+    pub merge_refused : IfErr q (λ _. m.entries ≡ a.entries) → IfErr q (λ _. m ≡ a)
+    merge_refused err = by_result q err
+      where
+        by_result : (q : Result Bool Refused) → IfErr q (λ _. m.entries ≡ a.entries) → IfErr q (λ _. m ≡ a)
+        by_result (Ok r) err = tt
+        by_result (Err f) err = same_map m a err
+
+  -- what a put brings to a map
+  module _ (o : IsTotalOrder ko.cmp) (same_key : (x y : K) → ko.cmp x y ≡ Equal → x ≡ y) (j : IsJoin l.least l.joined) (itself : (x : L) → le.eq x x ≡ true) (same : IsIdentity le.eq)
+      (oc : IsTotalOrder eo.cmp) (same_event : (x y : E) → eo.cmp x y ≡ Equal → x ≡ y) (h : HasEvents l.least l.joined (eq_by_cmp eo.cmp) eo.cmp l.events_of)
+      (keq : K → K → Bool) (eeq : E → E → Bool) (kt : (x y : K) → keq x y ≡ is_eq (ko.cmp x y)) (et : (x y : E) → eeq x y ≡ is_eq (eo.cmp x y)) where
+    pub map_fresh : (a b : MapOf K L E ko ke kp l le eo ee ep) (v : List (K × E))
+        → MatchOption (add_all ko.cmp l.least l.joined a.entries b.entries) (v ≡ []) (λ _. v ≡ events_by (λ k p. fresh_of l.joined eeq l.events_of (at a k) p) b.entries)
+        → v ≡ fresh_of joined (λ (x y : K × E). keq x.0 y.0 && eeq x.1 y.1) map_events_of a b
+    map_fresh a b v m = by_add (add_all ko.cmp l.least l.joined a.entries b.entries) refl m
+      where
+        by_add : (x : Option (List (K × L))) → add_all ko.cmp l.least l.joined a.entries b.entries ≡ x → MatchOption x (v ≡ []) (λ _. v ≡ events_by (λ k p. fresh_of l.joined eeq l.events_of (at a k) p) b.entries) → v ≡ fresh_of joined (λ (x y : K × E). keq x.0 y.0 && eeq x.1 y.1) map_events_of a b
+        by_add None e m = m ∙ sym (ap (events_beyond (λ (x y : K × E). keq x.0 y.0 && eeq x.1 y.1) map_events_of a) (joined_none a b e))
+        by_add (Some gs) e m =
+            let w : (c : MapOf K L E ko ke kp l le eo ee ep) × (c.entries ≡ gs) × (joined a b ≡ Some c) = with_entries o same_key j itself same a b gs e in
+            m ∙ ap (λ (t : E → E → Bool). events_by (λ k p. fresh_of l.joined t l.events_of (at a k) p) b.entries) (λ i x y. et x y i)
+            ∙ sym (brought eo.cmp oc same_event j h ko.cmp o same_key a.entries b.entries w.0.entries a.ascending b.ascending w.0.ascending (joins_places o same_key j itself same a b w.0 w.2))
+            ∙ ap (λ (t : K × E → K × E → Bool). events_beyond t map_events_of a (Some w.0)) (λ i x y. sym (both_tied (keq x.0 y.0) (eeq x.1 y.1) (ko.cmp x.0 y.0) (eo.cmp x.1 y.1) (kt x.0 y.0) (et x.1 y.1)) i)
+            ∙ sym (ap (events_beyond (λ (x y : K × E). keq x.0 y.0 && eeq x.1 y.1) map_events_of a) w.2)

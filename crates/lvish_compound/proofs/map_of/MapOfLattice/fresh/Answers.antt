@@ -1,0 +1,15 @@
+use Rattle.std.proofs.lemmas.Result.{IfOk-weaker}
+use Rattle.lvish_lattice.specs.Ascending.{ties_are_same}
+use Rattle.lvish_compound.specs.MapOf.{events_by_ties}
+use Rattle.lvish_compound.proofs.Maps.{map_fresh}
+use Rattle.lvish_compound.proofs.map_of.MapOfLattice.fresh.Goals as goal
+
+pub returns : goal.returns
+returns g c =
+    let R = g.K.Ord.cmp in
+    let k = g.met.K in
+    let l = g.met.L.Lattice in
+    let e = g.met.L.Event in
+    IfOk-weaker c.fresh.result _ _ (λ v m. map_fresh k.Ord.total (ties_are_same R k.Plain.identical k.Ord.matches_eq) l.is_join g.met.L.Eq.laws.refl l.identical
+    e.Ord.total (ties_are_same g.L.Event.Ord.cmp e.Plain.identical e.Ord.matches_eq) (events_by_ties e.Ord.matches_eq l.has_events) g.K.PartialEq.eq g.L.Event.PartialEq.eq k.Ord.matches_eq e.Ord.matches_eq
+    c.args.old.now c.args.put.now v.items m) (rw (c.entries.ensures.same, c.entries-2.ensures.same) at c.fresh.ensures)

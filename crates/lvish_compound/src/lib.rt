@@ -1,0 +1,25 @@
+//! Lattices made of lattices.
+//!
+//! A map has a state of its part's lattice at each key, and bottom where it has no entry. It is
+//! joined key by key, so a put with one key leaves the others as they are, and a join is top
+//! where that of some key is. Its events are pairs of a key and an event of the part there, and
+//! it is read at one key by the reads of the part.
+//!
+//! ```text
+//! let mut scores: MapOf<i64, Flat<i64>> = MapOf::new(alloc);
+//! let put = MapOf::one(alloc, 1, Flat::Value(5))?;
+//! let joined = scores.merge(alloc, &put)?;              // true: {1:5}
+//! let read = AtKey { key: 1, read: FlatRead::Any };
+//! let answer = MapOf::trigger(&read, &scores);          // Some(5)
+//! ```
+#![tactic(auto)]
+
+mod entries;
+mod keyed;
+mod map_of;
+mod map_reads;
+#[cfg(test)]
+mod tests;
+
+pub use map_of::MapOf;
+pub use map_reads::AtKey;

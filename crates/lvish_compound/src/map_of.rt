@@ -1,0 +1,143 @@
+ghost use Rattle.std.specs.Prelude.{◌≡◌, [], map, true, IfOk};
+ghost use Rattle.std.specs.List.Sorted.{IsStrictlySortedBy, IsStrictlySortedBy-prop};
+ghost use Rattle.lvish_compound.specs.Keyed.{key, has_no, alone};
+
+use crate::entries::Entries;
+use crate::keyed;
+use lvish_lattice::{Lattice, Plain};
+use std::alloc::{AllocError, Global};
+
+/// A map that only grows: its entries, in the order of their keys. No key holds bottom.
+#[derive(Debug, Drop)]
+pub struct MapOf<K: Plain, L: Lattice> {
+    entries: Entries<K, L>,
+    ghost ascending: { IsStrictlySortedBy K.cmp (map key entries) } by { IsStrictlySortedBy-prop K.cmp (map key entries) },
+    ghost above: { has_no L.eq L.least entries ≡ true },
+}
+
+impl<K: Plain, L: Lattice> MapOf<K, L> {
+    ghost use Rattle.lvish_compound.specs.MapOf.{entries_of};
+
+    /// The empty map.
+    pub fn new(alloc: Global) -> MapOf<K, L>
+        ensures { entries_of result ≡ [] }
+    {
+        MapOf {
+            entries: Entries::new(alloc),
+        }
+    }
+
+    /// The map with one key, empty where the part is bottom.
+    pub fn one(alloc: Global, key: K, part: L) -> Result<MapOf<K, L>, AllocError>
+        ensures { IfOk result (λ m. entries_of m ≡ alone L.eq L.least key part) }
+    {
+        let mut entries = Entries::new(alloc);
+        if part != L::bottom(alloc) {
+            entries.push(key, part)?;
+        }
+        Ok(MapOf { entries })
+    }
+
+    /// The entries in the order of their keys. No part is bottom.
+    pub fn entries(&self) -> &[(K, L)]
+        ensures same { result.now ≡ entries_of self.now }
+        ensures ascending { IsStrictlySortedBy K.cmp (map key (entries_of self.now)) }
+        ensures above { has_no L.eq L.least (entries_of self.now) ≡ true }
+    {
+        self.entries.as_slice()
+    }
+
+    /// The allocator that the entries were made with.
+    pub(crate) fn alloc(&self) -> Global {
+        self.entries.alloc()
+    }
+}
+
+impl<K: Plain, L: Lattice> PartialEq for MapOf<K, L> {
+    ghost use Rattle.std.specs.Cmp.{partial_equiv_from_equiv, and_equiv, on_equiv};
+    ghost use Rattle.lvish_compound.specs.MapOf.{alike, alike_equiv};
+
+    ghost eq = { alike ⟦<(K, L) as PartialEq>⟧.eq };
+
+    ghost laws = { partial_equiv_from_equiv (alike_equiv (and_equiv (on_equiv (λ (t : K × L). t.0) K.Eq.laws) (on_equiv (λ (t : K × L). t.1) L.Eq.laws))) };
+
+    fn eq(&self, other: &MapOf<K, L>) -> bool {
+        self.entries.as_slice() == other.entries.as_slice()
+    }
+}
+
+impl<K: Plain, L: Lattice> Eq for MapOf<K, L> {
+    ghost use Rattle.std.specs.Cmp.{and_equiv, on_equiv};
+    ghost use Rattle.lvish_compound.specs.MapOf.{alike_equiv};
+
+    ghost laws = { alike_equiv (and_equiv (on_equiv (λ (t : K × L). t.0) K.Eq.laws) (on_equiv (λ (t : K × L). t.1) L.Eq.laws)) };
+}
+
+impl<K: Plain, L: Lattice> Lattice for MapOf<K, L> {
+    ghost use Rattle.lvish_compound.specs.MapOf.{empty, joined, map_events_of};
+
+    type Event = (K, L::Event);
+
+    ghost least = { empty };
+
+    ghost joined = { joined };
+
+    ghost events_of = { map_events_of };
+
+    fn bottom(alloc: Global) -> MapOf<K, L> {
+        MapOf::new(alloc)
+    }
+
+    fn join(&self, alloc: Global, other: &MapOf<K, L>) -> Result<Option<MapOf<K, L>>, AllocError> {
+        match keyed::joined(alloc, self.entries(), other.entries())? {
+            Some(entries) => Ok(Some(MapOf { entries })),
+            None => Ok(None),
+        }
+    }
+
+    fn leq(&self, other: &MapOf<K, L>) -> bool {
+        keyed::is_below(self.entries(), other.entries())
+    }
+
+    fn events(&self, alloc: Global) -> Result<Vec<(K, L::Event)>, AllocError> {
+        keyed::events(alloc, self.entries())
+    }
+
+    fn fresh(
+        alloc: Global,
+        old: &MapOf<K, L>,
+        put: &MapOf<K, L>,
+    ) -> Result<Vec<(K, L::Event)>, AllocError> {
+        keyed::fresh(alloc, old.entries(), put.entries())
+    }
+
+    fn copy(&self, alloc: Global) -> Result<MapOf<K, L>, AllocError> {
+        let mut entries = Entries::new(alloc);
+        entries.push_copies(alloc, self.entries())?;
+        Ok(MapOf { entries })
+    }
+
+    fn merge(&mut self, alloc: Global, put: &MapOf<K, L>) -> Result<bool, AllocError> {
+        if let [(key, part)] = put.entries() {
+            return self.entries.add(alloc, *key, part);
+        }
+        match self.join(alloc, put)? {
+            Some(new) => {
+                *self = new;
+                Ok(true)
+            }
+            None => Ok(false),
+        }
+    }
+
+    ghost use Rattle.std.specs.Prelude.{refl};
+    ghost use Rattle.lvish_lattice.specs.Ascending.{ties_are_same};
+    ghost use Rattle.lvish_lattice.specs.Plain.{pairs_identical};
+    ghost use Rattle.lvish_compound.specs.MapOf.{alike_identical, map_is_join, map_has_events, events_by_ties};
+
+    ghost identical = { alike_identical (pairs_identical K.eq L.eq K.identical L.Lattice.identical _ (λ p q. refl)) };
+
+    ghost is_join = { map_is_join K.Ord.total (ties_are_same K.cmp K.identical K.matches_eq) L.is_join (L.Eq.laws).refl L.Lattice.identical };
+
+    ghost has_events = { map_has_events K.Ord.total (ties_are_same K.cmp K.identical K.matches_eq) L.is_join (L.Eq.laws).refl L.Lattice.identical L.Event.cmp L.Event.Ord.total (ties_are_same L.Event.cmp L.Event.identical L.Event.matches_eq) (events_by_ties L.Event.matches_eq L.has_events) K.eq L.Event.eq K.matches_eq L.Event.matches_eq };
+}

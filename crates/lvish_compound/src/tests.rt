@@ -1,0 +1,3 @@
+//! Worked examples: each item at a concrete type through its bound.
+
+mod map_of;
