@@ -3,3 +3,17 @@ pub mod KeyedEvents
 pub mod Pointwise
 pub mod MapOf
 pub mod MapReads
+pub mod Pair
+pub mod SideEvents
+pub mod PairLaws
+pub mod PairFresh
+pub mod Within
+pub mod Above
+pub mod AboveLaws
+pub mod OneOf
+pub mod OneOfLaws
+pub mod OneOfCalls
+pub mod Kinds
+pub mod Events
+pub mod Renamed
+pub mod Tagged

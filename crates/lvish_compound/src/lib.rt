@@ -12,14 +12,34 @@
 //! let read = AtKey { key: 1, read: FlatRead::Any };
 //! let answer = MapOf::trigger(&read, &scores);          // Some(5)
 //! ```
+//!
+//! A `Pair` is joined side by side; its events and reads are those of a side. A `OneOf` is a state
+//! of one of two lattices, or of neither: states of different lattices join to top. A `Tagged` is a
+//! lattice whose events go by names of another type.
 #![tactic(auto)]
 
+mod above;
 mod entries;
+mod event;
 mod keyed;
+mod kind;
 mod map_of;
 mod map_reads;
+mod named;
+mod one_of;
+mod pair;
+mod side_of;
+mod tagged;
 #[cfg(test)]
 mod tests;
 
+pub use above::Above;
+pub use event::Event;
+pub use kind::Kind;
 pub use map_of::MapOf;
 pub use map_reads::AtKey;
+pub use named::Named;
+pub use one_of::OneOf;
+pub use pair::Pair;
+pub use side_of::SideOf;
+pub use tagged::Tagged;

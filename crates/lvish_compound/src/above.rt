@@ -1,0 +1,68 @@
+ghost use Rattle.std.specs.Prelude.{◌≡◌, ◌↔◌, false, IfOk, IfErr, is_some, unwrap_or};
+
+use lvish_lattice::Lattice;
+use std::alloc::{AllocError, Global};
+
+/// A state that isn't bottom.
+#[derive(Debug, Drop)]
+pub struct Above<L: Lattice> {
+    state: L,
+    ghost rises: { L.eq state L.least ≡ false },
+}
+
+impl<L: Lattice> Above<L> {
+    ghost use Rattle.lvish_compound.specs.Above.{above};
+
+    /// The state, unless it is bottom.
+    pub fn of(alloc: Global, state: L) -> Option<Above<L>>
+        ensures { result ≡ above state }
+    {
+        if state == L::bottom(alloc) {
+            None
+        } else {
+            Some(Above { state })
+        }
+    }
+
+    pub fn state(&self) -> &L
+        ensures { result.now ≡ self.now.state }
+    {
+        &self.state
+    }
+
+    pub fn copy(&self, alloc: Global) -> Result<Above<L>, AllocError>
+        ensures { IfOk result (λ r. r ≡ self.now) }
+    {
+        Ok(Above {
+            state: self.state.copy(alloc)?,
+        })
+    }
+
+    /// Joins a state to this one in place, as `Lattice::merge` does.
+    pub fn merge(&mut self, alloc: Global, put: &Above<L>) -> Result<bool, AllocError>
+        ensures merged { IfOk result (λ b. (b ≡ is_some (L.joined self.old.state put.now.state)) × (self.new.state ≡ unwrap_or (L.joined self.old.state put.now.state) self.old.state)) }
+        ensures refused { IfErr result (λ _. self.new ≡ self.old) }
+    {
+        self.state.merge(alloc, &put.state)
+    }
+}
+
+impl<L: Lattice> PartialEq for Above<L> {
+    ghost use Rattle.std.specs.Cmp.{partial_equiv_from_equiv, on_equiv};
+    ghost use Rattle.lvish_compound.specs.Above.{alike, state_of};
+
+    ghost eq = { alike };
+
+    ghost laws = { partial_equiv_from_equiv (on_equiv state_of L.Eq.laws) };
+
+    fn eq(&self, other: &Above<L>) -> bool {
+        self.state == other.state
+    }
+}
+
+impl<L: Lattice> Eq for Above<L> {
+    ghost use Rattle.std.specs.Cmp.{on_equiv};
+    ghost use Rattle.lvish_compound.specs.Above.{state_of};
+
+    ghost laws = { on_equiv state_of L.Eq.laws };
+}

@@ -1,0 +1,17 @@
+use lvish_lattice::Plain;
+
+/// The kinds of variables of a script that have events of their own.
+#[derive(Clone, Copy, Debug, PartialEq, Eq, PartialOrd, Ord)]
+pub enum Kind {
+    Cell,
+    Set,
+    Max,
+    Map,
+}
+
+impl Plain for Kind {
+    ghost use Rattle.std.specs.Prelude.{refl};
+    ghost use Rattle.lvish_compound.specs.Kinds.{kinds_identical};
+
+    ghost identical = { kinds_identical _ refl refl refl refl refl refl refl refl refl refl refl refl };
+}
