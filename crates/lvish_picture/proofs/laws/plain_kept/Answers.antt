@@ -1,0 +1,4 @@
+use Rattle.lvish_picture.proofs.laws.plain_kept.Goals as goal
+
+pub returns : goal.returns
+returns g c = λ p. Rattle.lvish_picture.proofs.Acts.plain_kept _ (c.lawful.ensures p)
