@@ -1,21 +1,18 @@
 -- What the entries of a put bring.
-use Rattle.std.proofs.Common.{◌≡◌, ◌==◌, ℕ, zero, suc, ◌+◌, ◌<◌, ◌≤◌, ◌⊎◌, inl, inr, Bool, true, false, cond, not, ◌&&◌, ◌||◌, List, [], ◌∷◌, map, filter, length, get_or, Option, Some, None, is_some, true≢false, refl, sym, ◌∙◌, ap, subst, arith}
+use Rattle.std.proofs.Common.{◌≡◌, ◌==◌, ℕ, Bool, true, false, not, ◌&&◌, ◌||◌, List, [], ◌∷◌, map, filter, length, Option, Some, None, is_some, true≢false, refl, sym, ◌∙◌, ap, subst, arith}
 use Rattle.std.proofs.lemmas.Bool.Decides.{nat_tests}
-use Rattle.std.proofs.lemmas.Bool.{cases_lt}
-use Rattle.std.proofs.lemmas.List.{get_or_default}
 use Rattle.std.specs.declared.cmp.Ordering.{Ordering}
 use Rattle.std.specs.declared.cmp.Ordering.TheVariants.{Less, Equal, Greater}
 use Rattle.std.specs.Ordering.{eq_by_cmp, is_eq, ordering_then}
-use Rattle.std.specs.Cmp.{IsTotalOrder, Equal-is, tied_itself, alike_right, eq_by_cmp_equiv, then_flip, tied_then}
+use Rattle.std.specs.Cmp.{IsTotalOrder, Equal-is, alike_right, eq_by_cmp_equiv, then_flip, tied_then}
 use Rattle.std.specs.Set.{is_member}
 use Rattle.std.specs.List.Sorted.{IsStrictlySortedBy}
 use Rattle.std.proofs.lemmas.Map.Made.{is_member-filter}
 use Rattle.std.proofs.lemmas.List.Kept.{IsStrictlySortedBy-filter}
 use Rattle.lvish_lattice.specs.Lattice.{IsJoin, IsBelow, HasEvents, fresh_of, events_beyond}
 use Rattle.lvish_lattice.specs.Ascending.{same_members, nothing_rises}
-use Rattle.lvish_compound.specs.Keyed.{key, at, add_all, all_joins, all_there}
+use Rattle.lvish_compound.specs.Keyed.{key, at}
 use Rattle.lvish_compound.specs.KeyedEvents.{both_tie, by_both, events_by, events_of, events_have, events_rise}
-use Rattle.lvish_compound.proofs.Places.{turned, below_at}
 
 pub no_length : {A : Type 0} (xs : List A) (n : ℕ) → length xs ≡ n → true ≡ (n == 0) → xs ≡ []
 no_length [] n e t = refl
@@ -24,56 +21,6 @@ no_length (x ∷ xs) n e t = let z : n ≡ 0 = grind (arith, nat_tests) in absur
 pub some_length : {A : Type 0} (xs : List A) (n : ℕ) → length xs ≡ n → false ≡ (n == 0) → xs ≡ [] → ⊥
 some_length [] n e t h = let z : n ≡ 0 = omega arith in let s : (n == 0) ≡ true = grind (arith, nat_tests) in true≢false (sym s ∙ sym t)
 some_length (x ∷ xs) n e t h = absurd (cc h)
-
-module _ {K L : Type 0} (R : K → K → Ordering) (least : L) (join : L → L → Option L) (o : IsTotalOrder R) where
-  abbrev S : List (K × L) → Type 0
-  S es = IsStrictlySortedBy R (map key es)
-
-  -- an entry is what its key holds
-  at_index : (fs : List (K × L)) (i : ℕ) (f : K × L) → S fs → i < length fs → f ≡ get_or fs i f → at R least join fs f.0 ≡ f.1
-  unfolding IsStrictlySortedBy
-  at_index [] i f s l e = absurd (omega arith)
-  at_index (g ∷ fs) zero f s l e = subst (λ (z : K × L). at R least join (g ∷ fs) z.0 ≡ z.1) (sym e) (ap (λ c. cond (is_eq c) g.1 (at R least join fs g.0)) (tied_itself o g.0))
-  at_index (g ∷ fs) (suc i) f s l e = ap (λ c. cond (is_eq c) g.1 (at R least join fs f.0)) (turned R o g.0 f.0 Less (below_at R o g.0 fs i f s.0 (omega arith) e)) ∙ at_index fs i f s.1 (omega arith) e
-
-  known : (x : Option L) → is_some x ≡ true → (w : L) × (x ≡ Some w)
-  known None h = absurd (true≢false (sym h))
-  known (Some w) h = (w, refl)
-
-  abbrev pub EachJoins : List (K × L) → List (K × L) → ℕ → Type 0
-  EachJoins es fs n = (i : ℕ) (f : K × L) → i < n → f ≡ get_or fs i f → is_some (join (at R least join es f.0) f.1) ≡ true
-
-  -- one entry more
-  pub one_more : (es fs : List (K × L)) (n : ℕ) (x : K × L) → x ≡ get_or fs n x → n < length fs → EachJoins es fs n → is_some (join (at R least join es x.0) x.1) ≡ true → EachJoins es fs (n + 1)
-  one_more es fs n x e l h t i f b g = by_place (cases_lt i n)
-    where
-      by_place : (i < n) ⊎ (n ≤ i) → is_some (join (at R least join es f.0) f.1) ≡ true
-      by_place (inl below) = h i f below g
-      by_place (inr here) =
-          let same : i ≡ n = omega arith in
-          let item : x ≡ f = e ∙ get_or_default fs n x f l ∙ ap (λ k. get_or fs k f) (sym same) ∙ sym g in
-          subst (λ (z : K × L). is_some (join (at R least join es z.0) z.1) ≡ true) item t
-
-  module _ (j : IsJoin least join) (same_key : (x y : K) → R x y ≡ Equal → x ≡ y) where
-    each : (es fs : List (K × L)) → EachJoins es fs (length fs) → (q : K) → (w : L) × (join (at R least join es q) (at R least join fs q) ≡ Some w)
-    each es [] h q = (at R least join es q, j.commutative _ least ∙ j.unit _)
-    each es (f ∷ fs) h q =
-        let rest : (w : L) × (join (at R least join es q) (at R least join fs q) ≡ Some w) = each es fs (λ i g l e. h (suc i) g (omega arith) e) q in
-        elim (eq_by_cmp R q f.0) as (λ b. eq_by_cmp R q f.0 ≡ b → (w : L) × (join (at R least join es q) (cond b f.1 (at R least join fs q)) ≡ Some w)) [
-          | true ↦ λ t. subst (λ (z : K). (w : L) × (join (at R least join es z) f.1 ≡ Some w)) (sym (same_key q f.0 ((Equal-is (R q f.0)).0 t))) (known _ (h 0 f (omega arith) refl))
-          | false ↦ λ _. rest
-        ] refl
-
-    -- where each entry has a join, so have the lists
-    pub there : (es fs : List (K × L)) → S es → S fs → EachJoins es fs (length fs) → (gs : List (K × L)) × (add_all R least join es fs ≡ Some gs)
-    there es fs s t h = all_there R least join o j es fs s t (each es fs h)
-
-    -- and where one has none, nor have the lists
-    pub top : (es fs : List (K × L)) (i : ℕ) (f : K × L) → S es → S fs → i < length fs → f ≡ get_or fs i f → join (at R least join es f.0) f.1 ≡ None → add_all R least join es fs ≡ None
-    top es fs i f s t l e n = elim (add_all R least join es fs) as (λ x. add_all R least join es fs ≡ x → x ≡ None) [
-      | None ↦ λ _. refl
-      | Some gs ↦ λ h. absurd (cc (sym n ∙ ap (join (at R least join es f.0)) (sym (at_index fs i f t l e)) ∙ all_joins R least join o j es fs gs s t h f.0))
-    ] refl
 
 -- pairs by two orders
 module _ {K E : Type 0} (R : K → K → Ordering) (C : E → E → Ordering) (o : IsTotalOrder R) (oc : IsTotalOrder C) where

@@ -1,5 +1,4 @@
-pub mod Places
-pub mod Walks
+pub mod Parts
 pub mod EventSteps
 pub mod Maps
 pub mod Brought

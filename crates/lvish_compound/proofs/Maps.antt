@@ -1,5 +1,5 @@
 -- What a call on entries means for the map.
-use Rattle.std.proofs.Common.{◌≡◌, ◌<◌, ◌≤◌, length, get_or, true≢false, arith, Bool, true, false, not, ◌&&◌, MatchOption, List, [], ◌∷◌, map, Option, Some, None, Result, Ok, Err, IfOk, IfErr, is_some, unwrap_or, option_and_then, refl, sym, ◌∙◌, ap, subst}
+use Rattle.std.proofs.Common.{◌≡◌, true≢false, Bool, true, false, not, ◌&&◌, MatchOption, List, [], ◌∷◌, map, Option, Some, None, Result, Ok, Err, IfOk, IfErr, is_some, unwrap_or, option_and_then, refl, sym, ◌∙◌, ap, subst}
 use Rattle.std.specs.Cmp.{IsTotalOrder, both_tied}
 use Rattle.std.specs.Ordering.{eq_by_cmp, is_eq}
 use Rattle.std.specs.declared.cmp.Ordering.{Ordering}
@@ -17,14 +17,9 @@ use Rattle.std.specs.declared.cmp.PartialOrd as partial_ord
 use Rattle.lvish_lattice.specs.declared.lattice.Lattice as lattice
 use Rattle.lvish_compound.specs.declared.map_of.MapOf.{MapOf}
 
-one_entry : {K L : Type 0} (xs : List (K × L)) (x y : K × L) → 1 ≤ length xs → length xs < 2 → x ≡ get_or xs 0 x → y ≡ get_or xs 0 y → xs ≡ (x.0, y.1) ∷ []
-one_entry [] x y low high g h = absurd (omega arith)
-one_entry (z ∷ []) x y low high g h = λ i. ((sym g i).0, (sym h i).1) ∷ []
-one_entry (z ∷ w ∷ zs) x y low high g h = absurd (omega arith)
-
 -- the only part of a map isn't bottom
-pub only_above : {K L : Type 0} (eq : L → L → Bool) (least : L) (es xs : List (K × L)) (x y : K × L) → xs ≡ es → 1 ≤ length xs → length xs < 2 → x ≡ get_or xs 0 x → y ≡ get_or xs 0 y → has_no eq least es ≡ true → eq y.1 least ≡ false
-only_above eq least es xs x y e low high g h n = by_test (eq y.1 least) (and_left _ _ (sym (ap (has_no eq least) (sym e ∙ one_entry xs x y low high g h)) ∙ n))
+pub only_above : {K L : Type 0} (eq : L → L → Bool) (least : L) (es : List (K × L)) (k : K) (v : L) → es ≡ (k, v) ∷ [] → has_no eq least es ≡ true → eq v least ≡ false
+only_above eq least es k v e n = by_test (eq v least) (and_left _ _ (sym (ap (has_no eq least) e) ∙ n))
   where
     by_test : (b : Bool) → not b ≡ true → b ≡ false
     by_test true h = absurd (true≢false (sym h))
@@ -73,15 +68,15 @@ module _ {K L E : Type 0} {ko : ord.Ghosts K} {ke : partial_eq.Ghosts K} {kp : p
       by_add None e is new = let top : joined a b ≡ None = joined_none a b (one_added a b k v h ∙ e) in (is ∙ ap is_some (sym top), same_map m a new ∙ ap (λ x. unwrap_or x a) (sym top))
       by_add (Some gs) e is new = let there : joined a b ≡ Some m = joined_some a b m (one_added a b k v h ∙ e ∙ ap Some (sym new)) in (is ∙ ap is_some (sym there), ap (λ x. unwrap_or x a) (sym there))
 
-  -- the same of a call, and of a put whose only entry was read twice
+  -- the same of a call
   module _ {Refused : Type 0} (a b m : MapOf K L E ko ke kp l le eo ee ep) (q : Result Bool Refused) where
-    pub merged_result : (xs : List (K × L)) (x y : K × L) (k : K) (v : L) → xs ≡ b.entries → 1 ≤ length xs → length xs < 2 → x ≡ get_or xs 0 x → y ≡ get_or xs 0 y → k ≡ x.0 → v ≡ y.1
+    pub merged_result : (k : K) (v : L) → b.entries ≡ (k, v) ∷ []
         → IfOk q (λ r. (r ≡ is_some (add ko.cmp l.least l.joined k v a.entries)) × (m.entries ≡ unwrap_or (add ko.cmp l.least l.joined k v a.entries) a.entries))
         → IfOk q (λ r. (r ≡ is_some (joined a b)) × (m ≡ unwrap_or (joined a b) a))
-    merged_result xs x y k v e low high g h p w ok = by_result q ok
+    merged_result k v e ok = by_result q ok
       where
         by_result : (q : Result Bool Refused) → IfOk q (λ r. (r ≡ is_some (add ko.cmp l.least l.joined k v a.entries)) × (m.entries ≡ unwrap_or (add ko.cmp l.least l.joined k v a.entries) a.entries)) → IfOk q (λ r. (r ≡ is_some (joined a b)) × (m ≡ unwrap_or (joined a b) a))
-        by_result (Ok r) ok = merged_one a b m k v r (sym e ∙ one_entry xs x y low high g h ∙ (λ i. (sym p i, sym w i) ∷ [])) ok.0 ok.1
+        by_result (Ok r) ok = merged_one a b m k v r e ok.0 ok.1
         by_result (Err f) ok = tt
 
     pub merge_refused : IfErr q (λ _. m.entries ≡ a.entries) → IfErr q (λ _. m ≡ a)

@@ -1,76 +1,148 @@
-ghost use Rattle.std.specs.Prelude.{◌≡◌, ◌++◌, ◌∷◌, [], IfOk, IfErr, is_some, unwrap_or, true, false, map};
+ghost use Rattle.std.specs.Prelude.{◌≡◌, ◌∷◌, [], IfOk, IfErr, IsTrue, None, MatchOption, is_some, unwrap_or, true, false, map, length, ◌&&◌};
+ghost use Rattle.std.specs.Option.{option_copied};
+ghost use Rattle.std.specs.BTreeMap.{insert_entry, is_at};
+ghost use Rattle.std.specs.Map.{lookup};
+ghost use Rattle.std.specs.Cmp.Lexicographic.{pointwise};
 ghost use Rattle.std.specs.List.Sorted.{IsStrictlySortedBy};
-ghost use Rattle.lvish_compound.specs.Keyed.{key, has_no, add};
+ghost use Rattle.lvish_compound.specs.Keyed.{key, has_no, add, at};
 
-use crate::keyed;
 use lvish_lattice::{Lattice, Plain};
 use std::alloc::{AllocError, Global};
+use std::cmp::Ordering;
+use std::collections::BTreeMap;
+use std::collections::btree_map::Iter;
 use std::marker::Model;
 
-/// A vector of keys with their parts, seen as its list.
+/// Keys with their parts, seen as the list of entries in the order of the keys.
 #[derive(Debug, Drop)]
-pub struct Entries<K, L> {
-    entries: Vec<(K, L)>,
+pub struct Entries<K: Ord, L> {
+    parts: BTreeMap<K, L>,
+    alloc: Global,
 }
 
-impl<K, L> Model for Entries<K, L> {
+impl<K: Ord, L> Model for Entries<K, L> {
     ghost use Rattle.std.specs.Prelude.{List};
 
     ghost Value = { List (K × L) };
 
-    ghost view = { λ s. s.entries.items };
+    ghost view = { λ s. s.parts.entries };
 }
 
-impl<K, L> Entries<K, L> {
+impl<K: Plain, L: Lattice> Entries<K, L> {
     pub fn new(alloc: Global) -> Entries<K, L>
         ensures { result ≡ [] }
     {
         Entries {
-            entries: Vec::new(alloc),
+            parts: BTreeMap::new(alloc),
+            alloc,
         }
     }
 
-    pub fn as_slice(&self) -> &[(K, L)]
-        ensures { result.now ≡ self.now }
+    /// The entries in the order of their keys.
+    pub fn iter(&self) -> Iter<'_, K, L>
+        ensures same { result ≡ self.now }
+        ensures ascending { IsStrictlySortedBy K.cmp (map key self.now) }
     {
-        &self.entries
+        self.parts.iter()
     }
 
     pub fn alloc(&self) -> Global {
-        *self.entries.allocator()
-    }
-}
-
-impl<K: Copy, L: Lattice> Entries<K, L> {
-    /// Adds an entry at the end.
-    pub fn push(&mut self, key: K, part: L) -> Result<(), AllocError>
-        ensures { IfOk result (λ _. self.new ≡ self.old ++ (key, part) ∷ []) }
-    {
-        self.entries.push((key, part))?;
-        Ok(())
+        self.alloc
     }
 
-    /// Adds a copy of the entry at the end.
-    pub fn push_copy(&mut self, alloc: Global, entry: &(K, L)) -> Result<(), AllocError>
-        ensures { IfOk result (λ _. self.new ≡ self.old ++ entry.now ∷ []) }
+    /// The only entry, `None` where there is none, or more than one.
+    pub fn only(&self) -> Option<(&K, &L)>
+        ensures { MatchOption result (length self.now ≡ 1 → ⊥) (λ e. self.now ≡ (e.0.now, e.1.now) ∷ []) }
     {
-        let part = entry.1.copy(alloc)?;
-        self.push(entry.0, part)
-    }
-
-    /// Adds copies of the entries at the end.
-    pub fn push_copies(&mut self, alloc: Global, entries: &[(K, L)]) -> Result<(), AllocError>
-        ensures { IfOk result (λ _. self.new ≡ self.old ++ entries.now) }
-    {
-        for entry in entries {
-            self.push_copy(alloc, entry)?;
+        if self.parts.len() != 1 {
+            return None;
         }
+        self.parts.first_key_value()
+    }
+
+    /// The part that the key holds, `None` where it holds bottom.
+    pub fn get(&self, of: K) -> Option<&L>
+        ensures { unwrap_or (option_copied result) L.least ≡ at K.cmp L.least L.joined self.now of }
+    {
+        self.parts.get(&of)
+    }
+
+    pub fn is_equal(&self, other: &Entries<K, L>) -> bool
+        ensures { result ≡ pointwise (λ p q. K.eq p.0 q.0 && L.eq p.1 q.1) self.now other.now }
+    {
+        self.parts == other.parts
+    }
+
+    /// Puts an entry in its place.
+    pub fn insert(&mut self, key: K, part: L) -> Result<(), AllocError>
+        ensures { IfOk result (λ _. self.new ≡ insert_entry K.cmp self.old key part) }
+    {
+        self.parts.insert(key, part)?;
         Ok(())
     }
-}
 
-impl<K: Plain, L: Lattice> Entries<K, L> {
+    pub fn copy(&self, alloc: Global) -> Result<Entries<K, L>, AllocError>
+        ensures { IfOk result (λ es. es ≡ self.now) }
+    {
+        let mut entries = Entries::new(alloc);
+        for (key, part) in self.iter() {
+            let part = part.copy(alloc)?;
+            entries.insert(*key, part)?;
+        }
+        Ok(entries)
+    }
+
+    /// Whether the key is above the greatest one there.
+    fn is_past_last(&self, of: K) -> bool
+        ensures { IsTrue result → lookup (is_at (K.cmp of)) self.now ≡ None }
+    {
+        let Some((last, _part)) = self.parts.last_key_value() else {
+            return false;
+        };
+        if let Ordering::Less = last.cmp(&of) {
+            return true;
+        }
+        false
+    }
+
+    /// Puts a copy of the part at a key that holds none.
+    fn put_copy(&mut self, alloc: Global, of: K, part: &L) -> Result<bool, AllocError>
+        requires { lookup (is_at (K.cmp of)) self.old ≡ None }
+        ensures added { IfOk result (λ b. (b ≡ is_some (add K.cmp L.least L.joined of part.now self.old)) × (self.new ≡ unwrap_or (add K.cmp L.least L.joined of part.now self.old) self.old)) }
+        ensures refused { IfErr result (λ _. self.new ≡ self.old) }
+    {
+        let part = part.copy(alloc)?;
+        self.parts.insert(of, part)?;
+        Ok(true)
+    }
+
+    /// Joins the part to what the key holds, by a search for the key.
+    fn join_found(&mut self, alloc: Global, of: K, part: &L) -> Result<bool, AllocError>
+        ensures added { IfOk result (λ b. (b ≡ is_some (add K.cmp L.least L.joined of part.now self.old)) × (self.new ≡ unwrap_or (add K.cmp L.least L.joined of part.now self.old) self.old)) }
+        ensures refused { IfErr result (λ _. self.new ≡ self.old) }
+    {
+        if let Some(held) = self.parts.get_mut(&of) {
+            return held.merge(alloc, part);
+        }
+        let part = part.copy(alloc)?;
+        self.parts.insert(of, part)?;
+        Ok(true)
+    }
+
     /// Joins the part to what the key holds. Answers false, and changes nothing, where that is top.
+    ///
+    /// Keys that come in ascending order are put at the end without a search for them.
+    pub fn join_at(&mut self, alloc: Global, of: K, part: &L) -> Result<bool, AllocError>
+        ensures added { IfOk result (λ b. (b ≡ is_some (add K.cmp L.least L.joined of part.now self.old)) × (self.new ≡ unwrap_or (add K.cmp L.least L.joined of part.now self.old) self.old)) }
+        ensures refused { IfErr result (λ _. self.new ≡ self.old) }
+    {
+        if self.is_past_last(of) {
+            return self.put_copy(alloc, of, part);
+        }
+        self.join_found(alloc, of, part)
+    }
+
+    /// The same of a part that isn't bottom: then no key holds bottom.
     pub fn add(&mut self, alloc: Global, of: K, part: &L) -> Result<bool, AllocError>
         requires ascending { IsStrictlySortedBy K.cmp (map key self.old) }
         requires above { has_no L.eq L.least self.old ≡ true }
@@ -80,6 +152,6 @@ impl<K: Plain, L: Lattice> Entries<K, L> {
         ensures ascending { IsStrictlySortedBy K.cmp (map key self.new) }
         ensures above { has_no L.eq L.least self.new ≡ true }
     {
-        keyed::add(&mut self.entries, alloc, of, part)
+        self.join_at(alloc, of, part)
     }
 }

@@ -1,4 +1,5 @@
-ghost use Rattle.std.specs.Prelude.{◌≡◌, [], map, true, IfOk};
+ghost use Rattle.std.specs.Prelude.{◌≡◌, [], map, true, IfOk, unwrap_or};
+ghost use Rattle.std.specs.Option.{option_copied};
 ghost use Rattle.std.specs.List.Sorted.{IsStrictlySortedBy, IsStrictlySortedBy-prop};
 ghost use Rattle.lvish_compound.specs.Keyed.{key, has_no, alone};
 
@@ -6,6 +7,7 @@ use crate::entries::Entries;
 use crate::keyed;
 use lvish_lattice::{Lattice, Plain};
 use std::alloc::{AllocError, Global};
+use std::collections::btree_map::Iter;
 
 /// A map that only grows: its entries, in the order of their keys. No key holds bottom.
 #[derive(Debug, Drop)]
@@ -16,7 +18,7 @@ pub struct MapOf<K: Plain, L: Lattice> {
 }
 
 impl<K: Plain, L: Lattice> MapOf<K, L> {
-    ghost use Rattle.lvish_compound.specs.MapOf.{entries_of};
+    ghost use Rattle.lvish_compound.specs.MapOf.{entries_of, at};
 
     /// The empty map.
     pub fn new(alloc: Global) -> MapOf<K, L>
@@ -33,18 +35,25 @@ impl<K: Plain, L: Lattice> MapOf<K, L> {
     {
         let mut entries = Entries::new(alloc);
         if part != L::bottom(alloc) {
-            entries.push(key, part)?;
+            entries.insert(key, part)?;
         }
         Ok(MapOf { entries })
     }
 
     /// The entries in the order of their keys. No part is bottom.
-    pub fn entries(&self) -> &[(K, L)]
-        ensures same { result.now ≡ entries_of self.now }
+    pub fn entries(&self) -> Iter<'_, K, L>
+        ensures same { result ≡ entries_of self.now }
         ensures ascending { IsStrictlySortedBy K.cmp (map key (entries_of self.now)) }
         ensures above { has_no L.eq L.least (entries_of self.now) ≡ true }
     {
-        self.entries.as_slice()
+        self.entries.iter()
+    }
+
+    /// The part that the key holds, `None` where it holds bottom.
+    pub(crate) fn get(&self, of: K) -> Option<&L>
+        ensures { unwrap_or (option_copied result) L.least ≡ at self.now of }
+    {
+        self.entries.get(of)
     }
 
     /// The allocator that the entries were made with.
@@ -62,7 +71,7 @@ impl<K: Plain, L: Lattice> PartialEq for MapOf<K, L> {
     ghost laws = { partial_equiv_from_equiv (alike_equiv (and_equiv (on_equiv (λ (t : K × L). t.0) K.Eq.laws) (on_equiv (λ (t : K × L). t.1) L.Eq.laws))) };
 
     fn eq(&self, other: &MapOf<K, L>) -> bool {
-        self.entries.as_slice() == other.entries.as_slice()
+        self.entries.is_equal(&other.entries)
     }
 }
 
@@ -89,18 +98,18 @@ impl<K: Plain, L: Lattice> Lattice for MapOf<K, L> {
     }
 
     fn join(&self, alloc: Global, other: &MapOf<K, L>) -> Result<Option<MapOf<K, L>>, AllocError> {
-        match keyed::joined(alloc, self.entries(), other.entries())? {
+        match keyed::joined(alloc, &self.entries, &other.entries)? {
             Some(entries) => Ok(Some(MapOf { entries })),
             None => Ok(None),
         }
     }
 
     fn leq(&self, other: &MapOf<K, L>) -> bool {
-        keyed::is_below(self.entries(), other.entries())
+        keyed::is_below(&self.entries, &other.entries)
     }
 
     fn events(&self, alloc: Global) -> Result<Vec<(K, L::Event)>, AllocError> {
-        keyed::events(alloc, self.entries())
+        keyed::events(alloc, &self.entries)
     }
 
     fn fresh(
@@ -108,17 +117,16 @@ impl<K: Plain, L: Lattice> Lattice for MapOf<K, L> {
         old: &MapOf<K, L>,
         put: &MapOf<K, L>,
     ) -> Result<Vec<(K, L::Event)>, AllocError> {
-        keyed::fresh(alloc, old.entries(), put.entries())
+        keyed::fresh(alloc, &old.entries, &put.entries)
     }
 
     fn copy(&self, alloc: Global) -> Result<MapOf<K, L>, AllocError> {
-        let mut entries = Entries::new(alloc);
-        entries.push_copies(alloc, self.entries())?;
+        let entries = self.entries.copy(alloc)?;
         Ok(MapOf { entries })
     }
 
     fn merge(&mut self, alloc: Global, put: &MapOf<K, L>) -> Result<bool, AllocError> {
-        if let [(key, part)] = put.entries() {
+        if let Some((key, part)) = put.entries.only() {
             return self.entries.add(alloc, *key, part);
         }
         match self.join(alloc, put)? {

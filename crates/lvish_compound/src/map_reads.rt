@@ -1,6 +1,5 @@
 ghost use Rattle.std.specs.Prelude.{◌≡◌};
 
-use crate::keyed;
 use crate::map_of::MapOf;
 use lvish_lattice::{Plain, Reads};
 
@@ -27,7 +26,7 @@ impl<K: Plain, L: Reads> Reads for MapOf<K, L> {
     }
 
     fn trigger(read: &AtKey<K, L::Read>, state: &MapOf<K, L>) -> Option<L::Answer> {
-        match keyed::find(state.entries(), read.key) {
+        match state.get(read.key) {
             Some(part) => L::trigger(&read.read, part),
             None => L::trigger(&read.read, &L::bottom(state.alloc())),
         }

@@ -70,10 +70,9 @@ fn cells(alloc: Global, entries: &[(i64, i64)]) -> Result<Cells, AllocError> {
 
 /// Whether the map has these entries and no others.
 fn has_entries(map: &Cells, want: &[(i64, i64)]) -> bool {
-    let entries = map.entries();
-    entries.len() == want.len()
-        && entries.iter().zip(want).all(|(entry, pair)| entry.0 == pair.0
-            && entry.1 == Flat::Value(pair.1))
+    map.entries().len() == want.len()
+        && map.entries().zip(want).all(|((key, part), pair)| *key == pair.0
+            && *part == Flat::Value(pair.1))
 }
 
 /// The entries of the join of the two maps, `None` where it is top.

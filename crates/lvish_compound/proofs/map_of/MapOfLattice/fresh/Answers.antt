@@ -12,4 +12,4 @@ returns g c =
     let e = g.met.L.Event in
     IfOk-weaker c.fresh.result _ _ (λ v m. map_fresh k.Ord.total (ties_are_same R k.Plain.identical k.Ord.matches_eq) l.is_join g.met.L.Eq.laws.refl l.identical
     e.Ord.total (ties_are_same g.L.Event.Ord.cmp e.Plain.identical e.Ord.matches_eq) (events_by_ties e.Ord.matches_eq l.has_events) g.K.PartialEq.eq g.L.Event.PartialEq.eq k.Ord.matches_eq e.Ord.matches_eq
-    c.args.old.now c.args.put.now v.items m) (rw (c.entries.ensures.same, c.entries-2.ensures.same) at c.fresh.ensures)
+    c.args.old.now c.args.put.now v.items m) c.fresh.ensures

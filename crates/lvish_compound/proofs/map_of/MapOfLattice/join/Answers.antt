@@ -9,7 +9,7 @@ invariant_of-result g c =
     let l = g.L.Lattice in
     let a = c.args.self.now in
     let b = c.args.other.now in
-    let h : add_all R l.least l.joined a.entries b.entries ≡ Some c.in-Some.entries = (λ i. add_all R l.least l.joined (sym c.entries.ensures.same i) (sym c.entries-2.ensures.same i)) ∙ sym c.in_ok-entries.ensures ∙ c.in-Some.is in
+    let h : add_all R l.least l.joined a.entries b.entries ≡ Some c.in-Some.entries = sym c.in_ok-entries.ensures ∙ c.in-Some.is in
     record {
       ascending = all_rises R l.least l.joined g.met.K.Ord.total g.met.L.Lattice.is_join a.entries b.entries c.in-Some.entries a.ascending h;
       above = all_above R l.least l.joined g.met.K.Ord.total g.met.L.Lattice.is_join g.L.PartialEq.eq g.met.L.Eq.laws.refl g.met.L.Lattice.identical a.entries b.entries c.in-Some.entries a.above b.above h;
@@ -21,4 +21,4 @@ returns-in-Some g c =
     let l = g.L.Lattice in
     let a = c.args.self.now in
     let b = c.args.other.now in
-    sym (joined_some a b _ ((λ i. add_all R l.least l.joined (sym c.entries.ensures.same i) (sym c.entries-2.ensures.same i)) ∙ sym c.in_ok-entries.ensures ∙ c.in-Some.is))
+    sym (joined_some a b _ (sym c.in_ok-entries.ensures ∙ c.in-Some.is))

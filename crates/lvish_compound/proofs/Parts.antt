@@ -1,0 +1,245 @@
+-- The entries of a tree, as the list that they stand for.
+use Rattle.std.proofs.Common.{◌≡◌, ◌↔◌, ℕ, ◌<◌, length, slice_get, IsSome, IfSome, MatchOption, arith, Bool, true, false, cond, not, List, [], ◌∷◌, ◌++◌, map, Option, Some, None, Result, Ok, Err, IfOk, IfErr, option_map, option_and_then, unwrap_or, is_some, true≢false, refl, sym, ◌∙◌, ap, subst}
+use Rattle.std.proofs.lemmas.Map.{lookup-none}
+use Rattle.std.proofs.lemmas.Map.Entries.{none_below_head}
+use Rattle.std.specs.Map.{lookup, set_value}
+use Rattle.std.specs.BTreeMap.{is_at, insert_entry}
+use Rattle.std.specs.declared.cmp.Ordering.{Ordering}
+use Rattle.std.specs.declared.cmp.Ordering.TheVariants.{Less, Equal, Greater}
+use Rattle.std.specs.Ordering.{eq_by_cmp, is_eq, is_lt, ordering_reverse, match_ordering}
+use Rattle.std.specs.Cmp.{IsTotalOrder, Equal-is, tied_itself}
+use Rattle.std.specs.List.{AllByRecursion}
+use Rattle.std.specs.List.Sorted.{IsStrictlySortedBy}
+use Rattle.lvish_lattice.specs.Lattice.{IsJoin}
+use Rattle.lvish_lattice.specs.Ascending.{and_left, and_right}
+use Rattle.lvish_compound.specs.Pointwise.{same_some}
+use Rattle.lvish_compound.specs.Keyed.{key, has_no, at, add, add_all, all_joins, all_there}
+
+-- the only entry, read as the first
+pub only_by : {A K L : Type 0} (shows : A → K × L) (es : List (K × L)) (n : ℕ) (r : Option A) → n ≡ length es → n ≡ 1 → (IsSome r ↔ (0 < length es)) → IfSome r (λ p. slice_get es 0 ≡ Some (shows p))
+    → MatchOption r (length es ≡ 1 → ⊥) (λ p. es ≡ shows p ∷ [])
+only_by shows es n None e one has first = absurd (true≢false (sym (has.1 (omega arith))))
+only_by shows [] n (Some p) e one has first = absurd (omega arith)
+only_by shows (x ∷ []) n (Some p) e one has first = ap (λ z. z ∷ []) (same_some _ _ first)
+only_by shows (x ∷ y ∷ es) n (Some p) e one has first = absurd (omega arith)
+
+twice : {A B C : Type 0} (f : B → C) (g : A → B) (x : Option A) → option_map f (option_map g x) ≡ option_map (λ y. f (g y)) x
+twice f g None = refl
+twice f g (Some y) = refl
+
+module _ {K L : Type 0} (R : K → K → Ordering) where
+  abbrev S : List (K × L) → Type 0
+  S es = IsStrictlySortedBy R (map key es)
+
+  set_same : (k : K) (x : L) (es : List (K × L)) → lookup (is_at (R k)) es ≡ Some x → set_value (is_at (R k)) es x ≡ es
+  set_same k x [] h = refl
+  set_same k x (e ∷ es) h = elim (R k e.0) as (λ r. cond (is_eq r) (Some e.1) (lookup (is_at (R k)) es) ≡ Some x → cond (is_eq r) ((e.0, x) ∷ es) (e ∷ set_value (is_at (R k)) es x) ≡ e ∷ es) [
+    | Less ↦ λ h. ap (λ fs. e ∷ fs) (set_same k x es h)
+    | Equal ↦ λ h. ap (λ y. (e.0, y) ∷ es) (sym (same_some _ _ h))
+    | Greater ↦ λ h. ap (λ fs. e ∷ fs) (set_same k x es h)
+  ] h
+
+  module _ (o : IsTotalOrder R) where
+    all_at : (k : K) (es rest : List (K × L)) (x : K × L) → AllByRecursion (λ y. R k y ≡ Less) (map key (es ++ x ∷ rest)) → R k x.0 ≡ Less
+    all_at k [] rest x b = b.0
+    all_at k (e ∷ es) rest x b = all_at k es rest x b.1
+
+    -- an entry above all others is put at the end
+    insert_last : (es rest : List (K × L)) (x : K × L) → S (es ++ x ∷ rest) → insert_entry R es x.0 x.1 ≡ es ++ x ∷ []
+    unfolding IsStrictlySortedBy
+    insert_last [] rest x s = refl
+    insert_last (e ∷ es) rest x s =
+        let above : R x.0 e.0 ≡ Greater = o.antisymm x.0 e.0 ∙ ap ordering_reverse (all_at e.0 es rest x s.0) in
+        ap (λ r. match_ordering r (x ∷ e ∷ es) ((e.0, x.1) ∷ es) (e ∷ insert_entry R es x.0 x.1)) above ∙ ap (λ fs. e ∷ fs) (insert_last es rest x s.1)
+
+    append_one : (es rest : List (K × L)) (x : K × L) → (es ++ x ∷ []) ++ rest ≡ es ++ x ∷ rest
+    append_one [] rest x = refl
+    append_one (e ∷ es) rest x = ap (λ fs. e ∷ fs) (append_one es rest x)
+
+    -- one entry of a copy more
+    pub copied_more : (all es fs xs ys : List (K × L)) (k : K) (p v : L) → S all → es ++ xs ≡ all → xs ≡ (k, p) ∷ ys → v ≡ p → fs ≡ insert_entry R es k v → fs ++ ys ≡ all
+    copied_more all es fs xs ys k p v s h e w new =
+        let whole : es ++ (k, p) ∷ ys ≡ all = ap (λ zs. es ++ zs) (sym e) ∙ h in
+        ap (λ zs. zs ++ ys) (new ∙ ap (insert_entry R es k) w ∙ insert_last es ys (k, p) (subst (λ zs. S zs) (sym whole) s)) ∙ append_one es ys (k, p) ∙ whole
+
+module _ {K L : Type 0} (R : K → K → Ordering) (least : L) (join : L → L → Option L) where
+  -- what a look-up finds is what the key holds
+  pub lookup_at : (k : K) (es : List (K × L)) → unwrap_or (lookup (is_at (R k)) es) least ≡ at R least join es k
+  lookup_at k [] = refl
+  lookup_at k (e ∷ es) = elim (R k e.0) as (λ r. unwrap_or (cond (is_eq r) (Some e.1) (lookup (is_at (R k)) es)) least ≡ cond (is_eq r) e.1 (at R least join es k)) [ Less ↦ lookup_at k es | Equal ↦ refl | Greater ↦ lookup_at k es ]
+
+  add_new : (k : K) (v : L) (es : List (K × L)) → lookup (is_at (R k)) es ≡ None → add R least join k v es ≡ Some (insert_entry R es k v)
+  add_new k v [] h = refl
+  add_new k v (e ∷ es) h = elim (R k e.0) as (λ r. cond (is_eq r) (Some e.1) (lookup (is_at (R k)) es) ≡ None
+      → match_ordering r (Some ((k, v) ∷ e ∷ es)) (option_map (λ w. (e.0, w) ∷ es) (join e.1 v)) (option_map (λ fs. e ∷ fs) (add R least join k v es)) ≡ Some (match_ordering r ((k, v) ∷ e ∷ es) ((e.0, v) ∷ es) (e ∷ insert_entry R es k v))) [
+        | Less ↦ λ h. refl
+        | Equal ↦ λ h. absurd (cc h)
+        | Greater ↦ λ h. ap (option_map (λ fs. e ∷ fs)) (add_new k v es h)
+      ] h
+
+  -- no entry has a key that is above the greatest
+  pub past_last : (k last : K) (es : List (K × L)) → R last k ≡ Less → (IsSome (lookup (is_at (R k)) es) → is_lt (R last k) ≡ false) → lookup (is_at (R k)) es ≡ None
+  past_last k last es r h = by_found (lookup (is_at (R k)) es) (λ some. true≢false (sym (ap is_lt r) ∙ h some))
+    where
+      by_found : (x : Option L) → (IsSome x → ⊥) → x ≡ None
+      by_found None n = refl
+      by_found (Some y) n = absurd (n refl)
+
+  -- a part at a key that holds none
+  pub put_new : (k : K) (v w : L) (es fs : List (K × L)) → lookup (is_at (R k)) es ≡ None → w ≡ v → fs ≡ insert_entry R es k w → (true ≡ is_some (add R least join k v es)) × (fs ≡ unwrap_or (add R least join k v es) es)
+  put_new k v w es fs h same new = let there : add R least join k v es ≡ Some (insert_entry R es k v) = add_new k v es h in
+      (ap is_some (sym there), new ∙ ap (insert_entry R es k) same ∙ ap (λ a. unwrap_or a es) (sym there))
+
+  module _ (o : IsTotalOrder R) where
+    add_found : (k : K) (v x : L) (es : List (K × L)) → S R es → lookup (is_at (R k)) es ≡ Some x → add R least join k v es ≡ option_map (λ w. set_value (is_at (R k)) es w) (join x v)
+    unfolding IsStrictlySortedBy
+    add_found k v x [] s h = absurd (cc h)
+    add_found k v x (e ∷ es) s h = elim (R k e.0) as (λ r. R k e.0 ≡ r → cond (is_eq r) (Some e.1) (lookup (is_at (R k)) es) ≡ Some x
+        → match_ordering r (Some ((k, v) ∷ e ∷ es)) (option_map (λ w. (e.0, w) ∷ es) (join e.1 v)) (option_map (λ fs. e ∷ fs) (add R least join k v es)) ≡ option_map (λ w. cond (is_eq r) ((e.0, w) ∷ es) (e ∷ set_value (is_at (R k)) es w)) (join x v)) [
+          | Less ↦ λ r h. absurd (cc (sym (lookup-none (is_at (R k)) es (none_below_head o k e es s r).1) ∙ h))
+          | Equal ↦ λ r h. ap (λ y. option_map (λ w. (e.0, w) ∷ es) (join y v)) (same_some _ _ h)
+          | Greater ↦ λ r h. ap (option_map (λ fs. e ∷ fs)) (add_found k v x es s.1 h) ∙ twice (λ fs. e ∷ fs) (λ w. set_value (is_at (R k)) es w) (join x v)
+        ] refl h
+
+    -- a part that is joined where it stands, unless the join is top
+    put_found : (k : K) (v x w : L) (es fs : List (K × L)) (b : Bool) → S R es → lookup (is_at (R k)) es ≡ Some x → fs ≡ set_value (is_at (R k)) es w → b ≡ is_some (join x v) → w ≡ unwrap_or (join x v) x
+        → (b ≡ is_some (add R least join k v es)) × (fs ≡ unwrap_or (add R least join k v es) es)
+    put_found k v x w es fs b s h new is part =
+        subst (λ a. (b ≡ is_some a) × (fs ≡ unwrap_or a es)) (sym (add_found k v x es s h))
+        (elim (join x v) as (λ j. b ≡ is_some j → fs ≡ set_value (is_at (R k)) es (unwrap_or j x) → (b ≡ is_some (option_map (λ u. set_value (is_at (R k)) es u) j)) × (fs ≡ unwrap_or (option_map (λ u. set_value (is_at (R k)) es u) j) es)) [
+          | None ↦ λ is new. (is, new ∙ set_same R k x es h)
+          | Some u ↦ λ is new. (is, new)
+        ] is (new ∙ ap (set_value (is_at (R k)) es) part))
+
+    pub put_by : {Refused : Type 0} (k : K) (v x w : L) (es fs : List (K × L)) (q : Result Bool Refused) → S R es → lookup (is_at (R k)) es ≡ Some x → fs ≡ set_value (is_at (R k)) es w
+        → IfOk q (λ b. (b ≡ is_some (join x v)) × (w ≡ unwrap_or (join x v) x)) → IfOk q (λ b. (b ≡ is_some (add R least join k v es)) × (fs ≡ unwrap_or (add R least join k v es) es))
+    put_by k v x w es fs (Ok b) s h new m = put_found k v x w es fs b s h new m.0 m.1
+    put_by k v x w es fs (Err r) s h new m = tt
+
+    pub kept_by : {Refused : Type 0} (k : K) (x w : L) (es fs : List (K × L)) (q : Result Bool Refused) → lookup (is_at (R k)) es ≡ Some x → fs ≡ set_value (is_at (R k)) es w → IfErr q (λ _. w ≡ x) → IfErr q (λ _. fs ≡ es)
+    kept_by k x w es fs (Ok b) h new m = tt
+    kept_by k x w es fs (Err r) h new m = new ∙ ap (set_value (is_at (R k)) es) m ∙ set_same R k x es h
+
+  -- one entry of the second list joined to the first
+  pub joined_more : (all : Option (List (K × L))) (es fs xs ys : List (K × L)) (k : K) (p : L) (b : Bool) → add_all R least join es xs ≡ all → xs ≡ (k, p) ∷ ys → b ≡ true
+      → (b ≡ is_some (add R least join k p es)) × (fs ≡ unwrap_or (add R least join k p es) es) → add_all R least join fs ys ≡ all
+  joined_more all es fs xs ys k p b h e t m = by_add (add R least join k p es) refl (sym t ∙ m.0) m.1
+    where
+      by_add : (a : Option (List (K × L))) → add R least join k p es ≡ a → true ≡ is_some a → fs ≡ unwrap_or a es → add_all R least join fs ys ≡ all
+      by_add None is some new = absurd (true≢false some)
+      by_add (Some gs) is some new = ap (λ zs. add_all R least join zs ys) new ∙ ap (option_and_then (λ zs. add_all R least join zs ys)) (sym is) ∙ ap (add_all R least join es) (sym e) ∙ h
+
+  pub joined_top : (all : Option (List (K × L))) (es fs xs ys : List (K × L)) (k : K) (p : L) (b : Bool) → add_all R least join es xs ≡ all → xs ≡ (k, p) ∷ ys → b ≡ false
+      → (b ≡ is_some (add R least join k p es)) × (fs ≡ unwrap_or (add R least join k p es) es) → None ≡ all
+  joined_top all es fs xs ys k p b h e t m = by_add (add R least join k p es) refl (sym t ∙ m.0)
+    where
+      by_add : (a : Option (List (K × L))) → add R least join k p es ≡ a → false ≡ is_some a → None ≡ all
+      by_add None is none = ap (option_and_then (λ zs. add_all R least join zs ys)) (sym is) ∙ ap (add_all R least join es) (sym e) ∙ h
+      by_add (Some gs) is none = absurd (true≢false (sym none))
+
+  module _ (o : IsTotalOrder R) (j : IsJoin least join) where
+    abbrev At : List (K × L) → K → L
+    At es q = at R least join es q
+
+    -- what each key holds is at or below what it holds in the other list
+    abbrev pub AllBelow : List (K × L) → List (K × L) → Type 0
+    AllBelow xs ys = (q : K) → join (at R least join xs q) (at R least join ys q) ≡ Some (at R least join ys q)
+
+    past : (k q : K) (es : List (K × L)) → AllByRecursion (λ y. R k y ≡ Less) (map key es) → eq_by_cmp R q k ≡ true → At es q ≡ least
+    past k q [] b t = refl
+    past k q (e ∷ es) b t = ap (λ r. cond (is_eq r) e.1 (At es q)) (o.congr q k e.0 ((Equal-is (R q k)).0 t) ∙ b.0) ∙ past k q es b.1 t
+
+    own : (e : K × L) (es : List (K × L)) → At (e ∷ es) e.0 ≡ e.1
+    own e es = ap (λ c. cond (is_eq c) e.1 (At es e.0)) (tied_itself o e.0)
+
+    right_unit : (a : L) → join a least ≡ Some a
+    right_unit a = j.commutative a least ∙ j.unit a
+
+    pub rest_rises : (e : K × L) (xs es : List (K × L)) → xs ≡ e ∷ es → S R xs → S R es
+    unfolding IsStrictlySortedBy
+    rest_rises e xs es h s = (subst (λ zs. S R zs) h s).1
+
+    head_below : (e : K × L) (es ys : List (K × L)) → AllBelow (e ∷ es) ys → join e.1 (At ys e.0) ≡ Some (At ys e.0)
+    head_below e es ys h = ap (λ x. join x (At ys e.0)) (sym (own e es)) ∙ h e.0
+
+    tail_below : (e : K × L) (es ys : List (K × L)) → S R (e ∷ es) → AllBelow (e ∷ es) ys → AllBelow es ys
+    unfolding IsStrictlySortedBy
+    tail_below e es ys s h q = elim (eq_by_cmp R q e.0) as (λ b. eq_by_cmp R q e.0 ≡ b → join (cond b e.1 (At es q)) (At ys q) ≡ Some (At ys q) → join (At es q) (At ys q) ≡ Some (At ys q)) [
+      | true ↦ λ t _. ap (λ x. join x (At ys q)) (past e.0 q es s.0 t) ∙ j.unit (At ys q)
+      | false ↦ λ _ h. h
+    ] refl (h q)
+
+    module _ (same_key : (x y : K) → R x y ≡ Equal → x ≡ y) where
+      both_below : (e : K × L) (es ys : List (K × L)) → join e.1 (At ys e.0) ≡ Some (At ys e.0) → AllBelow es ys → AllBelow (e ∷ es) ys
+      both_below e es ys h rest q = elim (eq_by_cmp R q e.0) as (λ b. eq_by_cmp R q e.0 ≡ b → join (cond b e.1 (At es q)) (At ys q) ≡ Some (At ys q)) [
+        | true ↦ λ t. subst (λ z. join e.1 (At ys z) ≡ Some (At ys z)) (sym (same_key q e.0 ((Equal-is (R q e.0)).0 t))) h
+        | false ↦ λ _. rest q
+      ] refl
+
+      -- one entry that is below
+      pub below_more : (all xs es ys : List (K × L)) (k : K) (p held : L) → S R xs → (AllBelow xs ys ↔ AllBelow all ys) → xs ≡ (k, p) ∷ es → held ≡ At ys k → join p held ≡ Some held → (AllBelow es ys ↔ AllBelow all ys)
+      below_more all xs es ys k p held s h e f b = (
+        λ r. h.0 (subst (λ zs. AllBelow zs ys) (sym e) (both_below (k, p) es ys (subst (λ z. join p z ≡ Some z) f b) r)),
+        λ r. tail_below (k, p) es ys (subst (λ zs. S R zs) e s) (subst (λ zs. AllBelow zs ys) e (h.1 r)),
+      )
+
+    -- one that is not
+    pub not_below : (all xs es ys : List (K × L)) (k : K) (p held : L) → (AllBelow xs ys ↔ AllBelow all ys) → xs ≡ (k, p) ∷ es → held ≡ At ys k → (join p held ≡ Some held → ⊥) → AllBelow all ys → ⊥
+    not_below all xs es ys k p held h e f n r = n (subst (λ z. join p z ≡ Some z) (sym f) (head_below (k, p) es ys (subst (λ zs. AllBelow zs ys) e (h.1 r))))
+
+    -- one whose key holds bottom
+    pub none_below : (eq : L → L → Bool) → ((x : L) → eq x x ≡ true) → (all xs es ys : List (K × L)) (k : K) (p : L) → has_no eq least xs ≡ true → (AllBelow xs ys ↔ AllBelow all ys) → xs ≡ (k, p) ∷ es → least ≡ At ys k → AllBelow all ys → ⊥
+    none_below eq itself all xs es ys k p n h e f r = not_below all xs es ys k p least h e f (λ b.
+        let bottom : p ≡ least = same_some _ _ (sym (right_unit p) ∙ b) in
+        true≢false (sym (and_left _ _ (ap (has_no eq least) (sym e) ∙ n)) ∙ ap (λ z. not (eq z least)) bottom ∙ ap not (itself least))) r
+
+    pub rest_above : (eq : L → L → Bool) (e : K × L) (xs es : List (K × L)) → xs ≡ e ∷ es → has_no eq least xs ≡ true → has_no eq least es ≡ true
+    rest_above eq e xs es h n = and_right (not (eq e.1 least)) _ (ap (has_no eq least) (sym h) ∙ n)
+
+    pub all_below : (all xs ys : List (K × L)) → (AllBelow xs ys ↔ AllBelow all ys) → xs ≡ [] → AllBelow all ys
+    all_below all xs ys h e = h.0 (subst (λ zs. AllBelow zs ys) (sym e) (λ q. j.unit (At ys q)))
+
+    -- each entry of the second list has a join with what the first holds
+    abbrev pub Each : List (K × L) → List (K × L) → Type 0
+    Each es fs = AllByRecursion (λ f. is_some (join (at R least join es f.0) f.1) ≡ true) fs
+
+    each_from : (es fs : List (K × L)) → S R fs → ((q : K) → is_some (join (At es q) (At fs q)) ≡ true) → Each es fs
+    unfolding IsStrictlySortedBy
+    each_from es [] s h = tt
+    each_from es (f ∷ fs) s h = (
+      ap (λ x. is_some (join (At es f.0) x)) (sym (own f fs)) ∙ h f.0,
+      each_from es fs s.1 (λ q. elim (eq_by_cmp R q f.0) as (λ b. eq_by_cmp R q f.0 ≡ b → is_some (join (At es q) (cond b f.1 (At fs q))) ≡ true → is_some (join (At es q) (At fs q)) ≡ true) [
+        | true ↦ λ t _. ap is_some (ap (join (At es q)) (past f.0 q fs s.0 t) ∙ right_unit (At es q))
+        | false ↦ λ _ h. h
+      ] refl (h q)),
+    )
+
+    known : (x : Option L) → is_some x ≡ true → (w : L) × (x ≡ Some w)
+    known None h = absurd (true≢false (sym h))
+    known (Some w) h = (w, refl)
+
+    -- where one has none, nor have the lists
+    pub top : (es all xs fs : List (K × L)) (k : K) (p : L) → S R es → S R all → (Each es xs ↔ Each es all) → xs ≡ (k, p) ∷ fs → join (At es k) p ≡ None → add_all R least join es all ≡ None
+    top es all xs fs k p s t h e n = by_all (add_all R least join es all) refl
+      where
+        by_all : (a : Option (List (K × L))) → add_all R least join es all ≡ a → a ≡ None
+        by_all None is = refl
+        by_all (Some gs) is = let each : Each es ((k, p) ∷ fs) = subst (λ zs. Each es zs) e (h.1 (each_from es all t (λ q. ap is_some (all_joins R least join o j es all gs s t is q)))) in
+            absurd (true≢false (sym each.0 ∙ ap is_some n))
+
+    module _ (same_key : (x y : K) → R x y ≡ Equal → x ≡ y) where
+      each_all : (es fs : List (K × L)) → Each es fs → (q : K) → (w : L) × (join (At es q) (At fs q) ≡ Some w)
+      each_all es [] h q = (At es q, right_unit _)
+      each_all es (f ∷ fs) h q =
+          let rest : (w : L) × (join (At es q) (At fs q) ≡ Some w) = each_all es fs h.1 q in
+          elim (eq_by_cmp R q f.0) as (λ b. eq_by_cmp R q f.0 ≡ b → (w : L) × (join (At es q) (cond b f.1 (At fs q)) ≡ Some w)) [
+            | true ↦ λ t. subst (λ (z : K). (w : L) × (join (At es z) f.1 ≡ Some w)) (sym (same_key q f.0 ((Equal-is (R q f.0)).0 t))) (known _ h.0)
+            | false ↦ λ _. rest
+          ] refl
+
+      -- where each has one, so have the lists
+      pub there : (es all xs : List (K × L)) → S R es → S R all → (Each es xs ↔ Each es all) → xs ≡ [] → (gs : List (K × L)) × (add_all R least join es all ≡ Some gs)
+      there es all xs s t h e = all_there R least join o j es all s t (each_all es all (h.0 (subst (λ zs. Each es zs) (sym e) tt)))
+
+    pub each_more : (es all xs fs : List (K × L)) (k : K) (p : L) → (Each es xs ↔ Each es all) → xs ≡ (k, p) ∷ fs → is_some (join (At es k) p) ≡ true → (Each es fs ↔ Each es all)
+    each_more es all xs fs k p h e t = (λ r. h.0 (subst (λ zs. Each es zs) (sym e) (t, r)), λ r. (subst (λ zs. Each es zs) e (h.1 r)).1)
