@@ -15,5 +15,11 @@ pub mod OneOfLaws
 pub mod OneOfCalls
 pub mod Kinds
 pub mod Events
+pub mod Held
+pub mod OfThree
+pub mod Parts
+pub mod PartLaws
+pub mod HeldCalls
+pub mod PartCalls
 pub mod Renamed
 pub mod Tagged

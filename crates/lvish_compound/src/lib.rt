@@ -15,7 +15,7 @@
 //!
 //! A `Pair` is joined side by side; its events and reads are those of a side. A `OneOf` is a state
 //! of one of two lattices, or of neither: states of different lattices join to top. A `Tagged` is a
-//! lattice whose events go by names of another type.
+//! lattice whose events go by names of another type. A `Part` is empty, a cell, a set or a counter.
 #![tactic(auto)]
 
 mod above;
@@ -28,6 +28,7 @@ mod map_reads;
 mod named;
 mod one_of;
 mod pair;
+mod part;
 mod side_of;
 mod tagged;
 #[cfg(test)]
@@ -41,5 +42,6 @@ pub use map_reads::AtKey;
 pub use named::Named;
 pub use one_of::OneOf;
 pub use pair::Pair;
+pub use part::{Part, PartEvent};
 pub use side_of::SideOf;
 pub use tagged::Tagged;

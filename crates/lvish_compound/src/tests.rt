@@ -6,6 +6,7 @@ use std::alloc::{AllocError, Global};
 mod events;
 mod map_of;
 mod pairs;
+mod parts;
 mod sums;
 
 fn join_of<L: Lattice>(alloc: Global, a: &L, b: &L) -> Result<Option<L>, AllocError> {

@@ -1,0 +1,50 @@
+-- The sides of a script's pairs.
+use Rattle.std.specs.Prelude.{ℤ, Bool, true, false, List, [], ◌∷◌, Option, Some, None, option_map}
+use Rattle.std.specs.Ordering.{int_eq}
+use Rattle.lvish_lattice.specs.declared.flat.Flat.{Flat}
+use Rattle.lvish_lattice.specs.declared.flat.Flat.TheVariants.{Bottom, Value}
+use Rattle.lvish_lattice.specs.Flat as flat
+use Rattle.lvish_lattice.specs.GrowSet as set
+use Rattle.lvish_lattice.specs.MaxCounter as max
+use Rattle.lvish_compound.specs.declared.side_of.SideOf.{SideOf}
+use Rattle.lvish_compound.specs.declared.part.Part.{Part}
+use Rattle.lvish_compound.specs.declared.part.Part.TheVariants.{Empty, Cell, Set, Max}
+use Rattle.lvish_compound.specs.Above.{alike as same}
+use Rattle.lvish_compound.specs.Held.{held}
+use Rattle.lvish_compound.specs.SideEvents.{sides}
+
+-- a cell, empty where it is bottom
+abbrev pub of_cell : Flat ℤ → Part
+of_cell Bottom = Empty
+of_cell (Value n) = Cell n
+
+-- different kinds join to top
+abbrev pub joined : Part → Part → Option Part
+joined Empty t = Some t
+joined (Cell m) Empty = Some (Cell m)
+joined (Cell m) (Cell n) = option_map of_cell (flat.joined int_eq (Value m) (Value n))
+joined (Cell m) (Set y) = None
+joined (Cell m) (Max y) = None
+joined (Set x) Empty = Some (Set x)
+joined (Set x) (Cell n) = None
+joined (Set x) (Set y) = option_map (held Set Empty) (set.joined x.state y.state)
+joined (Set x) (Max y) = None
+joined (Max x) Empty = Some (Max x)
+joined (Max x) (Cell n) = None
+joined (Max x) (Set y) = None
+joined (Max x) (Max y) = option_map (held Max Empty) (max.joined x.state y.state)
+
+-- the events of a part, by their kind
+abbrev pub events_of : Part → List (SideOf ℤ (SideOf ℤ ℤ))
+events_of Empty = []
+events_of (Cell n) = sides (n ∷ []) []
+events_of (Set x) = sides [] (sides (set.items_of x.state) [])
+events_of (Max x) = sides [] (sides [] (max.events_of x.state))
+
+-- by kind and state
+abbrev pub alike : Part → Part → Bool
+alike Empty Empty = true
+alike (Cell m) (Cell n) = int_eq m n
+alike (Set x) (Set y) = same x y
+alike (Max x) (Max y) = same x y
+alike s t = false
