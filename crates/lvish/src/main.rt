@@ -1,4 +1,4 @@
-//! The program `lvish`: runs a script and prints its report.
+//! The program `lvish`: checks scripts, runs them and prints what came of it.
 #![tactic(auto)]
 
 use lvish_cli::{Status, command};

@@ -1,44 +1,80 @@
--- The answer to an order is that to the text, and it alone is written.
-use Rattle.std.proofs.Common.{◌≡◌, ◌⊎◌, inl, inr, ℕ, Bool, List, Option, IfSome, Result, IfOk, string_bytes, subst}
-use Rattle.std.specs.Io.KnownBytes.{Appends, Keeps}
+-- Every answer has a status of its own, and it alone is written.
+use Rattle.std.proofs.Common.{◌≡◌, inl, inr, ℕ, Bool, List, Option, IfSome, subst, sym}
+use Rattle.std.specs.Io.KnownBytes.{Appends}
+use Rattle.lvish_syntax.specs.Words.{Word}
+use Rattle.lvish_syntax.specs.declared.kind.VariableKind.{VariableKind}
+use Rattle.lvish_syntax.specs.declared.script.Script.{Script}
+use Rattle.lvish_run.specs.declared.report.Report.{Report}
 use Rattle.lvish_cli.specs.declared.order.Order.{Order}
-use Rattle.lvish_cli.specs.declared.answering.Answer.{Answer}
+use Rattle.lvish_cli.specs.declared.order.Order.TheVariants.{Check, Run, Pick}
 use Rattle.lvish_cli.specs.declared.status.Status.{Status}
-use Rattle.lvish_cli.specs.declared.status.Status.TheVariants.{Done, Blocked, Usage, Unreadable, Refused, Error, Budget, Memory, NoThread, Stopped, Mixed, Unwritten}
-use Rattle.lvish_cli.specs.Orders.{budget_of, reports_all}
-use Rattle.lvish_cli.specs.Answers.{Runs, IsAnswer, IsTextAnswer}
+use Rattle.lvish_cli.specs.declared.status.Status.TheVariants.{Done, Blocked, Refused, Error, Budget, Usage, Unreadable, Memory, NoThread, Stopped, Mixed, Unwritten}
+use Rattle.lvish_cli.specs.Values.{Value, Event}
+use Rattle.lvish_cli.specs.Answers.{Runs, IsAnswer, IsScriptAnswer, IsReportAnswer}
 use Rattle.lvish_cli.specs.Performs.{Performs}
 use Rattle.lvish_cli.specs.Streams.{text_seen}
 
-pub by_order : {X : Type 0} (is_run : Runs) (order : Order) (input : List ℕ) (budget : ℕ) (all : Bool) (r : Result Answer X) → budget ≡ budget_of order → all ≡ reports_all order
-    → IfOk r (λ answer. IsTextAnswer is_run budget all input answer.status (string_bytes answer.text))
-    → IfOk r (λ answer. IsAnswer is_run order input answer.status (string_bytes answer.text))
-by_order is_run order input budget all r b a h =
-    subst (λ k. IfOk r (λ answer. IsTextAnswer is_run k (reports_all order) input answer.status (string_bytes answer.text))) b
-    (subst (λ k. IfOk r (λ answer. IsTextAnswer is_run budget k input answer.status (string_bytes answer.text))) a h)
+-- the statuses that answers have
+IsAnswered : Status → Type 0
+IsAnswered Done = Unit {0}
+IsAnswered Blocked = Unit {0}
+IsAnswered Refused = Unit {0}
+IsAnswered Error = Unit {0}
+IsAnswered Budget = Unit {0}
+IsAnswered (Usage text) = ⊥
+IsAnswered Unreadable = ⊥
+IsAnswered Memory = ⊥
+IsAnswered NoThread = ⊥
+IsAnswered Stopped = ⊥
+IsAnswered Mixed = ⊥
+IsAnswered Unwritten = ⊥
+
+report_answered : (variables : List (Word × VariableKind)) (budget : ℕ) (all : Bool) (report : Report Value Event) (status : Status) (text : List ℕ) → IsReportAnswer variables budget all report status text → IsAnswered status
+unfolding IsAnswered
+report_answered variables budget all report Done text h = tt
+report_answered variables budget all report Blocked text h = tt
+report_answered variables budget all report Refused text h = absurd h
+report_answered variables budget all report Error text h = tt
+report_answered variables budget all report Budget text h = tt
+report_answered variables budget all report (Usage message) text h = h
+report_answered variables budget all report Unreadable text h = h
+report_answered variables budget all report Memory text h = h
+report_answered variables budget all report NoThread text h = h
+report_answered variables budget all report Stopped text h = h
+report_answered variables budget all report Mixed text h = h
+report_answered variables budget all report Unwritten text h = h
+
+module _ (is_run : Runs) where
+  script_answered : (script : Script) (order : Order) (status : Status) (text : List ℕ) → IsScriptAnswer is_run script order status text → IsAnswered status
+  unfolding IsAnswered
+  script_answered script Check status text h = subst IsAnswered (sym h.0) tt
+  script_answered script (Run workers budget all) status text h = report_answered _ budget all h.0 status text h.2
+  script_answered script (Pick picks budget all) status text h = report_answered _ budget all h.0 status h.2.0 h.2.1
+
+  answered : (order : Order) (input : List ℕ) (status : Status) (text : List ℕ) → IsAnswer is_run order input status text → IsAnswered status
+  unfolding IsAnswered
+  answered order input status text (inl h) = script_answered h.0 order status text h.2
+  answered order input status text (inr h) = subst IsAnswered (sym h.2.1) tt
 
 module _ (is_run : Runs) (order : Order) (given old new : Option (List ℕ)) (input text : List ℕ) where
   -- no answer has another status than these
+  by_status : (status : Status) → IsAnswered status → IfSome given (λ bytes. input ≡ text_seen bytes) → IsAnswer is_run order input status text → Appends old new text → Performs is_run order given old new status
+  unfolding IsAnswered
+  by_status Done a read h put = (text, record { input = input; read = read; answer = h }, put)
+  by_status Blocked a read h put = (text, record { input = input; read = read; answer = h }, put)
+  by_status Refused a read h put = (text, record { input = input; read = read; answer = h }, put)
+  by_status Error a read h put = (text, record { input = input; read = read; answer = h }, put)
+  by_status Budget a read h put = (text, record { input = input; read = read; answer = h }, put)
+  by_status (Usage message) a read h put = absurd a
+  by_status Unreadable a read h put = absurd a
+  by_status Memory a read h put = absurd a
+  by_status NoThread a read h put = absurd a
+  by_status Stopped a read h put = absurd a
+  by_status Mixed a read h put = absurd a
+  by_status Unwritten a read h put = absurd a
+
   pub performed : (status : Status) → IfSome given (λ bytes. input ≡ text_seen bytes) → IsAnswer is_run order input status text → Appends old new text → Performs is_run order given old new status
-  performed Done read h put = (text, record { input = input; read = read; answer = h }, put)
-  performed Blocked read h put = (text, record { input = input; read = read; answer = h }, put)
-  performed Refused read h put = (text, record { input = input; read = read; answer = h }, put)
-  performed Error read h put = (text, record { input = input; read = read; answer = h }, put)
-  performed Budget read h put = (text, record { input = input; read = read; answer = h }, put)
-  performed (Usage message) read (inl h) put = absurd h.2.2
-  performed (Usage message) read (inr h) put = absurd (cc h.2.1)
-  performed Unreadable read (inl h) put = absurd h.2.2
-  performed Unreadable read (inr h) put = absurd (cc h.2.1)
-  performed Memory read (inl h) put = absurd h.2.2
-  performed Memory read (inr h) put = absurd (cc h.2.1)
-  performed NoThread read (inl h) put = absurd h.2.2
-  performed NoThread read (inr h) put = absurd (cc h.2.1)
-  performed Stopped read (inl h) put = absurd h.2.2
-  performed Stopped read (inr h) put = absurd (cc h.2.1)
-  performed Mixed read (inl h) put = absurd h.2.2
-  performed Mixed read (inr h) put = absurd (cc h.2.1)
-  performed Unwritten read (inl h) put = absurd h.2.2
-  performed Unwritten read (inr h) put = absurd (cc h.2.1)
+  performed status read h put = by_status status (answered is_run order input status text h) read h put
 
   -- the same, where the bytes that were read and written are known by equations
   pub performed_of : (status : Status) (seen written : List ℕ) → seen ≡ input → written ≡ text

@@ -5,3 +5,4 @@ pub mod Orders
 pub mod Performs
 pub mod Statuses
 pub mod Streams
+pub mod Values

@@ -6,6 +6,10 @@ use Rattle.std.specs.Fmt.{decimal}
 abbrev pub line_of : List ℕ → List ℕ
 line_of text = text ++ 10 ∷ []
 
+-- a script has no fault
+abbrev pub ok_text : List ℕ
+ok_text = line_of (codes "ok")
+
 -- a script's fault, by its number and its name, and its line
 abbrev pub refusal_text : ℕ → List ℕ → ℕ → List ℕ
 refusal_text number name line =

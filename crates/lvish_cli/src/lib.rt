@@ -2,19 +2,24 @@
 #![tactic(auto)]
 
 mod answering;
+mod commands;
 mod faults;
 mod lines;
 mod order;
 mod performing;
+mod picks;
 mod program;
 mod reading;
+mod running;
 mod status;
+mod values;
 mod words;
 mod writing;
 
 pub use answering::{Answer, answer_to};
 pub use order::{Order, UsageFault};
 pub use performing::perform;
+pub use picks::Picks;
 pub use program::command;
 pub use reading::{MOST_READ, ReadFault, read_text};
 pub use status::Status;

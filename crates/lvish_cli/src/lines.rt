@@ -1,7 +1,14 @@
 ghost use Rattle.std.specs.Prelude.{◌≡◌, IfOk, string_bytes};
-ghost use Rattle.lvish_cli.specs.Lines.{refusal_text, budget_text, error_text};
+ghost use Rattle.lvish_cli.specs.Lines.{ok_text, refusal_text, budget_text, error_text};
 
 use std::alloc::{AllocError, Global};
+
+/// `ok`, for a script without a fault.
+pub fn ok_line(alloc: Global) -> Result<String, AllocError>
+    ensures { IfOk result (λ text. string_bytes text ≡ ok_text) }
+{
+    String::from_str(alloc, "ok\n")
+}
 
 /// `refused NUMBER NAME line L`, for a script's fault and the line on which it is.
 pub fn refusal_line(

@@ -1,11 +1,14 @@
 ghost use Rattle.std.specs.Prelude.{◌≡◌};
-ghost use Rattle.lvish_cli.specs.Orders.{budget_of, reports_all};
 
+use crate::picks::Picks;
+use std::alloc::AllocError;
 use thiserror::Error;
 
 /// What the words ask for.
 #[derive(Debug, PartialEq, Drop)]
 pub enum Order {
+    /// Say whether the text is a script.
+    Check,
     /// Run the script and print the report.
     Run {
         /// How many workers run it.
@@ -15,24 +18,15 @@ pub enum Order {
         /// Whether every variable is reported, or frozen ones alone.
         all: bool,
     },
-}
-
-impl Order {
-    /// After how many steps the run is stopped.
-    pub fn budget(&self) -> u64
-        ensures { result ≡ budget_of self.now }
-    {
-        let Order::Run { budget, .. } = self;
-        *budget
-    }
-
-    /// Whether every variable is reported, or frozen ones alone.
-    pub fn reports_all(&self) -> bool
-        ensures { result ≡ reports_all self.now }
-    {
-        let Order::Run { all, .. } = self;
-        *all
-    }
+    /// Run the script by picks, and print the trace and the report.
+    Pick {
+        /// Which of the enabled steps is made, in turn.
+        picks: Picks,
+        /// After as many steps the run is stopped.
+        budget: u64,
+        /// Whether every variable is reported, or frozen ones alone.
+        all: bool,
+    },
 }
 
 /// Why the words are no order.
@@ -46,4 +40,14 @@ pub enum UsageFault {
     Refused(String),
     #[error("memory")]
     Memory,
+}
+
+impl From<AllocError> for UsageFault {
+    ghost use Rattle.lvish_cli.specs.declared.order.UsageFault.TheVariants.{Memory};
+
+    ghost from_gives = { λ e f. f ≡ Memory };
+
+    fn from(_error: AllocError) -> UsageFault {
+        UsageFault::Memory
+    }
 }

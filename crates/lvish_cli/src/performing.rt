@@ -8,7 +8,7 @@ use crate::reading::{MOST_READ, ReadFault, read_text};
 use crate::status::Status;
 use crate::writing::write_text;
 use lvish_run::Runs;
-use lvish_script::Script;
+use lvish_syntax::Script;
 use std::alloc::Global;
 use std::io::{Read, Write};
 

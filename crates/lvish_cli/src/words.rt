@@ -1,123 +1,104 @@
-ghost use Rattle.std.specs.Prelude.{◌≡◌, [], false, true, IfOk, IsOkAnd, string_bytes};
+ghost use Rattle.std.specs.Prelude.{◌≡◌, ◌≤◌, [], false, true, IfOk, IsOkAnd, string_bytes};
 ghost use Rattle.lvish_cli.specs.Orders.{IsWithin};
 
+use crate::commands::{USUAL_STEPS, USUAL_WORKERS, program};
 use crate::order::{Order, UsageFault};
-use clap::builder::ValueParser;
+use crate::picks::Picks;
 use clap::error::ErrorKind;
-use clap::{Arg, ArgAction, ArgMatches, Command, Error, value_parser};
+use clap::{ArgMatches, Error};
 use std::alloc::{AllocError, Global};
 use std::convert::AsStr;
 
 const MOST_STEPS: u64 = 1_000_000;
 
-const USUAL_STEPS: u64 = 100_000;
+const MOST_WORKERS: usize = 8;
 
 /// The order that the words give, and the path of its script; the empty path is standard input.
 pub fn order_of<S: AsStr>(alloc: Global, words: &[S]) -> Result<(Order, String), UsageFault>
     ensures within { IfOk result (λ asked. IsWithin asked.0) }
     // With no words, standard input is run with all defaults, and every variable is reported.
     ensures none { words.now ≡ [] → IsOkAnd result (λ asked.
-        (asked.0 ≡ Order.Run 1 100000 true) × (string_bytes asked.1 ≡ [])) }
+        (asked.0 ≡ Order.Run 2 100000 true) × (string_bytes asked.1 ≡ [])) }
 {
     if words.is_empty() {
         let order = Order::Run {
-            workers: 1,
+            workers: USUAL_WORKERS,
             budget: USUAL_STEPS,
             all: true,
         };
         return Ok((order, String::new(alloc)));
     }
-    let Ok(command) = lvish(alloc) else {
-        return Err(UsageFault::Memory);
-    };
+    let command = program(alloc)?;
     match command.try_get_matches_from(words) {
         Ok(matches) => asked(alloc, &matches),
         Err(error) => Err(refusal(alloc, &error)),
     }
 }
 
-/// The words that the program knows, with their help.
-fn lvish<'a>(alloc: Global) -> Result<Command<'a>, AllocError> {
-    Command::new(alloc, "lvish")
-        .bin_name("lvish")?
-        .no_binary_name(true)
-        .about("Runs scripts whose tasks share variables that only grow")
-        .override_usage("lvish\n       lvish run FILE [--steps N] [--all]")
-        .after_help(PROGRAM_HELP)
-        .subcommand_required(true)
-        .disable_help_subcommand(true)
-        .subcommand(run(alloc)?)
-}
-
-const PROGRAM_HELP: &str = "\
-With no words, standard input is run as by `lvish run --all`.
-
-Example:
-  lvish run first.lvish --all
-
-Statuses:
-  0  the run ended and no task is blocked; or help was asked for
-  1  the run ended with blocked tasks
-  2  the words are refused
-  3  the script can't be opened or read
-  4  the script is refused: a line says which fault it has, and where
-  5  the run is in error: a line says which error, on which variable, in which task
-  6  the run was stopped by its budget
-  7  memory was refused
-  8  another fault, as a full disk at standard output";
-
-/// The words of a run.
-fn run<'a>(alloc: Global) -> Result<Command<'a>, AllocError> {
-    let file = Arg::new(alloc, "file")
-        .value_name("FILE")
-        .help("The script")
-        .value_parser(ValueParser::NonEmptyString)
-        .required(true);
-    let steps = Arg::new(alloc, "steps")
-        .long("steps")
-        .value_name("N")
-        .help("Stop the run after N steps, 0 to 1000000")
-        .value_parser(value_parser!(u64).range(0..=1_000_000))
-        .default_value("100000");
-    let all = Arg::new(alloc, "all")
-        .long("all")
-        .help("Report every variable, not frozen ones alone")
-        .action(ArgAction::SetTrue);
-    Command::new(alloc, "run")
-        .about("Runs a script and prints its report")
-        .after_help(RUN_HELP)
-        .arg(file)?
-        .arg(steps)?
-        .arg(all)
-}
-
-const RUN_HELP: &str = "\
-The report has a line for each variable, then `steps N` and `blocked N`.
-
-Example:
-  lvish run first.lvish --steps 500 --all
-
-Statuses: 0 ended, 1 ended with blocked tasks, 3 unreadable, 4 script refused,
-5 run in error, 6 stopped by its budget, 7 memory, 8 other faults";
-
-/// The order of words that match.
+/// The order of words that match, and the path of its script.
 fn asked(alloc: Global, matches: &ArgMatches<'_>) -> Result<(Order, String), UsageFault>
     ensures { IfOk result (λ asked. IsWithin asked.0) }
 {
-    let Some(words) = matches.subcommand_matches("run") else {
-        return Err(UsageFault::Refused(String::new(alloc)));
+    let (order, words) = match matches.subcommand() {
+        Some(("check", words)) => (Order::Check, words),
+        Some(("run", words)) => (run_of(words), words),
+        Some(("pick", words)) => (pick_of(alloc, words)?, words),
+        _ => return Err(UsageFault::Refused(String::new(alloc))),
     };
-    let path = words.get_str("file").unwrap_or("");
-    let Ok(path) = String::from_str(alloc, path) else {
-        return Err(UsageFault::Memory);
-    };
-    let budget = words.get_one::<u64>("steps").unwrap_or(USUAL_STEPS);
-    let order = Order::Run {
-        workers: 1,
-        budget: budget.min(MOST_STEPS),
-        all: words.get_flag("all"),
-    };
+    let path = String::from_str(alloc, words.get_str("file").unwrap_or(""))?;
     Ok((order, path))
+}
+
+/// The order of the words of a run.
+fn run_of(words: &ArgMatches<'_>) -> Order
+    ensures { IsWithin result }
+{
+    Order::Run {
+        workers: workers_of(words),
+        budget: budget_of(words),
+        all: words.get_flag("all"),
+    }
+}
+
+/// The order of the words of a run by picks.
+fn pick_of(alloc: Global, words: &ArgMatches<'_>) -> Result<Order, AllocError>
+    ensures { IfOk result IsWithin }
+{
+    Ok(Order::Pick {
+        picks: picks_of(alloc, words)?,
+        budget: budget_of(words),
+        all: words.get_flag("all"),
+    })
+}
+
+/// The number of workers, as it is given or usual.
+fn workers_of(words: &ArgMatches<'_>) -> usize
+    ensures least { 1 ≤ result }
+    ensures most { result ≤ MOST_WORKERS }
+{
+    let workers = words.get_one::<usize>("workers").unwrap_or(USUAL_WORKERS);
+    workers.clamp(1, MOST_WORKERS)
+}
+
+/// After how many steps a run is stopped, as it is given or usual.
+fn budget_of(words: &ArgMatches<'_>) -> u64
+    ensures { result ≤ MOST_STEPS }
+{
+    let budget = words.get_one::<u64>("steps").unwrap_or(USUAL_STEPS);
+    budget.min(MOST_STEPS)
+}
+
+/// The picks that are given.
+fn picks_of(alloc: Global, words: &ArgMatches<'_>) -> Result<Picks, AllocError> {
+    let mut picks = Vec::new(alloc);
+    if let Some(numbers) = words.get_many::<u64>("picks") {
+        for number in numbers {
+            if let Ok(number) = number {
+                picks.push(number)?;
+            }
+        }
+    }
+    Ok(Picks::from(picks))
 }
 
 /// Help that was asked for, or why words are refused.

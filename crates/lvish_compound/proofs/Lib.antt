@@ -2,3 +2,5 @@ pub mod Parts
 pub mod EventSteps
 pub mod Maps
 pub mod Brought
+pub mod Values
+pub mod Answered

@@ -1,6 +1,6 @@
 -- States that aren't bottom.
 use Rattle.std.specs.Prelude.{◌≡◌, Bool, true, false, Option, Some, None, refl}
-use Rattle.std.proofs.Common.{sym, ◌∙◌, ap, subst, true≢false}
+use Rattle.std.proofs.Common.{sym, ◌∙◌, ap, true≢false}
 use mathlib.Core.HLevel.{Σ_prop_path}
 use Rattle.std.proofs.Math.Bool.{Bool-set}
 use Rattle.lvish_lattice.specs.Lattice.{IsIdentity}

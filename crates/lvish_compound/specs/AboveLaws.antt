@@ -1,6 +1,6 @@
 -- What is joined to a state that isn't bottom isn't bottom.
 use Rattle.std.specs.Prelude.{◌≡◌, Bool, true, false, Option, Some, None, unwrap_or, Result, Ok, Err, IfOk, IfErr, refl}
-use Rattle.std.proofs.Common.{sym, ◌∙◌, ap, true≢false}
+use Rattle.std.proofs.Common.{sym, ◌∙◌, ap}
 use Rattle.lvish_lattice.specs.Lattice.{IsIdentity, IsJoin}
 use Rattle.lvish_compound.specs.Within.{left_below, same_some}
 use Rattle.std.specs.declared.cmp.Ord as ord

@@ -27,6 +27,9 @@ module _ {L E S : Type 0} {l : lattice.Ghosts L E} {le : partial_eq.Ghosts L} {e
   abbrev pub bottom_of : L
   bottom_of = l.least
 
+  abbrev pub state_in : Above L E l le eo ee ep → L
+  state_in x = x.state
+
   abbrev pub Held : Type 0
   Held = L
 

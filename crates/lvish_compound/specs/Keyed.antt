@@ -1,6 +1,6 @@
 -- Lists of entries, each a key and a value above the least one: finite functions into a lattice, and their pointwise join.
 use Rattle.std.specs.Prelude.{◌≡◌, Bool, true, false, cond, not, List, [], ◌∷◌, map, Option, Some, option_and_then, option_map, refl}
-use Rattle.std.proofs.Common.{ℕ, suc, sym, ◌∙◌, ap, subst, true≢false}
+use Rattle.std.proofs.Common.{sym, ◌∙◌, ap, subst, true≢false}
 use Rattle.std.specs.declared.cmp.Ordering.{Ordering}
 use Rattle.std.specs.declared.cmp.Ordering.TheVariants.{Less, Equal, Greater}
 use Rattle.std.specs.Ordering.{eq_by_cmp, is_eq, match_ordering}
@@ -21,11 +21,6 @@ has_no eq x es = list_all (λ e. not (eq e.1 x)) es
 -- one entry, and none where the value is x
 abbrev pub alone : {K L : Type 0} → (L → L → Bool) → L → K → L → List (K × L)
 alone eq x k v = cond (eq v x) [] ((k, v) ∷ [])
-
--- how many entries have a key below this one, in a list that ascends
-abbrev pub place_of : {K L : Type 0} → (K → K → Ordering) → K → List (K × L) → ℕ
-place_of R k [] = 0
-place_of R k (e ∷ es) = match_ordering (R e.0 k) (suc (place_of R k es)) 0 0
 
 module _ {K L : Type 0} (R : K → K → Ordering) (least : L) (join : L → L → Option L) where
   -- what a key holds

@@ -1,6 +1,5 @@
 -- The kinds of a script's variables.
 use Rattle.std.specs.Prelude.{◌≡◌, Bool, false, refl}
-use Rattle.std.proofs.Common.{sym, ◌∙◌}
 use Rattle.lvish_lattice.specs.Lattice.{IsIdentity}
 use Rattle.lvish_compound.specs.declared.kind.Kind.{Kind}
 use Rattle.lvish_compound.specs.declared.kind.Kind.TheVariants.{Cell, Set, Max, Map}

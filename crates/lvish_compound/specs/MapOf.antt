@@ -48,6 +48,10 @@ module _ {K L E : Type 0} {ko : ord.Ghosts K} {ke : partial_eq.Ghosts K} {kp : p
   abbrev pub entries_of : MapOf K L E ko ke kp l le eo ee ep → List (K × L)
   entries_of m = m.entries
 
+  -- the test of parts
+  abbrev pub part_test : MapOf K L E ko ke kp l le eo ee ep → L → L → Bool
+  part_test m x y = le.eq x y
+
   abbrev pub map_events_of : MapOf K L E ko ke kp l le eo ee ep → List (K × E)
   map_events_of m = events_of l.events_of m.entries
 

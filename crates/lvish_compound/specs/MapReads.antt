@@ -47,7 +47,7 @@ at_alone cmp eq least join same k v q = elim (eq v least) as (λ b. eq v least �
 
 module _ {K L E : Type 0} {ko : ord.Ghosts K} {ke : partial_eq.Ghosts K} {kp : partial_ord.Ghosts K} {l : lattice.Ghosts L E} {le : partial_eq.Ghosts L} {eo : ord.Ghosts E} {ee : partial_eq.Ghosts E} {ep : partial_ord.Ghosts E} where
   -- the map with one key
-  abbrev holding : K → L → MapOf K L E ko ke kp l le eo ee ep
+  abbrev pub holding : K → L → MapOf K L E ko ke kp l le eo ee ep
   holding k v = record { entries = alone le.eq l.least k v; ascending = alone_rises ko.cmp le.eq l.least k v; above = alone_above le.eq l.least k v }
 
   module _ (o : IsTotalOrder ko.cmp) (same_key : (x y : K) → ko.cmp x y ≡ Equal → x ≡ y) (j : IsJoin l.least l.joined) (itself : (x : L) → le.eq x x ≡ true) (same : IsIdentity le.eq) where

@@ -8,7 +8,6 @@ use Rattle.lvish_compound.specs.declared.pair.Pair.{Pair}
 use Rattle.lvish_compound.specs.declared.side_of.SideOf.{SideOf}
 use Rattle.lvish_compound.specs.declared.side_of.SideOf.TheVariants.{One, Two}
 use Rattle.lvish_compound.specs.Pair.{both, joined, events_of}
-use Rattle.lvish_compound.specs.PairLaws.{both_there}
 use Rattle.lvish_compound.specs.SideEvents.{sides, sides_beyond}
 
 module _ {E : Type 0} (eq : E → E → Bool) (itself : (x : E) → eq x x ≡ true) where

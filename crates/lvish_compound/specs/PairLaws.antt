@@ -3,7 +3,7 @@ use Rattle.std.specs.Prelude.{◌≡◌, ◌⊎◌, ◌↔◌, Bool, true, false
 use Rattle.std.proofs.Common.{sym, ◌∙◌, ap, subst, inl, inr}
 use Rattle.std.specs.declared.cmp.Ordering.{Ordering}
 use Rattle.std.specs.declared.cmp.Ordering.TheVariants.{Less}
-use Rattle.lvish_lattice.specs.Lattice.{IsIdentity, IsJoin, IsBelow, HasEvents, IsChecked, IsAnswered, Answers}
+use Rattle.lvish_lattice.specs.Lattice.{IsIdentity, IsJoin, HasEvents, IsChecked, IsAnswered, Answers}
 use Rattle.lvish_compound.specs.declared.pair.Pair.{Pair}
 use Rattle.lvish_compound.specs.declared.side_of.SideOf.{SideOf}
 use Rattle.lvish_compound.specs.declared.side_of.SideOf.TheVariants.{One, Two}

@@ -14,7 +14,8 @@ use Rattle.lvish_compound.specs.declared.part.Part.TheVariants.{Empty, Cell, Set
 use Rattle.lvish_compound.specs.declared.side_of.SideOf.{SideOf}
 use Rattle.lvish_compound.specs.declared.side_of.SideOf.TheVariants.{One, Two}
 use Rattle.lvish_compound.specs.Held.{Held, held, held_by}
-use Rattle.lvish_compound.specs.HeldCalls.{held_leq, held_fresh, none_beyond, all_beyond}
+use Rattle.lvish_compound.specs.Carried.{carried_leq, carried_fresh}
+use Rattle.lvish_compound.specs.HeldCalls.{held_carried, none_beyond, all_beyond}
 use Rattle.lvish_compound.specs.Parts.{of_cell, joined, events_of}
 use Rattle.lvish_compound.specs.PartLaws.{view, view_set, view_max, same_set, same_max, part_is_join}
 use Rattle.lvish_compound.specs.SideEvents.{sides, sides_beyond}
@@ -27,10 +28,10 @@ abbrev max_in : Part → MaxCounter
 max_in s = (view s).two.two
 
 pub sets_leq : (t : Bool) (s r : Part) (x z : _) (p q : Held Set) → s ≡ Set x → r ≡ Set z → p ≡ x.state → q ≡ z.state → IsTrue t ↔ IsBelow set.joined p q → IsTrue t ↔ IsBelow joined s r
-sets_leq = held_leq Set Empty joined (λ x z. refl) set_in (λ s. ap (λ p. p.two.one) (view_set s))
+sets_leq = carried_leq (held_carried Set Empty joined (λ x z. refl)) set_in (λ s. ap (λ p. p.two.one) (view_set s))
 
 pub maxes_leq : (t : Bool) (s r : Part) (x z : _) (p q : MaxCounter) → s ≡ Max x → r ≡ Max z → p ≡ x.state → q ≡ z.state → IsTrue t ↔ IsBelow max.joined p q → IsTrue t ↔ IsBelow joined s r
-maxes_leq = held_leq Max Empty joined (λ x z. refl) max_in (λ s. ap (λ p. p.two.two) (view_max s))
+maxes_leq = carried_leq (held_carried Max Empty joined (λ x z. refl)) max_in (λ s. ap (λ p. p.two.two) (view_max s))
 
 -- a test of events by their kinds
 pub record IsByKind (eq : SideOf ℤ (SideOf ℤ ℤ) → SideOf ℤ (SideOf ℤ ℤ) → Bool) : Type 0 where
@@ -73,10 +74,10 @@ module _ (eq : SideOf ℤ (SideOf ℤ ℤ) → SideOf ℤ (SideOf ℤ ℤ) → B
   max_wraps s = held_by Max Empty (λ v. events_of v ≡ as_max (max.events_of s)) s (λ e. ap (λ (v : MaxCounter). as_max (max.events_of v)) (sym (same_max s e))) (λ x e. ap (λ (v : MaxCounter). as_max (max.events_of v)) e)
 
   sets_fresh_by : (xs : List ℤ) (s r : Part) (x z : _) (p q : Held Set) → s ≡ Set x → r ≡ Set z → p ≡ x.state → q ≡ z.state → xs ≡ fresh_of set.joined int_eq set.items_of p q → sides [] (sides xs []) ≡ fresh_of joined eq events_of s r
-  sets_fresh_by = held_fresh Set Empty joined (λ x z. refl) eq events_of as_set refl set_beyond set_wraps
+  sets_fresh_by = carried_fresh (held_carried Set Empty joined (λ x z. refl)) int_eq set.items_of eq events_of as_set refl set_beyond set_wraps
 
   maxes_fresh_by : (xs : List ℤ) (s r : Part) (x z : _) (p q : MaxCounter) → s ≡ Max x → r ≡ Max z → p ≡ x.state → q ≡ z.state → xs ≡ fresh_of max.joined int_eq max.events_of p q → sides [] (sides [] xs) ≡ fresh_of joined eq events_of s r
-  maxes_fresh_by = held_fresh Max Empty joined (λ x z. refl) eq events_of as_max refl max_beyond max_wraps
+  maxes_fresh_by = carried_fresh (held_carried Max Empty joined (λ x z. refl)) int_eq max.events_of eq events_of as_max refl max_beyond max_wraps
 
   first_fresh_by : (s r : Part) → s ≡ Empty → events_of r ≡ fresh_of joined eq events_of s r
   first_fresh_by s r e = all_beyond eq (events_of r) ∙ ap (λ (v : Part). fresh_of joined eq events_of v r) (sym e)

@@ -19,7 +19,7 @@ use Rattle.lvish_compound.specs.declared.part.Part.{Part}
 use Rattle.lvish_compound.specs.declared.part.Part.TheVariants.{Empty, Cell, Set, Max}
 use Rattle.lvish_compound.specs.Above.{same_above}
 use Rattle.lvish_compound.specs.Held.{Held, held, held_by, held_above, held_bottom, is_bottom, bottom_of}
-use Rattle.lvish_compound.specs.OneOfLaws.{equiv_by_identity}
+use Rattle.lvish_compound.specs.Identity.{equiv_by_identity}
 use Rattle.lvish_compound.specs.OfThree.{triple, IsOne, make, JoinsOfThree, of_three_within, joins_of_three}
 use Rattle.lvish_compound.specs.Pair as pair
 use Rattle.lvish_compound.specs.PairLaws.{pair_is_join, pair_has_events}
@@ -73,10 +73,10 @@ view (Cell n) = triple (Value n) (bottom_of Set) (bottom_of Max)
 view (Set x) = triple Bottom x.state (bottom_of Max)
 view (Max x) = triple Bottom (bottom_of Set) x.state
 
-abbrev make_part : Kinds → Option Part
+abbrev pub make_part : Kinds → Option Part
 make_part = make of_cell (held Set Empty) (held Max Empty) no_cell (is_bottom Set) (is_bottom Max)
 
-abbrev join_kinds : Kinds → Kinds → Option Kinds
+abbrev pub join_kinds : Kinds → Kinds → Option Kinds
 join_kinds = pair.joined (flat.joined int_eq) (pair.joined set.joined max.joined)
 
 abbrev through : Part → Part → Option Part
@@ -88,7 +88,7 @@ cells = flat_is_join int_eq int_identical int_eq_equiv
 pub ties : (x y : ℤ) → int_cmp x y ≡ Equal → x ≡ y
 ties = ties_are_same int_cmp int_identical (λ x y. refl)
 
-sets : IsJoin (bottom_of Set) set.joined
+pub sets : IsJoin (bottom_of Set) set.joined
 sets = set.set_is_join int_cmp_total ties
 
 same_cell : (x : Flat ℤ) → no_cell x ≡ true → x ≡ Bottom
@@ -101,7 +101,7 @@ same_set y e = set.alike_identical int_identical y (bottom_of Set) e
 pub same_max : (z : MaxCounter) → is_bottom Max z ≡ true → z ≡ bottom_of Max
 same_max z e = counters_identical _ (λ a b. refl) z (bottom_of Max) e
 
-view_cell : (x : Flat ℤ) → view (of_cell x) ≡ triple x (bottom_of Set) (bottom_of Max)
+pub view_cell : (x : Flat ℤ) → view (of_cell x) ≡ triple x (bottom_of Set) (bottom_of Max)
 view_cell Bottom = refl
 view_cell (Value n) = refl
 
@@ -123,7 +123,7 @@ cover (Cell n) = inl (Value n, refl)
 cover (Set x) = inr (inl (x.state, sym (held_above Set Empty x)))
 cover (Max x) = inr (inr (x.state, sym (held_above Max Empty x)))
 
-within : IsWithin join_kinds view make_part
+pub within : IsWithin join_kinds view make_part
 within = of_three_within cells sets counters_are_join no_cell (is_bottom Set) (is_bottom Max) same_cell same_set same_max refl refl refl of_cell (held Set Empty) (held Max Empty) view view_cell view_set view_max no_set no_max cover
 
 laws : JoinsOfThree Bottom (flat.joined int_eq) set.joined max.joined no_cell (is_bottom Set) (is_bottom Max) of_cell (held Set Empty) (held Max Empty) through
@@ -153,7 +153,7 @@ joins (Max x) (Cell n) = sym (laws.swapped (Max x) (Cell n) ∙ cell_max n x)
 joins (Max x) (Set y) = sym (laws.swapped (Max x) (Set y) ∙ set_max y x)
 joins (Max x) (Max y) = sym ((λ i. through (sym (held_above Max Empty x) i) (sym (held_above Max Empty y) i)) ∙ laws.in_c x.state y.state)
 
-kinds_are_join : IsJoin (triple Bottom (bottom_of Set) (bottom_of Max)) join_kinds
+pub kinds_are_join : IsJoin (triple Bottom (bottom_of Set) (bottom_of Max)) join_kinds
 kinds_are_join = pair_is_join cells (pair_is_join sets counters_are_join)
 
 pub part_is_join : IsJoin Empty joined

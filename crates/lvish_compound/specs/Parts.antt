@@ -1,5 +1,5 @@
 -- The sides of a script's pairs.
-use Rattle.std.specs.Prelude.{ℤ, Bool, true, false, List, [], ◌∷◌, Option, Some, None, option_map}
+use Rattle.std.specs.Prelude.{ℤ, Bool, true, false, ◌&&◌, List, [], ◌∷◌, Option, Some, None, option_map}
 use Rattle.std.specs.Ordering.{int_eq}
 use Rattle.lvish_lattice.specs.declared.flat.Flat.{Flat}
 use Rattle.lvish_lattice.specs.declared.flat.Flat.TheVariants.{Bottom, Value}
@@ -7,10 +7,12 @@ use Rattle.lvish_lattice.specs.Flat as flat
 use Rattle.lvish_lattice.specs.GrowSet as set
 use Rattle.lvish_lattice.specs.MaxCounter as max
 use Rattle.lvish_compound.specs.declared.side_of.SideOf.{SideOf}
+use Rattle.lvish_compound.specs.declared.pair.Pair.{Pair}
 use Rattle.lvish_compound.specs.declared.part.Part.{Part}
 use Rattle.lvish_compound.specs.declared.part.Part.TheVariants.{Empty, Cell, Set, Max}
 use Rattle.lvish_compound.specs.Above.{alike as same}
 use Rattle.lvish_compound.specs.Held.{held}
+use Rattle.lvish_compound.specs.Pair as pair
 use Rattle.lvish_compound.specs.SideEvents.{sides}
 
 -- a cell, empty where it is bottom
@@ -48,3 +50,21 @@ alike (Cell m) (Cell n) = int_eq m n
 alike (Set x) (Set y) = same x y
 alike (Max x) (Max y) = same x y
 alike s t = false
+
+abbrev pub is_empty : Part → Bool
+is_empty Empty = true
+is_empty (Cell n) = false
+is_empty (Set x) = false
+is_empty (Max x) = false
+
+-- whether both sides are empty
+abbrev pub no_sides : Pair Part Part → Bool
+no_sides p = is_empty p.one && is_empty p.two
+
+-- joined side by side
+abbrev pub pairs_joined : Pair Part Part → Pair Part Part → Option (Pair Part Part)
+pairs_joined = pair.joined joined joined
+
+-- by both sides
+abbrev pub pairs_alike : Pair Part Part → Pair Part Part → Bool
+pairs_alike p q = alike p.one q.one && alike p.two q.two

@@ -1,7 +1,6 @@
 -- A lattice within another: states that are some of the other's, with all that is below one of them, and top where a join isn't one of them.
 use Rattle.std.specs.Prelude.{◌≡◌, ◌↔◌, Bool, List, Option, Some, None, option_and_then, unwrap_or, refl}
 use Rattle.std.proofs.Common.{sym, ◌∙◌, ap, subst}
-use Rattle.std.specs.Set.{IsUnion}
 use Rattle.std.specs.declared.cmp.Ordering.{Ordering}
 use Rattle.lvish_lattice.specs.Lattice.{IsJoin, IsBelow, HasEvents}
 

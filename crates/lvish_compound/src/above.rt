@@ -24,6 +24,14 @@ impl<L: Lattice> Above<L> {
         }
     }
 
+    /// A state that isn't bottom.
+    pub(crate) fn rising(state: L) -> Above<L>
+        requires { L.eq state L.least ≡ false }
+        ensures { result.state ≡ state }
+    {
+        Above { state }
+    }
+
     pub fn state(&self) -> &L
         ensures { result.now ≡ self.now.state }
     {

@@ -13,35 +13,47 @@
 //! let answer = MapOf::trigger(&read, &scores);          // Some(5)
 //! ```
 //!
-//! A `Pair` is joined side by side; its events and reads are those of a side. A `OneOf` is a state
-//! of one of two lattices, or of neither: states of different lattices join to top. A `Tagged` is a
-//! lattice whose events go by names of another type. A `Part` is empty, a cell, a set or a counter.
+//! A `Pair` is joined side by side; its events and reads are those of a side. A `Part` is empty, a
+//! cell, a set or a counter, and an `Any` a part, a map or two parts side by side: what a variable
+//! of a script holds. Different kinds join to top. Its events have a key, a kind and a number, and
+//! it is read by an `AnyRead`.
+//!
+//! ```text
+//! let mut state = Any::entry(alloc, 1, 5)?;
+//! let put = Any::entry(alloc, 2, 7)?;
+//! let joined = state.merge(alloc, &put)?;               // true: {1:5 2:7}
+//! let read = AnyRead::new(Place::Key(2), Test::Any)?;
+//! let answer = Any::trigger(&read, &state);             // Some(7)
+//! ```
 #![tactic(auto)]
 
 mod above;
+mod any;
+mod any_events;
+mod any_read;
 mod entries;
 mod event;
 mod keyed;
 mod kind;
 mod map_of;
 mod map_reads;
-mod named;
-mod one_of;
+mod number_test;
 mod pair;
 mod part;
+mod place;
 mod side_of;
-mod tagged;
-#[cfg(test)]
-mod tests;
+mod sides;
 
 pub use above::Above;
+pub use any::{Any, Wrong};
+pub use any_read::AnyRead;
 pub use event::Event;
 pub use kind::Kind;
 pub use map_of::MapOf;
 pub use map_reads::AtKey;
-pub use named::Named;
-pub use one_of::OneOf;
+pub use number_test::Test;
 pub use pair::Pair;
 pub use part::{Part, PartEvent};
+pub use place::Place;
 pub use side_of::SideOf;
-pub use tagged::Tagged;
+pub use sides::Sides;

@@ -1,6 +1,7 @@
 ghost use Rattle.std.specs.Prelude.{◌≡◌, [], IfOk};
 ghost use Rattle.lvish_compound.specs.declared.part.Part.TheVariants.{Empty, Set, Max};
 ghost use Rattle.lvish_compound.specs.Held.{held};
+ghost use Rattle.lvish_compound.specs.Parts.{is_empty};
 ghost use Rattle.lvish_compound.specs.SideEvents.{sides};
 
 use crate::above::Above;
@@ -40,6 +41,15 @@ impl Part {
         match Above::of(alloc, max) {
             Some(max) => Part::Max(max),
             None => Part::Empty,
+        }
+    }
+
+    pub fn is_empty(&self) -> bool
+        ensures { result ≡ is_empty self.now }
+    {
+        match self {
+            Part::Empty => true,
+            _ => false,
         }
     }
 }

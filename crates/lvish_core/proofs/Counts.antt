@@ -1,11 +1,11 @@
 -- How many tasks are live, and their numbers, as tasks change.
-use Rattle.std.proofs.Common.{◌≡◌, ◌⊎◌, inl, inr, ◌↔◌, ◌≤◌, ◌+◌, ◌-◌, ℕ, suc, Bool, true, false, if◌then◌else◌, List, [], ◌∷◌, length, Option, Some, None, refl, sym, ap, subst, ◌∙◌, arith, le_trans}
-use Rattle.std.proofs.lemmas.Bool.{cases_Bool, both_ways}
+use Rattle.std.proofs.Common.{◌≡◌, inl, inr, ◌↔◌, ◌≤◌, ◌+◌, ◌-◌, ℕ, suc, Bool, true, false, if◌then◌else◌, List, [], ◌∷◌, length, Some, refl, sym, ap, subst, ◌∙◌, arith, le_trans}
+use Rattle.std.proofs.lemmas.Bool.{both_ways}
 use Rattle.lvish_calculus.specs.Calculus.{Name, Task, Absent, Live, Ended, State, IsLive, is_live, with_task, same_name}
 use Rattle.lvish_calculus.specs.Handing.{IsAmong, NoRepeats}
 use Rattle.lvish_calculus.specs.Live.{HasLive}
 use Rattle.lvish_calculus.proofs.Names.{cases_name, same_name-true, same_name-refl, with_task-same, with_task-other}
-use Rattle.lvish_core.specs.Kept.{IsCounted}
+use Rattle.lvish_core.specs.Kept.{AreFew}
 
 pub live_is : {L : Type 0} (k : Task L) (l : L) (f a p : ℕ) → k ≡ Live l f a p → IsLive k
 live_is {L} k l f a p e = subst (λ (x : Task L). IsLive x) (sym e) is_live
@@ -138,12 +138,14 @@ module _ {E : Type 0} (eq : E → E → Bool) (is : (a b : E) → (eq a b ≡ tr
       | inr ne ↦ set_other_live u ne
     ]
 
-    pub counted : (n m : ℕ) → IsCounted old n → n ≤ m → ((l : L) (f a p : ℕ) → k ≡ Live l f a p → (f ≤ m) × (p ≤ m)) → IsCounted new m
+    pub counted : (n m : ℕ) → AreFew old n → n ≤ m → ((l : L) (f a p : ℕ) → k ≡ Live l f a p → (f ≤ m) × (a ≤ m) × (p ≤ m)) → AreFew new m
     counted n m was le now u l f a p e = elim (cases_name eq is u t) [
       | inl q ↦ now l f a p (sym (ap new q ∙ set_here) ∙ e)
-      | inr ne ↦ let w = was u l f a p (sym (set_other u ne) ∙ e) in (le_trans w.0 le, le_trans w.1 le)
+      | inr ne ↦ let w = was u l f a p (sym (set_other u ne) ∙ e) in (le_trans w.0 le, le_trans w.1 le, le_trans w.2 le)
     ]
 
 -- numbers of a live task
-pub counts_of : {L : Type 0} (o l : L) (g b q f a p n : ℕ) → g ≤ n → q ≤ n → Live o g b q ≡ Live l f a p → (f ≤ n) × (p ≤ n)
-counts_of o l g b q f a p n le le2 e = let x : g ≡ f = cc in let y : q ≡ p = cc in (subst (λ z. z ≤ n) x le, subst (λ z. z ≤ n) y le2)
+pub numbers_of : {L : Type 0} (o l : L) (g b q f a p n : ℕ) → g ≤ n → b ≤ n → q ≤ n → Live o g b q ≡ Live l f a p → (f ≤ n) × (a ≤ n) × (p ≤ n)
+numbers_of o l g b q f a p n gn bn qn e =
+    let x : g ≡ f = cc in let y : b ≡ a = cc in let z : q ≡ p = cc in
+    (subst (λ k. k ≤ n) x gn, subst (λ k. k ≤ n) y bn, subst (λ k. k ≤ n) z qn)

@@ -1,175 +1,147 @@
--- The labels that are enabled, listed from the tasks in the order of their names.
-use Rattle.std.proofs.Common.{◌≡◌, ◌↔◌, ◌⊎◌, inl, inr, Bool, true, false, if◌then◌else◌, List, [], ◌∷◌, ◌++◌, Option, Some, None, IsSome, is_some, option_map, Ordering, refl, sym, ap, subst, ◌∙◌, append_assoc, append-nil}
-use Rattle.std.specs.declared.cmp.Ordering.TheVariants.{Less, Equal, Greater}
+-- The labels that the core can take, listed from the tasks and the handlers in the order of their names.
+use Rattle.std.proofs.Common.{◌≡◌, ◌↔◌, ◌⊎◌, inl, inr, ℕ, Bool, true, if◌then◌else◌, List, [], ◌∷◌, ◌++◌, Some, Ordering, refl, sym, ap, subst, ◌∙◌, append_assoc, append-nil}
+use Rattle.std.specs.declared.cmp.Ordering.TheVariants.{Less}
 use Rattle.std.specs.Ordering.{is_eq, eq_by_cmp}
 use Rattle.std.specs.List.{AllByRecursion}
 use Rattle.std.specs.List.Sorted.{IsStrictlySortedBy}
-use Rattle.std.proofs.lemmas.Bool.{cases_Bool, both_ways, false≢true}
-use Rattle.lvish_names.specs.NameOrder.{name_cmp}
-use Rattle.lvish_calculus.specs.declared.request.Request.{Request}
-use Rattle.lvish_calculus.specs.declared.request.Request.TheVariants.{Put, Get, Fork, Add, Freeze, Pause, End, Fault as FaultRequest}
-use Rattle.lvish_calculus.specs.declared.request.Reply.{Reply}
-use Rattle.lvish_calculus.specs.declared.request.Reply.TheVariants.{Answer}
+use Rattle.lvish_names.specs.NameOrder.{name_cmp, handler_cmp}
 use Rattle.lvish_calculus.specs.declared.label.Label.{Label}
 use Rattle.lvish_calculus.specs.declared.label.Label.TheVariants.{Task as Act, Hand}
-use Rattle.lvish_calculus.specs.Machine.{Machine, IsLawful}
-use Rattle.lvish_calculus.specs.Calculus.{Name, Task, Absent, Live, Ended, State, Running, Error, IsReady, IsReadyTask, IsEnabled, CanStep, IsEnd, IsEnded, same_name}
+use Rattle.lvish_calculus.specs.Machine.{Machine}
+use Rattle.lvish_calculus.specs.Calculus.{Name, Handler, Task, State, IsReadyTask, same_name, same_handler}
 use Rattle.lvish_calculus.specs.Handing.{IsAmong}
-use Rattle.lvish_calculus.proofs.Names.{same_name-true, same_name-refl}
-use Rattle.lvish_core.specs.declared.fault.Fault.{Fault}
-use Rattle.lvish_core.specs.Core.{View, AsksPlainly, IsPlainRequest, task_of, state, at_fault, picture}
-use Rattle.lvish_core.specs.Labels.{label_cmp, AreLabels}
+use Rattle.lvish_calculus.proofs.Names.{same_name-refl, same_handler-refl}
+use Rattle.lvish_picture.specs.Picture.{Table, task_of}
+use Rattle.lvish_core.specs.declared.place.Place.{Place}
+use Rattle.lvish_core.specs.Core.{View, IsNext, state}
+use Rattle.lvish_core.specs.Places.{place_at, handlers_of}
 use Rattle.lvish_core.specs.Tasks.{names_of}
-use Rattle.lvish_core.specs.Acts.{reply_of, has_reply}
+use Rattle.lvish_core.specs.Kept.{IsKept}
 
-module _ {S E R A L : Type 0} (M : Machine S E R A L) (c : State S E L) where
-  -- the labels of the tasks that are ready
-  abbrev pub ready_labels : List (Name E × Task L) → List (Label E)
-  ready_labels [] = []
-  ready_labels (x ∷ xs) = if has_reply M c x.1 then Act x.0 ∷ ready_labels xs else ready_labels xs
+-- ---- lists
 
-  -- one task more
-  pub listed_more : (ls : List (Label E)) (t : Name E) (k : Task L) (xs : List (Name E × Task L)) → has_reply M c k ≡ true → (ls ++ Act t ∷ []) ++ ready_labels xs ≡ ls ++ ready_labels ((t, k) ∷ xs)
-  listed_more ls t k xs e = append_assoc ls (Act t ∷ []) (ready_labels xs) ∙ ap (λ b. ls ++ (if b then Act t ∷ ready_labels xs else ready_labels xs)) (sym e)
+pub either_among : {X : Type 0} (x : X) (ys zs : List X) → IsAmong x (ys ++ zs) → IsAmong x ys ⊎ IsAmong x zs
+either_among x [] zs i = inr i
+either_among x (y ∷ ys) zs (inl e) = inl (inl e)
+either_among x (y ∷ ys) zs (inr i) = elim (either_among x ys zs i) [
+  | inl a ↦ inl (inr a)
+  | inr b ↦ inr b
+]
 
-  pub listed_less : (ls : List (Label E)) (t : Name E) (k : Task L) (xs : List (Name E × Task L)) → has_reply M c k ≡ false → ls ++ ready_labels xs ≡ ls ++ ready_labels ((t, k) ∷ xs)
-  listed_less ls t k xs e = ap (λ b. ls ++ (if b then Act t ∷ ready_labels xs else ready_labels xs)) (sym e)
+pub among_first : {X : Type 0} (x : X) (ys zs : List X) → IsAmong x ys → IsAmong x (ys ++ zs)
+among_first x [] zs i = absurd i
+among_first x (y ∷ ys) zs (inl e) = inl e
+among_first x (y ∷ ys) zs (inr i) = inr (among_first x ys zs i)
 
-  abbrev answer_to : Option A → Option (Reply S A)
-  answer_to o = option_map (λ x. Answer x) o
+pub among_last : {X : Type 0} (x : X) (ys zs : List X) → IsAmong x zs → IsAmong x (ys ++ zs)
+among_last x [] zs i = i
+among_last x (y ∷ ys) zs i = inr (among_last x ys zs i)
 
-  answered : (o : Option A) → (is_some (answer_to o) ≡ true) ↔ IsSome o
-  answered None = (λ e. e, λ e. e)
-  answered (Some x) = (λ e. refl, λ e. refl)
+all_append : {X : Type 0} (P : X → Type 0) (xs ys : List X) → AllByRecursion P xs → AllByRecursion P ys → AllByRecursion P (xs ++ ys)
+all_append P [] ys a b = b
+all_append P (x ∷ xs) ys a b = (a.0, all_append P xs ys a.1 b)
 
-  ready_request : (r : Request S R L) → IsPlainRequest r → (is_some (reply_of M c r) ≡ true) ↔ IsReady M c r
-  ready_request (Put v d) p = (λ e. tt, λ e. refl)
-  ready_request (Get v r) p = answered (M.answer r (c.content v))
-  ready_request (Fork l) p = (λ e. tt, λ e. refl)
-  ready_request (Add v q) p = (λ e. tt, λ e. refl)
-  ready_request (Freeze v ps) p = absurd p
-  ready_request Pause p = (λ e. tt, λ e. refl)
-  ready_request End p = (λ e. tt, λ e. refl)
-  ready_request (FaultRequest k) p = (λ e. tt, λ e. refl)
+pub all_always : {X : Type 0} (P : X → Type 0) → (xs : List X) → ((x : X) → IsAmong x xs → P x) → AllByRecursion P xs
+all_always P [] f = tt
+all_always P (x ∷ xs) f = (f x (inl refl), all_always P xs (λ y i. f y (inr i)))
 
-  -- a task has a reply where it is ready
-  pub ready_task : AsksPlainly M → (k : Task L) → (has_reply M c k ≡ true) ↔ IsReadyTask M c k
-  ready_task plain Absent = (λ e. absurd (false≢true e), λ e. absurd e)
-  ready_task plain (Live l f a p) = ready_request (M.request l) (plain l)
-  ready_task plain Ended = (λ e. absurd (false≢true e), λ e. absurd e)
-
-  -- every ready task is listed
-  pub complete : ((a b : E) → (M.event_same a b ≡ true) ↔ (a ≡ b)) → (xs : List (Name E × Task L)) (t : Name E) → has_reply M c (task_of M.event_same xs t) ≡ true → IsAmong (Act t) (ready_labels xs)
-  complete is [] t e = false≢true e
-  complete is (x ∷ xs) t e = by (complete is xs t) (same_name M.event_same t x.0) refl (has_reply M c x.1) refl e
-    where
-      by : (has_reply M c (task_of M.event_same xs t) ≡ true → IsAmong (Act t) (ready_labels xs)) → (b : Bool) → same_name M.event_same t x.0 ≡ b → (h : Bool) → has_reply M c x.1 ≡ h
-          → has_reply M c (if b then x.1 else task_of M.event_same xs t) ≡ true → IsAmong (Act t) (if h then Act x.0 ∷ ready_labels xs else ready_labels xs)
-      by ih true s true h e = inl (ap Act (same_name-true M.event_same is t x.0 s))
-      by ih true s false h e = absurd (both_ways _ h e)
-      by ih false s true h e = inr (ih e)
-      by ih false s false h e = ih e
-
-  module _ (cmp : E → E → Ordering) (ties : (t u : Name E) → same_name M.event_same t u ≡ eq_by_cmp (name_cmp cmp) t u) where
-    -- no task stands under a name below all names
-    below_all : (t : Name E) (xs : List (Name E × Task L)) → AllByRecursion (λ u. name_cmp cmp t u ≡ Less) (names_of xs) → task_of M.event_same xs t ≡ Absent
-    below_all t [] h = refl
-    below_all t (x ∷ xs) h = ap (λ b. if b then x.1 else task_of M.event_same xs t) (ties t x.0 ∙ ap is_eq h.0) ∙ below_all t xs h.1
-
-    -- what is listed is a ready task
-    pub sound : ((a b : E) → (M.event_same a b ≡ true) ↔ (a ≡ b)) → (xs : List (Name E × Task L)) → IsStrictlySortedBy (name_cmp cmp) (names_of xs) → (l : Label E) → IsAmong l (ready_labels xs)
-        → (t : Name E) × (l ≡ Act t) × (has_reply M c (task_of M.event_same xs t) ≡ true)
-    unfolding IsStrictlySortedBy
-    sound is [] s l h = absurd h
-    sound is (x ∷ xs) s l h = by (sound is xs s.1 l) (has_reply M c x.1) refl h
-      where
-        later : (t : Name E) → has_reply M c (task_of M.event_same xs t) ≡ true → (b : Bool) → same_name M.event_same t x.0 ≡ b → has_reply M c (if b then x.1 else task_of M.event_same xs t) ≡ true
-        later t e true q = absurd (both_ways _ (ap (has_reply M c) (ap (task_of M.event_same xs) (same_name-true M.event_same is t x.0 q) ∙ below_all x.0 xs s.0)) e)
-        later t e false q = e
-
-        by : (IsAmong l (ready_labels xs) → (t : Name E) × (l ≡ Act t) × (has_reply M c (task_of M.event_same xs t) ≡ true))
-            → (b : Bool) → has_reply M c x.1 ≡ b → IsAmong l (if b then Act x.0 ∷ ready_labels xs else ready_labels xs)
-            → (t : Name E) × (l ≡ Act t) × (has_reply M c (if same_name M.event_same t x.0 then x.1 else task_of M.event_same xs t) ≡ true)
-        by ih true e (inl q) = (x.0, q, ap (λ b. has_reply M c (if b then x.1 else task_of M.event_same xs x.0)) (same_name-refl M.event_same is x.0) ∙ e)
-        by ih true e (inr z) = let r = ih z in (r.0, r.1, later r.0 r.2 (same_name M.event_same r.0 x.0) refl)
-        by ih false e z = let r = ih z in (r.0, r.1, later r.0 r.2 (same_name M.event_same r.0 x.0) refl)
-
-    above : (t : Name E) (xs : List (Name E × Task L)) → AllByRecursion (λ u. name_cmp cmp t u ≡ Less) (names_of xs) → AllByRecursion (λ l. label_cmp cmp (Act t) l ≡ Less) (ready_labels xs)
-    above t [] h = h
-    above t (x ∷ xs) h = by (above t xs h.1) (has_reply M c x.1)
-      where
-        by : AllByRecursion (λ l. label_cmp cmp (Act t) l ≡ Less) (ready_labels xs) → (b : Bool) → AllByRecursion (λ l. label_cmp cmp (Act t) l ≡ Less) (if b then Act x.0 ∷ ready_labels xs else ready_labels xs)
-        by ih true = (h.0, ih)
-        by ih false = ih
-
-    -- they are in order
-    pub ascends : (xs : List (Name E × Task L)) → IsStrictlySortedBy (name_cmp cmp) (names_of xs) → IsStrictlySortedBy (label_cmp cmp) (ready_labels xs)
-    unfolding IsStrictlySortedBy
-    ascends [] s = s
-    ascends (x ∷ xs) s = by (ascends xs s.1) (has_reply M c x.1)
-      where
-        by : IsStrictlySortedBy (label_cmp cmp) (ready_labels xs) → (b : Bool) → IsStrictlySortedBy (label_cmp cmp) (if b then Act x.0 ∷ ready_labels xs else ready_labels xs)
-        by ih true = (above x.0 xs s.0, ih)
-        by ih false = ih
-
-module _ {P S E R A L : Type 0} (M : Machine S E R A L) (cmp : E → E → Ordering) (ok : IsLawful M) (ties : (t u : Name E) → same_name M.event_same t u ≡ eq_by_cmp (name_cmp cmp) t u)
-    (plain : AsksPlainly M) (c : View P S E L) (no_fault : is_some c.fault ≡ false) (ascending : IsStrictlySortedBy (name_cmp cmp) (names_of c.tasks)) where
-  at_none : (q : Option (Fault E)) → is_some q ≡ false → q ≡ None
-  at_none None e = refl
-  at_none (Some f) e = absurd (false≢true (sym e))
-
-  can_step : (l : Label E) → CanStep M (picture M c) l ↔ IsEnabled M (state M c) l
-  can_step l = (
-    λ z. subst (λ q. CanStep M (at_fault (state M c) q) l) (at_none c.fault no_fault) z,
-    λ z. subst (λ q. CanStep M (at_fault (state M c) q) l) (sym (at_none c.fault no_fault)) z,
-  )
-
-  enabled_is_listed : (l : Label E) → IsEnabled M (state M c) l → IsAmong l (ready_labels M (state M c) c.tasks)
-  enabled_is_listed (Act t) z = complete M (state M c) ok.event_same_is c.tasks t ((ready_task M (state M c) plain (task_of M.event_same c.tasks t)).1 z)
-  enabled_is_listed (Hand h e) z = let on = z.on in absurd (cc on.is)
-
-  listed_is_enabled : (l : Label E) → IsAmong l (ready_labels M (state M c) c.tasks) → IsEnabled M (state M c) l
-  listed_is_enabled l z =
-      let r = sound M (state M c) cmp ties ok.event_same_is c.tasks ascending l z in
-      subst (λ x. IsEnabled M (state M c) x) (sym r.1) ((ready_task M (state M c) plain (task_of M.event_same c.tasks r.0)).0 r.2)
-
-  -- just the labels that are enabled, once no task is left
-  pub are_labels : (ls : List (Label E)) (rest : List (Name E × Task L)) → ls ++ ready_labels M (state M c) rest ≡ ready_labels M (state M c) c.tasks → rest ≡ [] → AreLabels cmp M (picture M c) ls
-  are_labels ls rest is none =
-      let all : ls ≡ ready_labels M (state M c) c.tasks = sym (append-nil ls) ∙ ap (λ (x : List (Name E × Task L)). ls ++ ready_labels M (state M c) x) (sym none) ∙ is in
-      subst (λ (x : List (Label E)). AreLabels cmp M (picture M c) x) (sym all) (record {
-        ascending = ascends M (state M c) cmp ties c.tasks ascending;
-        just = λ l. (λ z. (can_step l).1 (listed_is_enabled l z), λ z. enabled_is_listed l ((can_step l).0 z));
-      })
-
-  ended_by : (q : Option (Fault E)) → q ≡ None → IsEnd M (state M c) ↔ IsEnded M (at_fault (state M c) q)
-  ended_by None e = (λ z. z, λ z. z)
-  ended_by (Some f) e = absurd (cc e)
-
-  -- nothing is enabled where no task is listed
-  pub ends : (rest : List (Name E × Task L)) → ready_labels M (state M c) rest ≡ ready_labels M (state M c) c.tasks → rest ≡ [] → IsEnded M (picture M c)
-  ends rest is none = (ended_by c.fault (at_none c.fault no_fault)).0
-      (λ l z. subst (λ (x : List (Label E)). IsAmong l x) (sym is ∙ ap (ready_labels M (state M c)) none) (enabled_is_listed l z))
-
-  -- something is, where a task is
-  pub goes_on : (t : Name E) (k : Task L) (rest : List (Name E × Task L)) → ready_labels M (state M c) ((t, k) ∷ rest) ≡ ready_labels M (state M c) c.tasks → has_reply M (state M c) k ≡ true → IsEnded M (picture M c) → ⊥
-  goes_on t k rest is ready end =
-      let one : ready_labels M (state M c) c.tasks ≡ Act t ∷ ready_labels M (state M c) rest = sym is ∙ ap (λ b. if b then Act t ∷ ready_labels M (state M c) rest else ready_labels M (state M c) rest) ready in
-      (ended_by c.fault (at_none c.fault no_fault)).1 end (Act t) (listed_is_enabled (Act t) (subst (λ (x : List (Label E)). IsAmong (Act t) x) (sym one) (inl refl)))
-
--- after an error there is no end
-pub no_end : {P S E R A L : Type 0} (M : Machine S E R A L) (c : View P S E L) → is_some c.fault ≡ true → IsEnded M (picture M c) → ⊥
-no_end {P} {S} {E} {R} {A} {L} M c fault = nothing c.fault fault
-  where
-    nothing : (q : Option (Fault E)) → is_some q ≡ true → IsEnded M (at_fault (state M c) q) → ⊥
-    nothing None e z = false≢true e
-    nothing (Some f) e z = z
-
--- after an error there is none
-pub no_labels : {P S E R A L : Type 0} (M : Machine S E R A L) (cmp : E → E → Ordering) (c : View P S E L) → is_some c.fault ≡ true → AreLabels cmp M (picture M c) []
+pub sorted_append : {X : Type 0} (cmp : X → X → Ordering) (xs ys : List X) → IsStrictlySortedBy cmp xs → IsStrictlySortedBy cmp ys → ((x y : X) → IsAmong x xs → IsAmong y ys → cmp x y ≡ Less) → IsStrictlySortedBy cmp (xs ++ ys)
 unfolding IsStrictlySortedBy
-no_labels {P} {S} {E} {R} {A} {L} M cmp c fault = record { ascending = tt; just = λ l. (λ z. absurd z, λ z. nothing c.fault fault l z) }
-  where
-    nothing : (q : Option (Fault E)) → is_some q ≡ true → (l : Label E) → CanStep M (at_fault (state M c) q) l → IsAmong l []
-    nothing None e l z = absurd (false≢true e)
-    nothing (Some f) e l z = z
+sorted_append cmp [] ys s t between = t
+sorted_append cmp (x ∷ xs) ys s t between = (
+  all_append (λ y. cmp x y ≡ Less) xs ys s.0 (all_always (λ y. cmp x y ≡ Less) ys (λ y i. between x y (inl refl) i)),
+  sorted_append cmp xs ys s.1 t (λ z y i j. between z y (inr i) j),
+)
+
+-- ---- tables in the order of their names
+
+module _ {E : Type 0} (eq : E → E → Bool) (is : (a b : E) → (eq a b ≡ true) ↔ (a ≡ b)) (cmp : E → E → Ordering) where
+  -- in a table without repeats each entry is found under its name
+  pub each_task : {L : Type 0} → ((t u : Name E) → same_name eq t u ≡ same_name eq u t) → ((t u : Name E) → same_name eq t u ≡ eq_by_cmp (name_cmp cmp) t u)
+      → (xs : List (Name E × Task L)) → IsStrictlySortedBy (name_cmp cmp) (names_of xs) → AllByRecursion (λ x. task_of eq xs x.0 ≡ x.1) xs
+  unfolding IsStrictlySortedBy
+  each_task symm ties [] s = tt
+  each_task {L} symm ties (x ∷ xs) s = (
+    ap (λ b. if b then x.1 else task_of eq xs x.0) (same_name-refl eq is x.0),
+    behind xs s.0 (each_task symm ties xs s.1),
+  )
+    where
+      behind : (ys : List (Name E × Task L)) → AllByRecursion (λ u. name_cmp cmp x.0 u ≡ Less) (names_of ys) → AllByRecursion (λ y. task_of eq xs y.0 ≡ y.1) ys → AllByRecursion (λ y. task_of eq (x ∷ xs) y.0 ≡ y.1) ys
+      behind [] less all = tt
+      behind (y ∷ ys) less all = (
+        ap (λ b. if b then x.1 else task_of eq xs y.0) (symm y.0 x.0 ∙ ties x.0 y.0 ∙ ap is_eq less.0) ∙ all.0,
+        behind ys less.1 all.1,
+      )
+
+  pub each_place : ((h g : Handler E) → same_handler eq h g ≡ same_handler eq g h) → ((h g : Handler E) → same_handler eq h g ≡ eq_by_cmp (handler_cmp cmp) h g)
+      → (xs : List (Handler E × Place)) → IsStrictlySortedBy (handler_cmp cmp) (handlers_of xs) → AllByRecursion (λ x. place_at eq xs x.0 ≡ Some x.1) xs
+  unfolding IsStrictlySortedBy
+  each_place symm ties [] s = tt
+  each_place symm ties (x ∷ xs) s = (
+    ap (λ b. if b then Some x.1 else place_at eq xs x.0) (same_handler-refl eq is x.0),
+    behind xs s.0 (each_place symm ties xs s.1),
+  )
+    where
+      behind : (ys : List (Handler E × Place)) → AllByRecursion (λ h. handler_cmp cmp x.0 h ≡ Less) (handlers_of ys) → AllByRecursion (λ y. place_at eq xs y.0 ≡ Some y.1) ys → AllByRecursion (λ y. place_at eq (x ∷ xs) y.0 ≡ Some y.1) ys
+      behind [] less all = tt
+      behind (y ∷ ys) less all = (
+        ap (λ b. if b then Some x.1 else place_at eq xs y.0) (symm y.0 x.0 ∙ ties x.0 y.0 ∙ ap is_eq less.0) ∙ all.0,
+        behind ys less.1 all.1,
+      )
+
+-- ---- labels, in the order of a table
+
+module _ {S E R A L : Type 0} (M : Machine S E R A L) (s : State S E L) where
+  -- the labels of just the ready tasks of the list, in its order
+  abbrev pub TaskLabels : List (Name E × Task L) → List (Label E) → Type 0
+  TaskLabels [] ls = ls ≡ []
+  TaskLabels (x ∷ xs) ls = (IsReadyTask M s x.1 × ((ms : List (Label E)) × (ls ≡ Act x.0 ∷ ms) × TaskLabels xs ms)) ⊎ ((IsReadyTask M s x.1 → ⊥) × TaskLabels xs ls)
+
+  -- with those of the rest, the labels so far are those of all
+  abbrev pub TasksListed : List (Name E × Task L) → List (Name E × Task L) → List (Label E) → Type 0
+  TasksListed all rest so_far = (ms : List (Label E)) → TaskLabels rest ms → TaskLabels all (so_far ++ ms)
+
+module _ {S E L : Type 0} (eq : E → E → Bool) (c : Table S E L) where
+  -- the labels of just the handlers of the list for which an event comes next, in its order
+  abbrev pub HandLabels : List (Handler E × Place) → List (Label E) → Type 0
+  HandLabels [] ls = ls ≡ []
+  HandLabels (x ∷ xs) ls =
+      ((e : E) × IsNext eq c x.0 e × ((ms : List (Label E)) × (ls ≡ Hand x.0 e ∷ ms) × HandLabels xs ms))
+      ⊎ (((e : E) → IsNext eq c x.0 e → ⊥) × HandLabels xs ls)
+
+  -- with those of the rest, the labels so far are the first ones and those of all
+  abbrev pub HandsListed : List (Handler E × Place) → List (Handler E × Place) → List (Label E) → List (Label E) → Type 0
+  HandsListed all rest first so_far = (ms : List (Label E)) → HandLabels rest ms → (hs : List (Label E)) × HandLabels all hs × (so_far ++ ms ≡ first ++ hs)
+
+module _ {P S E R A L : Type 0} (M : Machine S E R A L) (n running : ℕ) (places : List (Handler E × Place)) (c : View P S E L) (k : IsKept M n running places c) where
+  -- one task more, which is ready or isn't
+  pub task_listed : (t : Name E) (x : Task L) (rest : List (Name E × Task L)) (ls : List (Label E)) → TasksListed M (state M c) c.table.tasks ((t, x) ∷ rest) ls → IsReadyTask M (state M c) x
+      → TasksListed M (state M c) c.table.tasks rest (ls ++ Act t ∷ [])
+  task_listed t x rest ls so_far ready ms z = subst (λ (ys : List (Label E)). TaskLabels M (state M c) c.table.tasks ys) (sym (append_assoc ls (Act t ∷ []) ms)) (so_far (Act t ∷ ms) (inl (ready, (ms, refl, z))))
+
+  pub task_passed : (t : Name E) (x : Task L) (rest : List (Name E × Task L)) (ls : List (Label E)) → TasksListed M (state M c) c.table.tasks ((t, x) ∷ rest) ls → (IsReadyTask M (state M c) x → ⊥)
+      → TasksListed M (state M c) c.table.tasks rest ls
+  task_passed t x rest ls so_far waits ms z = so_far ms (inr (waits, z))
+
+  pub all_tasks_listed : (rest : List (Name E × Task L)) (ls : List (Label E)) → TasksListed M (state M c) c.table.tasks rest ls → rest ≡ [] → TaskLabels M (state M c) c.table.tasks ls
+  all_tasks_listed rest ls so_far none =
+      subst (λ (ys : List (Label E)). TaskLabels M (state M c) c.table.tasks ys) (append-nil ls) (so_far [] (subst (λ (xs : List (Name E × Task L)). TaskLabels M (state M c) xs []) (sym none) refl))
+
+  -- one handler more, for which an event comes next or none does
+  pub hands_begun : (first : List (Label E)) → HandsListed M.event_same c.table places places first first
+  hands_begun first ms z = (ms, z, refl)
+
+  pub hand_listed : (h : Handler E) (p : Place) (rest : List (Handler E × Place)) (first ls : List (Label E)) → HandsListed M.event_same c.table places ((h, p) ∷ rest) first ls → (e : E) → IsNext M.event_same c.table h e
+      → HandsListed M.event_same c.table places rest first (ls ++ Hand h e ∷ [])
+  hand_listed h p rest first ls so_far e next ms z =
+      let q = so_far (Hand h e ∷ ms) (inl (e, next, (ms, refl, z))) in
+      (q.0, q.1, append_assoc ls (Hand h e ∷ []) ms ∙ q.2)
+
+  pub hand_passed : (h : Handler E) (p : Place) (rest : List (Handler E × Place)) (first ls : List (Label E)) → HandsListed M.event_same c.table places ((h, p) ∷ rest) first ls → ((e : E) → IsNext M.event_same c.table h e → ⊥)
+      → HandsListed M.event_same c.table places rest first ls
+  hand_passed h p rest first ls so_far none ms z = so_far ms (inr (none, z))
+
+  pub all_hands_listed : (rest : List (Handler E × Place)) (first ls : List (Label E)) → HandsListed M.event_same c.table places rest first ls → rest ≡ [] → (hs : List (Label E)) × HandLabels M.event_same c.table places hs × (ls ≡ first ++ hs)
+  all_hands_listed rest first ls so_far none =
+      let q = so_far [] (subst (λ (xs : List (Handler E × Place)). HandLabels M.event_same c.table xs []) (sym none) refl) in
+      (q.0, q.1, sym (append-nil ls) ∙ q.2)

@@ -1,12 +1,12 @@
 -- A map of stages by name, and the list of tasks that it stands for.
-use Rattle.std.proofs.Common.{◌≡◌, Bool, true, false, cond, if◌then◌else◌, List, [], ◌∷◌, Option, Some, None, Ordering, map, refl, sym, ap, ◌∙◌}
+use Rattle.std.proofs.Common.{◌≡◌, Bool, true, false, cond, if◌then◌else◌, List, [], ◌∷◌, Option, Some, None, Ordering, refl, sym, ap, ◌∙◌}
 use Rattle.std.specs.Ordering.{eq_by_cmp}
 use Rattle.std.specs.BTreeMap.{is_at}
 use Rattle.std.specs.Map.{lookup, keys_of}
 use Rattle.lvish_names.specs.NameOrder.{name_cmp}
 use Rattle.lvish_calculus.specs.Calculus.{Name, Task, Absent, same_name}
 use Rattle.lvish_core.specs.declared.stage.Stage.{Stage}
-use Rattle.lvish_core.specs.Core.{task_of}
+use Rattle.lvish_picture.specs.Picture.{task_of}
 use Rattle.lvish_core.specs.Tasks.{Sets, standing, standing_at, standings, names_of}
 
 picks : {L : Type 0} (b : Bool) (s : Stage L) (r : Task L) (o : Option (Stage L)) → r ≡ standing_at o → (if b then standing s else r) ≡ standing_at (cond b (Some s) o)

@@ -1,63 +1,52 @@
 -- What the parts of a step take and leave.
-use Rattle.std.specs.Prelude.{◌≡◌, ◌<◌, ℕ, Bool, true, false, List, Option, Some, None, Result, MatchResult, slice_get, slice_set, option_map, is_some}
+use Rattle.std.specs.Prelude.{◌≡◌, ◌<◌, ℕ, Option, None, Result, MatchResult}
+use Rattle.lvish_calculus.specs.declared.label.Label.{Label}
 use Rattle.lvish_calculus.specs.declared.label.Label.TheVariants.{Task as Act}
-use Rattle.lvish_calculus.specs.declared.request.Request.{Request}
-use Rattle.lvish_calculus.specs.declared.request.Request.TheVariants.{Get, Freeze}
-use Rattle.lvish_calculus.specs.declared.request.Reply.{Reply}
-use Rattle.lvish_calculus.specs.declared.request.Reply.TheVariants.{Done, Answer}
-use Rattle.lvish_calculus.specs.Machine.{Machine}
-use Rattle.lvish_calculus.specs.Calculus.{Name, Live, State, Task, Absent, Ended, Changes, Fails, IsReady, request_outcome, just}
-use Rattle.lvish_calculus.specs.Program.{IsReplyTo}
 use Rattle.lvish_calculus.specs.declared.request.ErrorKind.{ErrorKind}
+use Rattle.lvish_calculus.specs.declared.request.Request.{Request}
+use Rattle.lvish_calculus.specs.Machine.{Machine}
+use Rattle.lvish_calculus.specs.declared.request.Reply.{Reply}
+use Rattle.lvish_calculus.specs.Calculus.{Name, Live, Changes, IsReady, request_outcome, just}
+use Rattle.lvish_calculus.specs.Program.{IsReplyTo}
+use Rattle.lvish_picture.specs.Steps.{IsAsking, IsErring}
 use Rattle.lvish_core.specs.declared.fault.Stepped.{Stepped}
 use Rattle.lvish_core.specs.declared.fault.StepFault.{StepFault}
 use Rattle.lvish_core.specs.declared.fault.StepFault.TheVariants.{Memory}
-use Rattle.lvish_core.specs.Core.{View, IsStep, state, task_of}
+use Rattle.lvish_core.specs.declared.moved.Moved.{Moved}
+use Rattle.lvish_core.specs.Core.{View, IsStep, state}
+use Rattle.lvish_core.specs.Changes.{IsMoved}
 
--- there is no error and room for a step, and the task t asks for r, in the local state `at`
-pub record IsAsking {P S E R A L : Type 0} (M : Machine S E R A L) (c : View P S E L) (t : Name E) (at : L) (f a p : ℕ) (r : Request S R L) : Type 0 where
+-- there is no error and room for a step, and t's request r, made in the local state at, is ready
+pub record IsActing {P S E R A L : Type 0} (M : Machine S E R A L) (c : View P S E L) (t : Name E) (at : L) (f a p : ℕ) (r : Request S R L) : Type 0 where
   pub no_fault : c.fault ≡ None
   pub room : c.steps < 1000000
   pub local : L
-  pub is : task_of M.event_same c.tasks t ≡ Live local f a p
-  pub asked : M.request local ≡ r
-  pub at_is : M.at local ≡ at
+  pub asking : IsAsking M c.table t local f a p r
+  pub at_is : at ≡ M.at local
+  pub ready : IsReady M (state M c) r
 
 -- t asks for what changes nothing but its local state, by this reply
 pub record IsAnswered {P S E R A L : Type 0} (M : Machine S E R A L) (c : View P S E L) (t : Name E) (at : L) (f a p : ℕ) (reply : Reply S A) : Type 0 where
   pub request : Request S R L
-  pub asking : IsAsking M c t at f a p request
-  pub ready : IsReady M (state M c) request
+  pub acting : IsActing M c t at f a p request
   pub fits : IsReplyTo request reply
   pub does : request_outcome M (state M c) t at f a p request ≡ Changes (just t (Live (M.resume at reply) f a p))
 
--- t asks for what gives this error
+-- t's request is this error
 pub record IsFailing {P S E R A L : Type 0} (M : Machine S E R A L) (c : View P S E L) (t : Name E) (kind : ErrorKind) (v : Option ℕ) : Type 0 where
   pub at : L
   pub forks : ℕ
   pub adds : ℕ
   pub puts : ℕ
   pub request : Request S R L
-  pub asking : IsAsking M c t at forks adds puts request
-  pub ready : IsReady M (state M c) request
-  pub does : request_outcome M (state M c) t at forks adds puts request ≡ Fails kind v t
+  pub acting : IsActing M c t at forks adds puts request
+  pub errs : IsErring M c.table t request kind v
+
+-- a step with the label was made, and this was moved by it
+pub record IsMoving {P S E R A L : Type 0} (M : Machine S E R A L) (old : View P S E L) (l : Label E) (new : View P S E L) (said : Stepped) (moved : Moved E L) : Type 0 where
+  pub step : IsStep M old l new said
+  pub change : IsMoved M (state M old) l moved
 
 -- t made its step, or memory was wanted and the core is as it was
-abbrev pub Acts : {P S E R A L : Type 0} → Machine S E R A L → View P S E L → Name E → View P S E L → Result Stepped StepFault → Type 0
-Acts M old t new r = MatchResult r (λ s. IsStep M old (Act t) new s) (λ e. (e ≡ Memory) × (new ≡ old))
-
--- the reply to a request that is ready
-abbrev pub reply_of : {S E R A L : Type 0} → Machine S E R A L → State S E L → Request S R L → Option (Reply S A)
-reply_of M c (Get v r) = option_map (λ x. Answer x) (M.answer r (c.content v))
-reply_of M c (Freeze v pools) = None
-reply_of M c _ = Some Done
-
-abbrev pub has_reply : {S E R A L : Type 0} → Machine S E R A L → State S E L → Task L → Bool
-has_reply M c (Live l f a p) = is_some (reply_of M c (M.request l))
-has_reply M c Absent = false
-has_reply M c Ended = false
-
--- d is joined to the v-th state, or nothing is changed where the join is top
-abbrev pub JoinsAt : {S : Type 0} → (S → S → Option S) → List S → ℕ → S → Bool → List S → Type 0
-JoinsAt {S} join old v d true new = (c : S) × (s : S) × (slice_get old v ≡ Some c) × (join c d ≡ Some s) × (new ≡ slice_set old v s)
-JoinsAt {S} join old v d false new = (c : S) × (slice_get old v ≡ Some c) × (join c d ≡ None) × (new ≡ old)
+abbrev pub Acts : {P S E R A L : Type 0} → Machine S E R A L → View P S E L → Name E → View P S E L → Result (Stepped × Moved E L) StepFault → Type 0
+Acts M old t new r = MatchResult r (λ s. IsMoving M old (Act t) new s.0 s.1) (λ e. (e ≡ Memory) × (new ≡ old))

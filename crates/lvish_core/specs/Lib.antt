@@ -1,5 +1,11 @@
+pub mod Changes
 pub mod Core
+pub mod Reads
 pub mod Labels
 pub mod Tasks
+pub mod Places
 pub mod Kept
 pub mod Acts
+pub mod Handed
+pub mod Beside
+pub mod CoreLaws

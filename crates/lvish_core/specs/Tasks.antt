@@ -1,9 +1,9 @@
 -- The tasks of a core under their names.
 use Rattle.std.specs.Prelude.{◌≡◌, Bool, List, Option, Some, None, map}
 use Rattle.lvish_calculus.specs.Calculus.{Name, Task, Absent, Live, Ended, with_task}
+use Rattle.lvish_picture.specs.Picture.{task_of}
 use Rattle.lvish_core.specs.declared.stage.Stage.{Stage}
 use Rattle.lvish_core.specs.declared.stage.Stage.TheVariants.{Live as LiveStage, Ended as EndedStage}
-use Rattle.lvish_core.specs.Core.{task_of}
 
 -- the task that a stage stands for
 abbrev pub standing : {L : Type 0} → Stage L → Task L

@@ -2,17 +2,39 @@
 //!
 //! A [`Core`] borrows its program. `labels` lists the steps that can be made, `step` makes one;
 //! each is one step of the calculus, so whatever is called, the core stands for the last
-//! configuration of a run of exactly `steps()` labels.
+//! configuration of a run of exactly `steps()` labels. That run hands each handler the events of
+//! its variable in the order in which they were put.
+//!
+//! ```
+//! let mut core = Core::new(alloc, &program)?;
+//! while !core.is_ended(alloc)? {
+//!     let labels = core.labels(alloc)?;
+//!     // Any of them, in any order.
+//!     let Some(label) = labels.first() else { break };
+//!     if let Stepped::Error(_) = core.step(alloc, label)? {
+//!         break;
+//!     }
+//! }
+//! ```
 #![tactic(auto)]
 
-mod contents;
+mod begun;
+mod beside;
 mod fault;
+pub mod laws;
 mod machine;
+mod moved;
+mod place;
+mod places;
+mod pools;
 mod runs;
+mod seat;
 mod stage;
 mod tasks;
+mod touched;
 
 pub use fault::{Fault, StepFault, Stepped};
 pub use machine::Core;
+pub use moved::{Made, Moved};
 pub use runs::Runs;
-pub use stage::Stage;
+pub use touched::Touched;

@@ -1,3 +1,7 @@
+ghost use Rattle.std.specs.Prelude.{◌≡◌};
+ghost use Rattle.lvish_calculus.specs.Calculus.{Live};
+ghost use Rattle.lvish_core.specs.Tasks.{standing};
+
 /// What runs under a task's name.
 #[derive(Debug, Drop)]
 pub enum Stage<L> {
@@ -9,4 +13,26 @@ pub enum Stage<L> {
         puts: u64,
     },
     Ended,
+}
+
+impl<L> Stage<L> {
+    /// A task that has made no step.
+    pub(crate) fn started(local: L) -> Self
+        ensures { standing result ≡ Live local 0 0 0 }
+    {
+        Stage::Live {
+            local,
+            forks: 0,
+            adds: 0,
+            puts: 0,
+        }
+    }
+}
+
+/// How many tasks a task forked, how many handlers it added, and how many puts it made.
+#[derive(Clone, Copy, Debug, PartialEq, Eq)]
+pub struct Numbers {
+    pub forks: u64,
+    pub adds: u64,
+    pub puts: u64,
 }

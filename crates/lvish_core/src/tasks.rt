@@ -2,7 +2,7 @@ ghost use Rattle.std.specs.Prelude.{◌≡◌, [], MatchResult, option_copied};
 ghost use Rattle.std.specs.List.Sorted.{IsStrictlySortedBy};
 ghost use Rattle.lvish_names.specs.NameOrder.{name_cmp};
 ghost use Rattle.lvish_calculus.specs.Calculus.{Absent};
-ghost use Rattle.lvish_core.specs.Core.{task_of};
+ghost use Rattle.lvish_picture.specs.Picture.{task_of};
 ghost use Rattle.lvish_core.specs.Tasks.{Sets, standing, standing_at, standings, names_of};
 
 use crate::stage::Stage;

@@ -1,15 +1,15 @@
-mod Lists
+pub mod Lists
 mod Ways
-mod Orders
+pub mod Orders
 mod Seats
 mod Handed
-mod Slots
-mod Tables
+pub mod Slots
+pub mod Tables
 mod Kept
 mod Acts
-mod Hands
+pub mod Hands
 mod Ordered
-mod Cursors
+pub mod Cursors
 mod Fresh
 mod Running
 mod Counted

@@ -1,4 +1,5 @@
 mod Walks
 mod Reports
 mod Texts
-mod Plainly
+pub mod Braces
+mod Alikes

@@ -1,5 +1,5 @@
 -- The report of a walk is honest.
-use Rattle.std.proofs.Common.{◌≡◌, ◌⊎◌, inl, inr, ℕ, suc, zero, ◌+◌, ◌≤◌, ◌<◌, ◌==◌, List, [], ◌∷◌, ◌++◌, map, length, Option, Some, None, slice_get, sum, cond, false, Result, Ok, Err, IfOk, refl, sym, ap, ◌∙◌, subst, arith}
+use Rattle.std.proofs.Common.{◌≡◌, ◌⊎◌, inl, inr, ℕ, suc, zero, ◌+◌, ◌≤◌, ◌<◌, ◌==◌, List, [], ◌∷◌, ◌++◌, map, length, Option, Some, None, slice_get, sum, cond, Bool, false, Result, Ok, Err, IfOk, refl, sym, ap, ◌∙◌, subst, arith}
 use Rattle.std.proofs.lemmas.Option.{slice_get-map}
 use Rattle.std.proofs.lemmas.List.{length-map}
 use Rattle.std.specs.List.{AllByRecursion, count_by, fold}
@@ -10,7 +10,10 @@ use Rattle.lvish_calculus.specs.Machine.{Machine}
 use Rattle.lvish_calculus.specs.Calculus.{Configuration, Running, Error, CanStep, IsRun, State, start}
 use Rattle.lvish_core.specs.declared.fault.Fault.{Fault}
 use Rattle.lvish_calculus.specs.Handing.{IsCoreRun, IsAmong}
-use Rattle.lvish_core.specs.Core.{View, picture, state, at_fault, AreContents, HasRunning}
+use Rattle.lvish_variable.specs.Variable.{View as Variable}
+use Rattle.lvish_core.specs.Core.{View, picture, state, at_fault, CanTake, IsRunTo}
+use Rattle.lvish_core.specs.CoreLaws.{TakesSomething}
+use Rattle.lvish_core.specs.Reads.{AreStates as AreVariables, HasRunning}
 use Rattle.lvish_core.specs.Labels.{AreLabels}
 use Rattle.lvish_run.specs.declared.report.FinalState.{FinalState}
 use Rattle.lvish_run.specs.declared.entry.Entry.{Entry}
@@ -20,7 +23,6 @@ use Rattle.lvish_run.specs.declared.outcome.Outcome.TheVariants.{Ended, Error as
 use Rattle.lvish_run.specs.Honest.{labels_of, AreStates, Comes, IsOutcome, IsHonest}
 use Rattle.lvish_run.specs.Picked.{IsPicked}
 use Rattle.lvish_run.specs.Walk.{IsStuck, IsWalked, IsAccount, AreCopies, IsStanding, IsOutcomeOf, IsReportOf}
-use Rattle.lvish_run.proofs.Walks.{core_run}
 
 -- as many as come before, and all of these
 fold_all : {E : Type 0} (n : ℕ) (xs : List (Entry E)) → AllByRecursion (λ e. e.worker ≡ 0) xs → fold (λ a x. a + cond (x.worker == 0) 1 0) n xs ≡ n + length xs
@@ -32,10 +34,10 @@ fold_all n (x ∷ xs) h =
 all_by_one : {E : Type 0} (xs : List (Entry E)) → AllByRecursion (λ e. e.worker ≡ 0) xs → count_by (λ e. e.worker == 0) xs ≡ length xs
 all_by_one xs h = fold_all 0 xs h ∙ omega arith
 
-module _ {P S E R A L : Type 0} (M : Machine S E R A L) (variables : ℕ) (c : View P S E L) (trace : List (Entry E)) (budget : ℕ) (r : Report S E) (trace_is : r.trace ≡ trace) (steps : r.steps ≡ length trace) where
+module _ {P S E R A L : Type 0} (M : Machine S E R A L) (variables : ℕ) (c : View P S E L) (trace : List (Entry E)) (budget : ℕ) (r : Report S E) (trace_is : r.trace ≡ trace) (steps : r.steps ≡ length trace) (something : TakesSomething P M) (leads : IsRunTo M c (labels_of trace)) where
   -- the run of the report's trace
-  at : (f : Option (Fault E)) → c.fault ≡ f → IsRun M (Running (start M)) (labels_of trace) (picture M c) → IsRun M (Running (start M)) (labels_of r.trace) (at_fault (state M c) f)
-  at f is run = subst (λ t. IsRun M (Running (start M)) (labels_of t) (at_fault (state M c) f)) (sym trace_is) (subst (λ g. IsRun M (Running (start M)) (labels_of trace) (at_fault (state M c) g)) is run)
+  at : (f : Option (Fault E)) → c.fault ≡ f → IsRun M (Running (start M)) (labels_of r.trace) (at_fault (state M c) f)
+  at f is = subst (λ t. IsRun M (Running (start M)) (labels_of t) (at_fault (state M c) f)) (sym trace_is) (subst (λ g. IsRun M (Running (start M)) (labels_of trace) (at_fault (state M c) g)) is leads.reached)
 
   can_at : (f : Option (Fault E)) → c.fault ≡ f → (l : Label E) → CanStep M (picture M c) l → CanStep M (at_fault (state M c) f) l
   can_at f is l can = subst (λ g. CanStep M (at_fault (state M c) g) l) is can
@@ -43,30 +45,34 @@ module _ {P S E R A L : Type 0} (M : Machine S E R A L) (variables : ℕ) (c : V
   can_back : (f : Option (Fault E)) → c.fault ≡ f → (l : Label E) → CanStep M (at_fault (state M c) f) l → CanStep M (picture M c) l
   can_back f is l can = subst (λ g. CanStep M (at_fault (state M c) g) l) (sym is) can
 
-  abbrev comes : c.fault ≡ None → IsRun M (Running (start M)) (labels_of trace) (picture M c) → IsAccount M variables c r → Comes M variables r
-  comes is run h = record { last = state M c; reached = at None is run; states = h.states; blocked = h.blocked }
+  -- where no label can be taken, none is enabled
+  stuck_then : IsStuck M c → (l : Label E) → CanStep M (picture M c) l → ⊥
+  stuck_then stuck l can = let k = something c (labels_of trace) leads l can in stuck (k.0) k.1
 
-  outcome_is : (f : Option (Fault E)) (o : Outcome E) → c.fault ≡ f → IsRun M (Running (start M)) (labels_of trace) (picture M c) → (length trace ≡ budget) ⊎ IsStuck M c → IsOutcomeOf M variables c r f o → IsOutcome M variables budget r o
-  outcome_is None Ended is run stopped h = (comes is run h.0, λ l can. h.1 l (can_back None is l can))
-  outcome_is None Budget is run stopped h = (comes is run h.0, elim stopped [ inl e ↦ steps ∙ e | inr stuck ↦ absurd (stuck h.1.0 h.1.1) ], (h.1.0, can_at None is h.1.0 h.1.1))
-  outcome_is None (ErrorOutcome kind v t) is run stopped h = absurd h.1
-  outcome_is (Some f) Ended is run stopped h = absurd h
-  outcome_is (Some f) Budget is run stopped h = absurd h
-  outcome_is (Some f) (ErrorOutcome kind v t) is run stopped h = (
+  abbrev comes : c.fault ≡ None → IsAccount M variables c r → Comes M variables r
+  comes is h = record { last = state M c; reached = at None is; states = h.states; blocked = h.blocked }
+
+  outcome_is : (f : Option (Fault E)) (o : Outcome E) → c.fault ≡ f → (length trace ≡ budget) ⊎ IsStuck M c → IsOutcomeOf M variables c r f o → IsOutcome M variables budget r o
+  outcome_is None Ended is stopped h = (comes is h.0, λ l can. stuck_then h.1 l (can_back None is l can))
+  outcome_is None Budget is stopped h = (comes is h.0, elim stopped [ inl e ↦ steps ∙ e | inr stuck ↦ absurd (stuck h.1.0 h.1.1) ], (h.1.0, can_at None is h.1.0 h.1.1.0))
+  outcome_is None (ErrorOutcome kind v t) is stopped h = absurd h.1
+  outcome_is (Some f) Ended is stopped h = absurd h
+  outcome_is (Some f) Budget is stopped h = absurd h
+  outcome_is (Some f) (ErrorOutcome kind v t) is stopped h = (
     subst (λ n. IsRun M (Running (start M)) (labels_of r.trace) (Error kind v n)) h.2
         (subst (λ w. IsRun M (Running (start M)) (labels_of r.trace) (Error kind w f.task)) h.1
-        (subst (λ k. IsRun M (Running (start M)) (labels_of r.trace) (Error k f.variable f.task)) h.0 (at (Some f) is run))),
+        (subst (λ k. IsRun M (Running (start M)) (labels_of r.trace) (Error k f.variable f.task)) h.0 (at (Some f) is))),
     h.3,
     h.4,
   )
 
-pub honest : {P S E R A L : Type 0} (M : Machine S E R A L) (cmp : E → E → Ordering) (p : P) (picks : List ℕ) (variables budget : ℕ) (c : View P S E L) (trace : List (Entry E)) (r : Report S E)
+pub honest : {P S E R A L : Type 0} (M : Machine S E R A L) (cmp : E → E → Ordering) (p : P) (picks : List ℕ) (variables budget : ℕ) (c : View P S E L) (trace : List (Entry E)) (r : Report S E) → TakesSomething P M
     → IsWalked cmp M p picks budget c trace → IsReportOf M variables c trace r → IsHonest M variables 1 budget r
-honest {E = E} M cmp p picks variables budget c trace r w h = record {
-  core_run = subst (λ t. IsCoreRun M (labels_of t)) (sym h.trace_is) (core_run M (labels_of trace) w.walk.tasks);
+honest {E = E} M cmp p picks variables budget c trace r something w h = record {
+  core_run = subst (λ t. IsCoreRun M (labels_of t)) (sym h.trace_is) w.walk.leads.core;
   steps = long ∙ sym (ap length h.trace_is);
   within = let e = long in let b = w.within in omega arith;
-  outcome = outcome_is M variables c trace budget r h.trace_is long c.fault r.outcome refl w.walk.run w.stopped h.outcome;
+  outcome = outcome_is M variables c trace budget r h.trace_is long something w.walk.leads c.fault r.outcome refl w.stopped h.outcome;
   by_worker = (ap length h.by_worker, each);
   adds_up = ap sum h.by_worker ∙ sum_one c.steps ∙ sym h.steps;
 }
@@ -85,19 +91,29 @@ honest {E = E} M cmp p picks variables budget c trace r w h = record {
     each (suc k) small = absurd (omega arith)
 
 pub picked : {P S E R A L : Type 0} (M : Machine S E R A L) (cmp : E → E → Ordering) (p : P) (picks : List ℕ) (variables budget : ℕ) (c : View P S E L) (trace : List (Entry E)) (r : Report S E)
-    → IsWalked cmp M p picks budget c trace → IsReportOf M variables c trace r → IsPicked cmp M picks 0 (Running (start M)) (labels_of r.trace)
-picked M cmp p picks variables budget c trace r w h = subst (λ t. IsPicked cmp M picks 0 (Running (start M)) (labels_of t)) (sym h.trace_is) w.walk.picked
+    → IsWalked cmp M p picks budget c trace → IsReportOf M variables c trace r → IsPicked cmp M picks [] (Running (start M)) (labels_of r.trace)
+picked M cmp p picks variables budget c trace r w h = subst (λ t. IsPicked cmp M picks [] (Running (start M)) (labels_of t)) (sym h.trace_is) w.walk.picked
+
+-- a variable's state and mark
+abbrev copy_of : {S E : Type 0} → Variable S E → FinalState S
+copy_of x = record { content = x.state; frozen = x.frozen }
+
+copies_alike : {S E : Type 0} (x : Variable S E) (content : S) (frozen : Bool) → x.state ≡ content → x.frozen ≡ frozen → copy_of x ≡ record { content = content; frozen = frozen }
+copies_alike x content frozen a b = λ i. record { content = a i; frozen = b i }
 
 -- the states of a core that met no error
-pub states_are : {P S E R A L : Type 0} (M : Machine S E R A L) (variables : ℕ) (c : View P S E L) (contents : List S) (states : List (FinalState S)) → AreContents M variables c contents → AreCopies contents states → AreStates variables (state M c) states
-states_are {S = S} M variables c contents states a copies = record {
-  count = ap length copies ∙ length-map contents (λ (s : S). record { content = s; frozen = false }) ∙ a.count;
-  each = λ v small. ap (λ xs. slice_get xs v) copies ∙ slice_get-map (λ (s : S). record { content = s; frozen = false }) contents v ∙ ap (option_map (λ (s : S). record { content = s; frozen = false })) (a.each v small);
+pub states_are : {P S E R A L : Type 0} (M : Machine S E R A L) (variables : ℕ) (c : View P S E L) (xs : List (Variable S E)) (states : List (FinalState S)) → AreVariables M variables c xs → AreCopies xs states → AreStates variables (state M c) states
+states_are {S = S} {E = E} M variables c xs states a copies = record {
+  count = ap length copies ∙ length-map xs (λ (x : Variable S E). copy_of x) ∙ a.count;
+  each = λ v small.
+      let there = a.each v small in
+      ap (λ ys. slice_get ys v) copies ∙ slice_get-map (λ (x : Variable S E). copy_of x) xs v ∙ ap (option_map (λ (x : Variable S E). copy_of x)) there.1
+      ∙ ap (λ (q : FinalState S). Some q) (copies_alike (there.0) ((state M c).content v) ((state M c).frozen v) there.2 there.3);
 }
 
 -- a report without an error
-pub at_end : {P S E R A L : Type 0} (M : Machine S E R A L) (variables : ℕ) (c : View P S E L) (trace : List (Entry E)) (o : Outcome E) (contents : List S) (states : List (FinalState S)) (steps blocked : ℕ) (given : List (Entry E)) (by_worker : List ℕ)
-    → c.fault ≡ None → IsStanding M c o → AreContents M variables c contents → AreCopies contents states → HasRunning M c blocked → steps ≡ c.steps → given ≡ trace → by_worker ≡ c.steps ∷ []
+pub at_end : {P S E R A L : Type 0} (M : Machine S E R A L) (variables : ℕ) (c : View P S E L) (trace : List (Entry E)) (o : Outcome E) (contents : List (Variable S E)) (states : List (FinalState S)) (steps blocked : ℕ) (given : List (Entry E)) (by_worker : List ℕ)
+    → c.fault ≡ None → IsStanding M c o → AreVariables M variables c contents → AreCopies contents states → HasRunning M c blocked → steps ≡ c.steps → given ≡ trace → by_worker ≡ c.steps ∷ []
     → IsReportOf M variables c trace (record { outcome = o; states = states; steps = steps; blocked = blocked; trace = given; by_worker = by_worker })
 at_end M variables c trace o contents states steps blocked given by_worker none stands a copies running s t b = record {
   trace_is = t;
@@ -114,12 +130,12 @@ among_at [] (suc k) x e = absurd cc
 among_at (y ∷ ys) zero x e = let s : y ≡ x = cc in inl (sym s)
 among_at (y ∷ ys) (suc k) x e = inr (among_at ys k x e)
 
--- the label that was chosen can be stepped with
-pub chosen_can : {S E R A L : Type 0} (cmp : E → E → Ordering) (M : Machine S E R A L) (d : Configuration S E L) (ls : List (Label E)) (k : ℕ) (l : Label E) → AreLabels cmp M d ls → slice_get ls k ≡ Some l → CanStep M d l
-chosen_can cmp M d ls k l a e = (a.just l).0 (among_at ls k l e)
+-- the label that was chosen can be taken
+pub chosen_can : {P S E R A L : Type 0} (cmp : E → E → Ordering) (M : Machine S E R A L) (c : View P S E L) (ls : List (Label E)) (k : ℕ) (l : Label E) → AreLabels cmp M c ls → slice_get ls k ≡ Some l → CanTake M c l
+chosen_can cmp M c ls k l a e = (a.just l).0 (among_at ls k l e)
 
 module _ {P S E R A L : Type 0} (machine : P → Machine S E R A L) (variables : P → ℕ) (cmp : E → E → Ordering) (p : P) (picks : List ℕ) (budget : ℕ) (b c : View P S E L) (trace : List (Entry E)) (r : Report S E)
-    (is : b.program ≡ p) (w : IsWalked cmp (machine b.program) b.program picks budget c trace) (h : IsReportOf (machine c.program) (variables c.program) c trace r) where
+    (is : b.program ≡ p) (something : TakesSomething P (machine p)) (w : IsWalked cmp (machine b.program) b.program picks budget c trace) (h : IsReportOf (machine c.program) (variables c.program) c trace r) where
   walked : IsWalked cmp (machine p) p picks budget c trace
   walked = subst (λ q. IsWalked cmp (machine q) q picks budget c trace) is w
 
@@ -128,21 +144,21 @@ module _ {P S E R A L : Type 0} (machine : P → Machine S E R A L) (variables :
 
   -- the report of a core of the program p, in words of the machine of p
   pub honest_at : IsHonest (machine p) (variables p) 1 budget r
-  honest_at = honest (machine p) cmp p picks (variables p) budget c trace r walked reported
+  honest_at = honest (machine p) cmp p picks (variables p) budget c trace r something walked reported
 
-  pub picked_at : IsPicked cmp (machine p) picks 0 (Running (start (machine p))) (labels_of r.trace)
+  pub picked_at : IsPicked cmp (machine p) picks [] (Running (start (machine p))) (labels_of r.trace)
   picked_at = picked (machine p) cmp p picks (variables p) budget c trace r walked reported
 
 -- how a core stands with these labels
-pub stands_ended : {P S E R A L : Type 0} (cmp : E → E → Ordering) (M : Machine S E R A L) (c : View P S E L) (ls : List (Label E)) → AreLabels cmp M (picture M c) ls → length ls ≡ 0 → IsStanding M c Ended
+pub stands_ended : {P S E R A L : Type 0} (cmp : E → E → Ordering) (M : Machine S E R A L) (c : View P S E L) (ls : List (Label E)) → AreLabels cmp M c ls → length ls ≡ 0 → IsStanding M c Ended
 stands_ended cmp M c [] a e l can = (a.just l).1 can
 stands_ended cmp M c (x ∷ xs) a e l can = absurd (omega (arith, e))
 
-pub stands_open : {P S E R A L : Type 0} (cmp : E → E → Ordering) (M : Machine S E R A L) (c : View P S E L) (ls : List (Label E)) → AreLabels cmp M (picture M c) ls → (length ls ≡ 0 → ⊥) → IsStanding M c Budget
+pub stands_open : {P S E R A L : Type 0} (cmp : E → E → Ordering) (M : Machine S E R A L) (c : View P S E L) (ls : List (Label E)) → AreLabels cmp M c ls → (length ls ≡ 0 → ⊥) → IsStanding M c Budget
 stands_open cmp M c [] a some = absurd (some refl)
 stands_open cmp M c (x ∷ xs) a some = (x, (a.just x).0 (inl refl))
 
--- what two clauses say of a good answer
-pub both_ok : {T X : Type 0} {P Q U : T → Type 0} (r : Result T X) → ((x : T) → P x → Q x → U x) → IfOk r P → IfOk r Q → IfOk r U
-both_ok (Ok x) f p q = f x p q
-both_ok (Err e) f p q = tt
+-- what three clauses say of a good answer
+pub three_ok : {T X : Type 0} {P Q R U : T → Type 0} (r : Result T X) → ((x : T) → P x → Q x → R x → U x) → IfOk r P → IfOk r Q → IfOk r R → IfOk r U
+three_ok (Ok x) f p q s = f x p q s
+three_ok (Err e) f p q s = tt

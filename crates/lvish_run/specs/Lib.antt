@@ -3,3 +3,6 @@ pub mod Picked
 pub mod Walk
 pub mod Text
 pub mod Scripts
+pub mod StateText
+pub mod Alike
+pub mod TraceText

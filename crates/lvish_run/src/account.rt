@@ -10,17 +10,21 @@ use crate::trace::Trace;
 use lvish_calculus::{Meaning, Program};
 use lvish_core::Core;
 use lvish_lattice::Lattice;
+use lvish_variable::Variable;
 use std::alloc::{AllocError, Global};
 
-/// Copies of the contents, none of which is frozen.
-fn final_states<S: Lattice>(alloc: Global, contents: &[S]) -> Result<States<S>, AllocError>
-    ensures { IfOk result (λ s. AreCopies contents.now s) }
+/// Copies of the variables' states and marks.
+fn final_states<S: Lattice>(
+    alloc: Global,
+    variables: &[Variable<S>],
+) -> Result<States<S>, AllocError>
+    ensures { IfOk result (λ s. AreCopies variables.now s) }
 {
     let mut states = Vec::new(alloc);
-    for content in contents {
+    for variable in variables {
         states.push(FinalState {
-            content: content.copy(alloc)?,
-            frozen: false,
+            content: variable.state().copy(alloc)?,
+            frozen: variable.is_frozen(),
         })?;
     }
     Ok(States::from(states))
@@ -67,7 +71,7 @@ pub fn report_of<P: Program>(
         }),
         None => Ok(Report {
             outcome: outcome_of(alloc, core)?,
-            states: final_states(alloc, core.contents())?,
+            states: final_states(alloc, core.states())?,
             steps: core.steps(),
             blocked: core.running() as u64,
             trace,

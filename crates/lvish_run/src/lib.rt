@@ -21,9 +21,11 @@ mod picks;
 mod report;
 mod runner;
 mod scripts;
+mod state_text;
 mod states;
 mod text;
 mod trace;
+mod trace_lines;
 
 pub use counts::Counts;
 pub use entry::Entry;
@@ -35,6 +37,7 @@ pub use scripts::{Runs, run_picks};
 pub use states::States;
 pub use text::report_text;
 pub use trace::Trace;
+pub use trace_lines::trace_text;
 
 #[cfg(test)]
 mod tests;

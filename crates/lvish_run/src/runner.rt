@@ -1,14 +1,17 @@
 ghost use Rattle.std.specs.Prelude.{◌≡◌, ◌<◌, ◌≤◌, ◌%◌, ℕ, IfOk, MatchOption, length, [], slice_get, Some};
 ghost use Rattle.lvish_calculus.specs.Calculus.{Running, start};
 ghost use Rattle.lvish_run.specs.Honest.{IsHonest, labels_of};
-ghost use Rattle.lvish_run.specs.Picked.{IsPicked, IsChoice};
+ghost use Rattle.lvish_run.specs.Picked.{IsPicked};
+ghost use Rattle.lvish_run.specs.Alike.{IsAlike};
 ghost use Rattle.lvish_run.specs.Walk.{IsTurn, IsWalked, IsAccount};
 
 use crate::account::report_of;
 use crate::entry::Entry;
 use crate::picks::pick_at;
 use crate::report::Report;
+use lvish_calculus::laws::same_end;
 use lvish_calculus::{Label, Meaning, Program};
+use lvish_core::laws::{takes_core_runs, takes_something};
 use lvish_core::{Core, Runs, StepFault};
 use lvish_lattice::Lattice;
 use std::alloc::{AllocError, Global};
@@ -56,6 +59,7 @@ fn walk<P: Program>(
     requires small { budget ≤ 1000000 }
     ensures { IfOk result (λ t. IsWalked P.Lat.Event.cmp (⟦<P as Meaning>⟧.machine core.old.program) core.old.program picks.now budget core.new t.items) }
 {
+    takes_core_runs::<P>();
     let mut trace = Vec::new(alloc);
     for k in 0..budget {
         match turn(alloc, core, pick_at(picks, k as usize))? {
@@ -78,11 +82,14 @@ pub fn run_program<P: Program>(
     picks: &[u64],
     budget: u64,
 ) -> Result<Report<P::Lat, <P::Lat as Lattice>::Event>, AllocError>
-    requires plain { ⟦<P as Runs>⟧.asks_plainly program.now }
     requires small { budget ≤ 1000000 }
     ensures honest { IfOk result (λ r. IsHonest (⟦<P as Meaning>⟧.machine program.now) (P.functions program.now).variables 1 budget r) }
-    ensures picked { IfOk result (λ r. IsPicked P.Lat.Event.cmp (⟦<P as Meaning>⟧.machine program.now) picks.now 0 (Running (start (⟦<P as Meaning>⟧.machine program.now))) (labels_of r.trace)) }
+    ensures picked { IfOk result (λ r. IsPicked P.Lat.Event.cmp (⟦<P as Meaning>⟧.machine program.now) picks.now [] (Running (start (⟦<P as Meaning>⟧.machine program.now))) (labels_of r.trace)) }
+    // What it says of all other runs that end without an error.
+    ensures alike { IfOk result (λ r. IsAlike (⟦<P as Meaning>⟧.machine program.now) (P.functions program.now).variables r) }
 {
+    same_end::<P>();
+    takes_something::<P>();
     let mut core = Core::new(alloc, program)?;
     let trace = walk(alloc, &mut core, picks, budget)?;
     report_of(alloc, &core, trace)

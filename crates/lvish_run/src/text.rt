@@ -1,42 +1,37 @@
 ghost use Rattle.std.specs.Prelude.{◌≡◌, IfOk, string_bytes, length};
-ghost use Rattle.lvish_script.specs.Sound.{variable_name, variable_names};
-ghost use Rattle.lvish_run.specs.Text.{variable_line, shown_line, variable_lines, count_lines, report_lines, HasText};
+ghost use Rattle.lvish_run.specs.Text.{variable_line, shown_line, variables_of, variable_lines, count_lines, report_lines, HasText};
 
 use crate::report::{FinalState, Report};
-use lvish_lattice::Flat;
-use lvish_script::{Declaration, Name, Script};
+use crate::state_text::state_text;
+use lvish_compound::Any;
+use lvish_syntax::{Declaration, Name, Script, VariableKind};
 use std::alloc::{AllocError, Global};
 
-/// The name that a declaration gives.
-fn name_of(declaration: &Declaration) -> &Name
-    ensures { result.now ≡ variable_name declaration.now }
-{
-    match declaration {
-        Declaration::Cell(name) => name,
-    }
-}
-
 /// A variable's line.
-fn variable_line(alloc: Global, name: &str, content: &Flat<i64>) -> Result<String, AllocError>
-    ensures { IfOk result (λ t. string_bytes t ≡ variable_line name.now content.now) }
+fn variable_line(
+    alloc: Global,
+    name: &str,
+    kind: VariableKind,
+    content: &Any,
+) -> Result<String, AllocError>
+    ensures { IfOk result (λ t. string_bytes t ≡ variable_line name.now kind content.now) }
 {
-    match content {
-        Flat::Bottom => format!(in alloc; "{name} = empty\n"),
-        Flat::Value(number) => format!(in alloc; "{name} = {number}\n"),
-    }
+    let state = state_text(alloc, kind, content)?;
+    format!(in alloc; "{name} = {state}\n")
 }
 
 /// The line of a variable that is frozen, or of any with `all`; else nothing.
 fn shown_line(
     alloc: Global,
-    declaration: &Declaration,
-    state: &FinalState<Flat<i64>>,
+    name: &Name,
+    kind: VariableKind,
+    state: &FinalState<Any>,
     all: bool,
 ) -> Result<String, AllocError>
-    ensures { IfOk result (λ t. string_bytes t ≡ shown_line all (variable_name declaration.now) state.now) }
+    ensures { IfOk result (λ t. string_bytes t ≡ shown_line all (name.now, kind) state.now) }
 {
     if all || state.frozen {
-        return variable_line(alloc, name_of(declaration).as_str(), &state.content);
+        return variable_line(alloc, name.as_str(), kind, &state.content);
     }
     Ok(String::new(alloc))
 }
@@ -45,16 +40,23 @@ fn shown_line(
 fn variable_lines(
     alloc: Global,
     declarations: &[Declaration],
-    states: &[FinalState<Flat<i64>>],
+    states: &[FinalState<Any>],
     all: bool,
 ) -> Result<String, AllocError>
-    requires { length states.now ≡ length declarations.now }
-    ensures { IfOk result (λ t. string_bytes t ≡ variable_lines all (variable_names declarations.now) states.now) }
+    requires { length states.now ≡ length (variables_of declarations.now) }
+    ensures { IfOk result (λ t. string_bytes t ≡ variable_lines all (variables_of declarations.now) states.now) }
 {
     let mut text = String::new(alloc);
+    let mut place = 0;
     for i in 0..declarations.len() {
-        let line = shown_line(alloc, &declarations[i], &states[i], all)?;
-        text.push_str(line.as_str())?;
+        if let Declaration::Variable(name, kind) = &declarations[i] {
+            let Some(state) = states.get(place) else {
+                unreachable!()
+            };
+            let line = shown_line(alloc, name, *kind, state, all)?;
+            text.push_str(line.as_str())?;
+            place += 1;
+        }
     }
     Ok(text)
 }
@@ -75,12 +77,12 @@ fn count_lines(alloc: Global, steps: u64, blocked: u64) -> Result<String, AllocE
 pub fn report_text<E>(
     alloc: Global,
     script: &Script,
-    report: &Report<Flat<i64>, E>,
+    report: &Report<Any, E>,
     all: bool,
 ) -> Result<String, AllocError>
     requires outcome { HasText report.now.outcome }
-    requires states { length report.now.states ≡ length script.now.declarations }
-    ensures { IfOk result (λ t. string_bytes t ≡ report_lines (variable_names script.now.declarations) report.now all) }
+    requires states { length report.now.states ≡ length (variables_of script.now.declarations) }
+    ensures { IfOk result (λ t. string_bytes t ≡ report_lines (variables_of script.now.declarations) report.now all) }
 {
     let mut text = variable_lines(alloc, script.declarations(), report.states.as_slice(), all)?;
     let counts = count_lines(alloc, report.steps, report.blocked)?;

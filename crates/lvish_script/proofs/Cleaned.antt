@@ -1,17 +1,19 @@
 -- Lines without the blank ones: the checks see the same.
-use Rattle.std.proofs.Common.{◌≡◌, ℕ, zero, suc, Bool, true, false, ◌||◌, not, List, [], ◌∷◌, ◌++◌, length, take, drop, Option, Some, None, refl, sym, ap, subst, ◌∙◌, arith, cond, ◌+◌}
-use Rattle.std.specs.Prelude.{filter, slice_get, count_by, if◌then◌else◌}
-use Rattle.std.specs.Option.{option_map, option_map_or}
-use Rattle.std.specs.List.{list_any}
+use Rattle.std.proofs.Common.{◌≡◌, ℕ, Bool, true, false, ◌||◌, ◌&&◌, not, List, [], ◌∷◌, ◌++◌, take, Option, Some, None, refl, sym, ap, ◌∙◌, arith, cond, ◌+◌}
+use Rattle.std.specs.Prelude.{filter, count_by, if◌then◌else◌}
+use Rattle.std.specs.Option.{option_map}
+use Rattle.std.specs.List.{list_any, list_all}
 use Rattle.std.specs.Str.{bytes_eq}
 use Rattle.std.proofs.lemmas.List.{append-nil}
 use Rattle.std.proofs.lemmas.List.Sums.{sum_by-cons}
-use Rattle.std.proofs.Math.Seq.{take-append_seam, drop-append_seam}
-use Rattle.lvish_script.specs.Text.{Word}
-use Rattle.lvish_script.specs.Name.{has_repeat, is_known}
+use Rattle.lvish_syntax.specs.Words.{Word}
+use Rattle.lvish_syntax.specs.Name.{has_repeat, is_known}
+use Rattle.lvish_syntax.specs.declared.declaration.Declaration.TheVariants.{Variable, Pool}
+use Rattle.lvish_syntax.specs.declared.command.Command.{Command}
+use Rattle.lvish_syntax.specs.declared.command.Command.TheVariants.{Let, Put, PutAt, Get, GetAt, Fork, Call, Handle, Freeze, FreezeEach}
 use Rattle.lvish_script.specs.declared.line.Line.{Line}
-use Rattle.lvish_script.specs.declared.line.Line.TheVariants.{Blank, Bad, Cell, Proc, Put, GetAny, Fork, End}
-use Rattle.lvish_script.specs.Checks.{on_line, is_variable, is_procedure, declares_variable, declares_procedure, declares_again, is_past_limit, binds, binds_until_procedure, locals_step, locals_after, parameters_of, miscounts, names_unknown}
+use Rattle.lvish_script.specs.declared.line.Line.TheVariants.{Blank, Bad, Declare, Proc, Do, If, While, Else, End}
+use Rattle.lvish_script.specs.Checks.{Opener, InProcedure, InIf, InElse, InWhile, declarations, has_variable, has_pool, has_procedure, is_variable, is_pool, is_procedure, declares_procedure, declares_again, is_past_limit, binds, binds_until_procedure, locals_step, locals_after, locals_at, open_step, open_after, is_full, parameters_of, miscounts, command_miscounts, command_unknown, names_unknown, misfits, mixes, command_misfits, command_mixes}
 use Rattle.lvish_script.specs.Spells.{says_something}
 
 -- ---- what a check counts and looks up
@@ -20,6 +22,19 @@ pub any_cleaned : (p : Line → Bool) → p Blank ≡ false → (ls : List Line)
 any_cleaned p none [] = refl
 any_cleaned p none (Blank ∷ ls) = rw none (any_cleaned p none ls)
 any_cleaned p none (l ∷ ls) = ap (λ b. p l || b) (any_cleaned p none ls)
+
+pub all_cleaned : (p : Line → Bool) (ls : List Line) → list_all p ls ≡ true → list_all p (filter says_something ls) ≡ true
+all_cleaned p [] e = refl
+all_cleaned p (Blank ∷ ls) e = all_cleaned p ls (second (p Blank) _ e)
+  where
+    second : (a b : Bool) → (a && b) ≡ true → b ≡ true
+    second true b e = e
+    second false b e = absurd cc
+all_cleaned p (l ∷ ls) e = both (p l) _ e (all_cleaned p ls)
+  where
+    both : (a b : Bool) {c : Bool} → (a && b) ≡ true → (b ≡ true → c ≡ true) → (a && c) ≡ true
+    both true b e f = f e
+    both false b e f = absurd cc
 
 pub count_cons : {X : Type 0} (p : X → Bool) (x : X) (xs : List X) → count_by p (x ∷ xs) ≡ cond (p x) 1 0 + count_by p xs
 count_cons p x xs = sum_by-cons (λ y. cond (p y) 1 0) x xs
@@ -32,6 +47,12 @@ count_cleaned p none (Blank ∷ ls) =
     let all = count_cleaned p none ls in
     omega (arith, one, here, all)
 count_cleaned p none (l ∷ ls) = count_cons p l ls ∙ ap (λ n. cond (p l) 1 0 + n) (count_cleaned p none ls) ∙ sym (count_cons p l (filter says_something ls))
+
+pub declarations_cleaned : (ls : List Line) → declarations ls ≡ declarations (filter says_something ls)
+declarations_cleaned [] = refl
+declarations_cleaned (Blank ∷ ls) = declarations_cleaned ls
+declarations_cleaned (Declare d ∷ ls) = ap (λ t. d ∷ t) (declarations_cleaned ls)
+declarations_cleaned (l ∷ ls) = declarations_cleaned ls
 
 nothing_bound : (found : Option (List Word)) → option_map (λ xs. xs ++ []) found ≡ found
 nothing_bound None = refl
@@ -54,113 +75,99 @@ parameters_of_cleaned p (Blank ∷ ls) = parameters_of_cleaned p ls
 parameters_of_cleaned p (Proc n xs ∷ ls) = ap (λ (o : Option (List Word)). if bytes_eq n p then Some xs else o) (parameters_of_cleaned p ls)
 parameters_of_cleaned p (l ∷ ls) = parameters_of_cleaned p ls
 
+blank_step : (opened : List Opener) → open_step opened Blank ≡ opened
+blank_step [] = refl
+blank_step (InProcedure ∷ os) = refl
+blank_step (InIf ∷ os) = refl
+blank_step (InElse ∷ os) = refl
+blank_step (InWhile ∷ os) = refl
+
+pub open_after_cleaned : (opened : List Opener) (ls : List Line) → open_after opened ls ≡ open_after opened (filter says_something ls)
+open_after_cleaned opened [] = refl
+open_after_cleaned opened (Blank ∷ ls) = ap (λ os. open_after os ls) (blank_step opened) ∙ open_after_cleaned opened ls
+open_after_cleaned opened (l ∷ ls) = open_after_cleaned (open_step opened l) ls
+
+variables_cleaned : (v : Word) (ls : List Line) → has_variable v ls ≡ has_variable v (filter says_something ls)
+variables_cleaned v ls = rw (declarations_cleaned ls) refl
+
+pools_cleaned : (p : Word) (ls : List Line) → has_pool p ls ≡ has_pool p (filter says_something ls)
+pools_cleaned p ls = rw (declarations_cleaned ls) refl
+
+procedures_cleaned : (n : Word) (ls : List Line) → has_procedure n ls ≡ has_procedure n (filter says_something ls)
+procedures_cleaned n ls = any_cleaned (declares_procedure n) refl ls
+
+all_pools_cleaned : (ls : List Line) (ps : List Word) → list_all (λ p. has_pool p ls) ps ≡ list_all (λ p. has_pool p (filter says_something ls)) ps
+all_pools_cleaned ls [] = refl
+all_pools_cleaned ls (p ∷ ps) = rw (pools_cleaned p ls, all_pools_cleaned ls ps) refl
+
 -- ---- the checks of one line
 
 pub declares_again_cleaned : (ls : List Line) (x : Line) → declares_again ls x ≡ declares_again (filter says_something ls) x
-declares_again_cleaned ls (Cell n) = any_cleaned (declares_variable n) refl ls
-declares_again_cleaned ls (Proc n xs) = ap (λ b. b || has_repeat xs) (any_cleaned (declares_procedure n) refl ls)
+declares_again_cleaned ls (Declare (Variable n k)) = variables_cleaned n ls
+declares_again_cleaned ls (Declare (Pool p v)) = pools_cleaned p ls
+declares_again_cleaned ls (Proc n xs) = ap (λ b. b || has_repeat xs) (procedures_cleaned n ls)
 declares_again_cleaned ls x = refl
 
 pub is_past_limit_cleaned : (ls : List Line) (x : Line) → is_past_limit ls x ≡ is_past_limit (filter says_something ls) x
-is_past_limit_cleaned ls (Cell n) = rw (count_cleaned is_variable refl ls) refl
+is_past_limit_cleaned ls (Declare (Variable n k)) = rw (count_cleaned is_variable refl ls) refl
+is_past_limit_cleaned ls (Declare (Pool p v)) = rw (count_cleaned is_pool refl ls) refl
 is_past_limit_cleaned ls (Proc n xs) = rw (count_cleaned is_procedure refl ls) refl
+is_past_limit_cleaned ls (If t) = ap is_full (open_after_cleaned [] ls)
+is_past_limit_cleaned ls (While t) = ap is_full (open_after_cleaned [] ls)
 is_past_limit_cleaned ls x = refl
 
+command_miscounts_cleaned : (ls : List Line) (c : Command) → command_miscounts ls c ≡ command_miscounts (filter says_something ls) c
+command_miscounts_cleaned ls (Fork n ts) = rw (parameters_of_cleaned n ls) refl
+command_miscounts_cleaned ls (Call n ts) = rw (parameters_of_cleaned n ls) refl
+command_miscounts_cleaned ls (Handle p n) = rw (parameters_of_cleaned n ls) refl
+command_miscounts_cleaned ls (FreezeEach x v ps n) = rw (parameters_of_cleaned n ls) refl
+command_miscounts_cleaned ls c = refl
+
 pub miscounts_cleaned : (ls : List Line) (x : Line) → miscounts ls x ≡ miscounts (filter says_something ls) x
-miscounts_cleaned ls (Fork n ts) = rw (parameters_of_cleaned n ls) refl
+miscounts_cleaned ls (Do c) = command_miscounts_cleaned ls c
 miscounts_cleaned ls x = refl
 
-pub names_unknown_cleaned : (ls : List Line) (locals : List Word) (x : Line) → names_unknown ls locals x ≡ names_unknown (filter says_something ls) locals x
-names_unknown_cleaned ls locals (Put v t) = rw (any_cleaned (declares_variable v) refl ls) refl
-names_unknown_cleaned ls locals (GetAny x v) = rw (any_cleaned (declares_variable v) refl ls) refl
-names_unknown_cleaned ls locals (Fork n ts) = rw (any_cleaned (declares_procedure n) refl ls) refl
-names_unknown_cleaned ls locals x = refl
+pub misfits_cleaned : (ls : List Line) (x : Line) → misfits ls x ≡ misfits (filter says_something ls) x
+misfits_cleaned ls (Do c) = ap (λ ds. command_misfits ds c) (declarations_cleaned ls)
+misfits_cleaned ls x = refl
 
--- ---- a cut through the lines that say something is one through all of them
+pub mixes_cleaned : (ls : List Line) (x : Line) → mixes ls x ≡ mixes (filter says_something ls) x
+mixes_cleaned ls (Do c) = ap (λ ds. command_mixes ds c) (declarations_cleaned ls)
+mixes_cleaned ls x = refl
 
-pub record CutAt (keep : Line → Bool) (ls b : List Line) (x : Line) (a : List Line) : Type 0 where
-  pub before : List Line
-  pub after : List Line
-  pub whole : ls ≡ before ++ x ∷ after
-  pub cleaned_before : filter keep before ≡ b
-  pub cleaned_after : filter keep after ≡ a
+command_unknown_cleaned : (ls : List Line) (locals : List Word) (c : Command) → command_unknown ls locals c ≡ command_unknown (filter says_something ls) locals c
+command_unknown_cleaned ls locals (Put v t) = rw (variables_cleaned v ls) refl
+command_unknown_cleaned ls locals (PutAt v k t) = rw (variables_cleaned v ls) refl
+command_unknown_cleaned ls locals (Get x v r) = rw (variables_cleaned v ls) refl
+command_unknown_cleaned ls locals (GetAt x v k r) = rw (variables_cleaned v ls) refl
+command_unknown_cleaned ls locals (Fork n ts) = rw (procedures_cleaned n ls) refl
+command_unknown_cleaned ls locals (Call n ts) = rw (procedures_cleaned n ls) refl
+command_unknown_cleaned ls locals (Handle p n) = rw (pools_cleaned p ls, procedures_cleaned n ls) refl
+command_unknown_cleaned ls locals (Freeze x v ps) = rw (variables_cleaned v ls, all_pools_cleaned ls ps) refl
+command_unknown_cleaned ls locals (FreezeEach x v ps n) = rw (variables_cleaned v ls, all_pools_cleaned ls ps, procedures_cleaned n ls) refl
+command_unknown_cleaned ls locals (Let x v) = refl
 
-module _ (keep : Line → Bool) (l : Line) (ls : List Line) (further : (b : List Line) (x : Line) (a : List Line) → filter keep ls ≡ b ++ x ∷ a → CutAt keep ls b x a) where
-  cut_on : (t : Bool) → keep l ≡ t → (b : List Line) (x : Line) (a : List Line) → filter keep (l ∷ ls) ≡ b ++ x ∷ a → CutAt keep (l ∷ ls) b x a
-  cut_on false k b x a e =
-      let e2 : filter keep ls ≡ b ++ x ∷ a = rw k at e in
-      let r = further b x a e2 in
-      record { before = l ∷ r.before; after = r.after; whole = ap (λ t. l ∷ t) r.whole; cleaned_before = rw k r.cleaned_before; cleaned_after = r.cleaned_after }
-  cut_on true k [] x a e =
-      let e2 : l ∷ filter keep ls ≡ x ∷ a = rw k at e in
-      let p : l ≡ x = cc in
-      let q : filter keep ls ≡ a = cc in
-      record { before = []; after = ls; whole = ap (λ (y : Line). y ∷ ls) p; cleaned_before = refl; cleaned_after = q }
-  cut_on true k (y ∷ b) x a e =
-      let e2 : l ∷ filter keep ls ≡ y ∷ (b ++ x ∷ a) = rw k at e in
-      let p : l ≡ y = cc in
-      let q : filter keep ls ≡ b ++ x ∷ a = cc in
-      let r = further b x a q in
-      record { before = l ∷ r.before; after = r.after; whole = ap (λ t. l ∷ t) r.whole; cleaned_before = rw k (rw r.cleaned_before (ap (λ (z : Line). z ∷ b) p)); cleaned_after = r.cleaned_after }
+-- whether a line has an unknown name, by the lines above it and the locals there
+abbrev pub unknown_given : List Line → List Line → List Word → Line → Bool
+unknown_given lines before locals (Declare (Pool p v)) = not (has_variable v before)
+unknown_given lines before locals (Do c) = command_unknown lines locals c
+unknown_given lines before locals (If t) = not (is_known locals t)
+unknown_given lines before locals (While t) = not (is_known locals t)
+unknown_given lines before locals l = false
 
-cut : (keep : Line → Bool) (ls b : List Line) (x : Line) (a : List Line) → filter keep ls ≡ b ++ x ∷ a → CutAt keep ls b x a
-cut keep [] [] x a e = absurd cc
-cut keep [] (y ∷ b) x a e = absurd cc
-cut keep (l ∷ ls) b x a e = cut_on keep l ls (cut keep ls) (keep l) refl b x a e
+pub unknown_is : (lines : List Line) (k : ℕ) (x : Line) → names_unknown lines k x ≡ unknown_given lines (take k lines) (locals_at lines k) x
+unknown_is lines k (Declare (Variable n s)) = refl
+unknown_is lines k (Declare (Pool p v)) = refl
+unknown_is lines k Blank = refl
+unknown_is lines k Bad = refl
+unknown_is lines k (Proc n xs) = refl
+unknown_is lines k (Do c) = refl
+unknown_is lines k (If t) = refl
+unknown_is lines k (While t) = refl
+unknown_is lines k Else = refl
+unknown_is lines k End = refl
 
--- ---- what the checks passed on all lines say at a cut
-
-get_seam : (before : List Line) (x : Line) (after : List Line) → slice_get (before ++ x ∷ after) (length before) ≡ Some x
-get_seam [] x after = refl
-get_seam (y ∷ before) x after = get_seam before x after
-
-at_cut : (test : ℕ → Line → Bool) (said before : List Line) (x : Line) (after : List Line) → said ≡ before ++ x ∷ after → ((l : ℕ) → on_line test said l ≡ false) → test (length before) x ≡ false
-at_cut test said before x after e passed =
-    let g : slice_get said (length before) ≡ Some x = rw e (get_seam before x after) in
-    let h : option_map_or (test (length before)) (slice_get said (length before)) false ≡ false = passed (suc (length before)) in
-    rw g at h
-
--- the locals of the procedure in which the rest begins
-abbrev pub locals_in : List Line → List Line → List Word
-locals_in before rest = option_map_or (λ xs. xs ++ binds_until_procedure rest) (locals_after None before) []
-
-module _ (said L : List Line) (clean : filter says_something said ≡ L) where
-  taken : (before : List Line) (x : Line) (after : List Line) → said ≡ before ++ x ∷ after → take (length before) said ≡ before
-  taken before x after e = rw e (take-append_seam before (x ∷ after))
-
-  left : (before : List Line) (x : Line) (after : List Line) → said ≡ before ++ x ∷ after → drop (length before) said ≡ x ∷ after
-  left before x after e = rw e (drop-append_seam before (x ∷ after))
-
-  pub again_at : ((l : ℕ) → on_line (λ k l. declares_again (take k said) l) said l ≡ false) → (b : List Line) (x : Line) (a : List Line) → L ≡ b ++ x ∷ a → declares_again b x ≡ false
-  again_at passed b x a e =
-      let r = cut says_something said b x a (clean ∙ e) in
-      let h : declares_again (take (length r.before) said) x ≡ false = at_cut _ said r.before x r.after r.whole passed in
-      let g : declares_again r.before x ≡ false = rw (taken r.before x r.after r.whole) at h in
-      ap (λ t. declares_again t x) (sym r.cleaned_before) ∙ sym (declares_again_cleaned r.before x) ∙ g
-
-  pub limit_at : ((l : ℕ) → on_line (λ k l. is_past_limit (take k said) l) said l ≡ false) → (b : List Line) (x : Line) (a : List Line) → L ≡ b ++ x ∷ a → is_past_limit b x ≡ false
-  limit_at passed b x a e =
-      let r = cut says_something said b x a (clean ∙ e) in
-      let h : is_past_limit (take (length r.before) said) x ≡ false = at_cut _ said r.before x r.after r.whole passed in
-      let g : is_past_limit r.before x ≡ false = rw (taken r.before x r.after r.whole) at h in
-      ap (λ t. is_past_limit t x) (sym r.cleaned_before) ∙ sym (is_past_limit_cleaned r.before x) ∙ g
-
-  pub count_at : ((l : ℕ) → on_line (λ k l. miscounts said l) said l ≡ false) → (b : List Line) (x : Line) (a : List Line) → L ≡ b ++ x ∷ a → miscounts L x ≡ false
-  count_at passed b x a e =
-      let r = cut says_something said b x a (clean ∙ e) in
-      let h : miscounts said x ≡ false = at_cut _ said r.before x r.after r.whole passed in
-      ap (λ t. miscounts t x) (sym clean) ∙ sym (miscounts_cleaned said x) ∙ h
-
-  same_locals : (x : Line) → says_something x ≡ true → (before after : List Line) → option_map_or (λ xs. xs ++ binds_until_procedure (x ∷ after)) (locals_after None before) [] ≡ locals_in (filter says_something before) (x ∷ filter says_something after)
-  same_locals x says before after =
-      let k : filter says_something (x ∷ after) ≡ x ∷ filter says_something after = rw says refl in
-      ap (λ o. option_map_or (λ xs. xs ++ binds_until_procedure (x ∷ after)) o []) (locals_after_cleaned None before)
-      ∙ ap (λ t. option_map_or (λ xs. xs ++ t) (locals_after None (filter says_something before)) []) (binds_until_cleaned (x ∷ after) ∙ ap binds_until_procedure k)
-
-  pub unknown_at : ((l : ℕ) → on_line (λ k l. names_unknown said (option_map_or (λ xs. xs ++ binds_until_procedure (drop k said)) (locals_after None (take k said)) []) l) said l ≡ false) → (b : List Line) (x : Line) (a : List Line) → says_something x ≡ true → L ≡ b ++ x ∷ a → names_unknown L (locals_in b (x ∷ a)) x ≡ false
-  unknown_at passed b x a says e =
-      let r = cut says_something said b x a (clean ∙ e) in
-      let h : names_unknown said (option_map_or (λ xs. xs ++ binds_until_procedure (drop (length r.before) said)) (locals_after None (take (length r.before) said)) []) x ≡ false = at_cut _ said r.before x r.after r.whole passed in
-      let g : names_unknown said (option_map_or (λ xs. xs ++ binds_until_procedure (x ∷ r.after)) (locals_after None r.before) []) x ≡ false = rw (taken r.before x r.after r.whole, left r.before x r.after r.whole) at h in
-      let s : option_map_or (λ xs. xs ++ binds_until_procedure (x ∷ r.after)) (locals_after None r.before) [] ≡ locals_in b (x ∷ a) = same_locals x says r.before r.after ∙ ap (λ t. locals_in t (x ∷ filter says_something r.after)) r.cleaned_before ∙ ap (λ t. locals_in b (x ∷ t)) r.cleaned_after in
-      ap (λ t. names_unknown t (locals_in b (x ∷ a)) x) (sym clean) ∙ sym (names_unknown_cleaned said (locals_in b (x ∷ a)) x) ∙ ap (λ t. names_unknown said t x) (sym s) ∙ g
+pub unknown_cleaned : (ls before : List Line) (locals : List Word) (x : Line) → unknown_given ls before locals x ≡ unknown_given (filter says_something ls) (filter says_something before) locals x
+unknown_cleaned ls before locals (Declare (Pool p v)) = ap not (variables_cleaned v before)
+unknown_cleaned ls before locals (Do c) = command_unknown_cleaned ls locals c
+unknown_cleaned ls before locals x = refl

@@ -1,10 +1,10 @@
 -- Lists by their cuts: what holds of each item and the items before it.
-use Rattle.std.proofs.Common.{◌≡◌, ℕ, zero, suc, ◌<◌, ◌≤◌, Bool, true, false, ◌||◌, ◌&&◌, List, [], ◌∷◌, ◌++◌, length, map, refl, sym, ap, ◌∙◌, arith}
+use Rattle.std.proofs.Common.{◌≡◌, ℕ, zero, suc, ◌<◌, ◌≤◌, Bool, true, false, ◌||◌, ◌&&◌, List, [], ◌∷◌, ◌++◌, length, map, refl, sym, ap, arith}
 use Rattle.std.specs.List.{list_any, list_all}
 use Rattle.std.specs.Str.{bytes_eq}
 use Rattle.std.proofs.lemmas.Slice.Eq.{bytes_eq-Decides}
-use Rattle.lvish_script.specs.Text.{Word}
-use Rattle.lvish_script.specs.Name.{has_name, has_repeat}
+use Rattle.lvish_syntax.specs.Words.{Word}
+use Rattle.lvish_syntax.specs.Name.{has_name, has_repeat}
 
 -- ---- tests
 
@@ -20,9 +20,25 @@ pub neither : (a b : Bool) → a ≡ false → b ≡ false → (a || b) ≡ fals
 neither true b e h = absurd cc
 neither false b e h = h
 
+pub left_yes : (a b : Bool) → a ≡ true → (a || b) ≡ true
+left_yes true b e = refl
+left_yes false b e = absurd cc
+
+pub right_yes : (a b : Bool) → b ≡ true → (a || b) ≡ true
+right_yes true b e = refl
+right_yes false b e = e
+
 pub both_hold : (a b : Bool) → a ≡ true → b ≡ true → (a && b) ≡ true
 both_hold true b e h = h
 both_hold false b e h = absurd cc
+
+pub left_holds : (a b : Bool) → (a && b) ≡ true → a ≡ true
+left_holds true b e = refl
+left_holds false b e = absurd cc
+
+pub right_holds : (a b : Bool) → (a && b) ≡ true → b ≡ true
+right_holds true b e = e
+right_holds false b e = absurd cc
 
 pub same_name : (x : Word) → bytes_eq x x ≡ true
 same_name x = (bytes_eq-Decides x x).1 refl

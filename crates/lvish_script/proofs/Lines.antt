@@ -1,15 +1,14 @@
 -- Lines one after the other, as a loop sees them.
-use Rattle.std.proofs.Common.{◌≡◌, ℕ, zero, suc, ◌+◌, ◌<◌, ◌≤◌, Bool, true, false, ◌||◌, List, [], ◌∷◌, ◌++◌, length, take, get_or, Option, Some, None, refl, sym, ap, subst, ◌∙◌, arith, inl, inr, append_assoc}
-use Rattle.std.specs.Prelude.{slice_get, map}
-use Rattle.std.specs.Option.{option_map, option_map_or}
+use Rattle.std.proofs.Common.{◌≡◌, ℕ, zero, suc, ◌+◌, ◌<◌, ◌≤◌, Bool, true, false, ◌||◌, List, [], ◌∷◌, ◌++◌, length, take, get_or, Option, None, Some, refl, sym, ap, subst, ◌∙◌, arith, inl, inr}
+use Rattle.std.specs.Prelude.{slice_get, map, if◌then◌else◌}
+use Rattle.std.specs.Option.{option_map_or, option_or}
 use Rattle.std.proofs.lemmas.Option.{slice_get_past}
 use Rattle.std.specs.List.{list_any}
-use Rattle.std.specs.Str.{bytes_eq}
 use Rattle.std.proofs.lemmas.List.{take_more}
 use Rattle.std.proofs.lemmas.Bool.{cases_lt}
 use Rattle.lvish_script.specs.declared.line.Line.{Line}
 use Rattle.lvish_script.specs.Checks.{Opener}
-use Rattle.lvish_script.specs.Checks.{on_line, IsLowest, open_after, open_step, locals_after, locals_step}
+use Rattle.lvish_script.specs.Checks.{on_line, IsLowest, IsFirstOn, open_after, open_step, locals_after, locals_step}
 
 pub open_after-push : (opened : List Opener) (ls : List Line) (l : Line) → open_after opened (ls ++ l ∷ []) ≡ open_step (open_after opened ls) l
 open_after-push opened [] l = refl
@@ -50,6 +49,21 @@ module _ {X : Type 0} (test : ℕ → X → Bool) (xs : List X) where
     at = let e : suc k ≡ k + 1 = omega arith in subst (λ j. on_line test xs j ≡ true) e here;
     below = λ m lt. h m (omega arith);
   }
+
+-- the first line on which a test holds, of those up to a line
+abbrev pub IsFirstUpTo : (ℕ → Bool) → ℕ → Option ℕ → Type 0
+IsFirstUpTo test k None = (m : ℕ) → m ≤ k → test m ≡ false
+IsFirstUpTo test k (Some l) = IsLowest test l
+
+module _ {X : Type 0} (test : ℕ → X → Bool) (xs : List X) where
+  pub first_more : (k : ℕ) (found : Option ℕ) (b : Bool) → option_map_or (test k) (slice_get xs k) false ≡ b → IsFirstUpTo (on_line test xs) k found → IsFirstUpTo (on_line test xs) (k + 1) (option_or found (if b then Some (k + 1) else None))
+  first_more k None true here h = lowest_here test xs k h here
+  first_more k None false here h = passes_more test xs k h here
+  first_more k (Some l) b here low = low
+
+  pub first_of_all : (k : ℕ) (found : Option ℕ) → length xs ≤ k → IsFirstUpTo (on_line test xs) k found → IsFirstOn (on_line test xs) found
+  first_of_all k None past h = passes_all test xs k past h
+  first_of_all k (Some l) past low = low
 
 -- the item that a list made by f has at a place
 pub at_map : {X Y : Type 0} (f : X → Y) (test : Y → Bool) (xs : List X) (k : ℕ) (d : X) → k < length xs → option_map_or test (slice_get (map f xs) k) false ≡ test (f (get_or xs k d))

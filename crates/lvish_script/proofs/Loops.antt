@@ -1,8 +1,8 @@
 -- Loops that push a result for each item.
-use Rattle.std.proofs.Common.{◌≡◌, ℕ, zero, suc, ◌+◌, ◌<◌, Bool, true, false, ◌||◌, ◌&&◌, List, [], ◌∷◌, ◌++◌, length, get_or, take, map, refl, sym, ap, ◌∙◌, arith}
+use Rattle.std.proofs.Common.{◌≡◌, ℕ, zero, suc, ◌+◌, ◌<◌, Bool, true, false, ◌||◌, ◌&&◌, List, [], ◌∷◌, ◌++◌, length, get_or, take, map, refl, sym, ap, ◌∙◌, arith, take_all, length-drop, ◌-◌, drop}
 use Rattle.std.specs.List.{list_any, list_all}
 use Rattle.std.proofs.lemmas.List.Folds.{list_any-append, list_all-append}
-use Rattle.lvish_script.proofs.Cuts.{neither, both_hold}
+use Rattle.lvish_script.proofs.Cuts.{neither, both_hold, left_holds, right_holds}
 use Rattle.std.proofs.lemmas.List.{map_push, take_more}
 
 pub map_more : {X Y Z : Type 0} (f : X → Z) (g : Y → Z) (done : List X) (x : X) (ys : List Y) (i : ℕ) (d : Y) → i < length ys → f x ≡ g (get_or ys i d) → map f done ≡ map g (take i ys) → map f (done ++ x ∷ []) ≡ map g (take (i + 1) ys)
@@ -56,3 +56,13 @@ module _ {X : Type 0} (p : X → Bool) where
   all_items xs i x lt e h here =
       ap (list_all p) (take_more xs i x lt) ∙ list_all-append p (take i xs) (get_or xs i x ∷ [])
       ∙ both_hold _ _ h (both_hold (p (get_or xs i x)) true (ap p (sym e) ∙ here) refl)
+
+-- what holds of all holds of each
+pub all_at : {X Y : Type 0} (f : X → Y) (p : Y → Bool) (xs : List X) (i : ℕ) (d : X) → list_all p (map f xs) ≡ true → i < length xs → p (f (get_or xs i d)) ≡ true
+all_at f p [] i d e lt = absurd (omega arith)
+all_at f p (x ∷ xs) zero d e lt = left_holds (p (f x)) _ e
+all_at f p (x ∷ xs) (suc i) d e lt = all_at f p xs i d (right_holds (p (f x)) _ e) (omega arith)
+
+-- the slice from a place on
+pub rest_whole : {X : Type 0} (n : ℕ) (xs : List X) → take (length xs - n) (drop n xs) ≡ drop n xs
+rest_whole n xs = take_all (length xs - n) (drop n xs) (omega (arith, length-drop n xs))

@@ -1,19 +1,20 @@
 -- What the checks of places and blocks give the reader of nested statements.
-use Rattle.std.proofs.Common.{◌≡◌, ℕ, zero, suc, ◌+◌, ◌-◌, ◌<◌, ◌≤◌, Bool, true, false, ◌||◌, ◌&&◌, not, List, [], ◌∷◌, ◌++◌, length, take, get_or, Option, Some, None, refl, sym, ap, subst, ◌∙◌, arith, eq-eqb, take_all}
-use Rattle.std.specs.Prelude.{slice_get, filter, IsSome, ◌==◌}
+use Rattle.std.proofs.Common.{◌≡◌, ℕ, zero, suc, ◌+◌, ◌-◌, ◌<◌, ◌≤◌, Bool, true, false, ◌||◌, ◌&&◌, not, List, [], ◌∷◌, ◌++◌, length, take, get_or, Option, Some, None, refl, sym, ap, subst, ◌∙◌, arith, append-nil, eq-eqb, take_all, map, reverse}
+use Rattle.std.specs.Prelude.{slice_get, filter, ◌==◌}
 use Rattle.std.specs.Option.{option_map_or}
 use Rattle.std.specs.List.{list_any}
 use Rattle.std.proofs.lemmas.List.{take_more}
 use Rattle.std.proofs.lemmas.List.Elements.{filter-append}
-use Rattle.lvish_script.proofs.Lines.{list_any-append}
+use Rattle.std.proofs.lemmas.List.Folds.{list_any-append}
+use Rattle.lvish_syntax.specs.declared.procedure.Procedure.{Procedure}
 use Rattle.lvish_script.specs.declared.line.Line.{Line}
-use Rattle.lvish_script.specs.declared.line.Line.TheVariants.{Blank, Bad, Cell, Proc, Put, GetAny, Fork, End}
-use Rattle.lvish_script.specs.Checks.{Opener}
+use Rattle.lvish_script.specs.declared.line.Line.TheVariants.{Blank, Bad, Declare, Proc, Do, If, While, Else, End}
 use Rattle.lvish_script.specs.declared.fault.Fault.TheVariants.{BadLine, OpenBlock}
-use Rattle.lvish_script.specs.declared.procedure.Procedure.{Procedure}
-use Rattle.lvish_script.specs.Checks.{on_line, line_fails, open_after, is_nil, is_procedure, is_misplaced, stands_badly}
+use Rattle.lvish_script.specs.declared.nest.OpenProcedure.{OpenProcedure}
+use Rattle.lvish_script.specs.Checks.{Opener, InProcedure, InIf, InElse, InWhile, on_line, line_fails, open_after, open_step, is_nil, is_procedure, is_misplaced, stands_badly}
 use Rattle.lvish_script.specs.Spells.{says_something}
-use Rattle.lvish_script.specs.Nested.{Takes, HasNone, openers, what_is_said}
+use Rattle.lvish_script.specs.Nested.{Fits, HasNone, opener, openers, what_is_said}
+use Rattle.lvish_script.proofs.Lines.{open_after-more}
 
 or_left : (a b : Bool) → (a || b) ≡ false → a ≡ false
 or_left true b e = e
@@ -40,37 +41,63 @@ and_right false b e h = absurd cc
 one_said : (x : Line) → filter says_something (x ∷ []) ≡ what_is_said x
 one_said Blank = refl
 one_said Bad = refl
-one_said (Cell n) = refl
+one_said (Declare d) = refl
 one_said (Proc n xs) = refl
-one_said (Put v t) = refl
-one_said (GetAny x v) = refl
-one_said (Fork n ts) = refl
+one_said (Do c) = refl
+one_said (If t) = refl
+one_said (While t) = refl
+one_said Else = refl
 one_said End = refl
 
-begins : (o : Option Procedure) → not (is_nil (openers o)) ≡ false → o ≡ None
-begins None e = refl
-begins (Some p) e = absurd cc
+fits_at : (before : List Line) (ps : List Procedure) (o : Option OpenProcedure) (line : Line) → (list_any is_procedure before ≡ false → HasNone ps o) → stands_badly before line ≡ false → is_misplaced (openers o) line ≡ false → Fits ps o line
+fits_at before ps o Blank none bad mis = mis
+fits_at before ps o Bad none bad mis = absurd cc
+fits_at before ps o (Declare d) none bad mis = none bad
+fits_at before ps o (Proc n xs) none bad mis = mis
+fits_at before ps o (Do c) none bad mis = mis
+fits_at before ps o (If t) none bad mis = mis
+fits_at before ps o (While t) none bad mis = mis
+fits_at before ps o Else none bad mis = mis
+fits_at before ps o End none bad mis = mis
 
-goes_on : (o : Option Procedure) → is_nil (openers o) ≡ false → IsSome o
-goes_on None e = absurd cc
-goes_on (Some p) e = refl
+-- a line that says nothing
+silent : (x : Line) → says_something x ≡ false → x ≡ Blank
+silent Blank e = refl
+silent Bad e = absurd cc
+silent (Declare d) e = absurd cc
+silent (Proc n xs) e = absurd cc
+silent (Do c) e = absurd cc
+silent (If t) e = absurd cc
+silent (While t) e = absurd cc
+silent Else e = absurd cc
+silent End e = absurd cc
 
-takes_at : (before : List Line) (ps : List Procedure) (o : Option Procedure) (line : Line) → (list_any is_procedure before ≡ false → HasNone ps o) → stands_badly before line ≡ false → is_misplaced (openers o) line ≡ false → Takes ps o line
-takes_at before ps o Blank none bad mis = tt
-takes_at before ps o Bad none bad mis = absurd cc
-takes_at before ps o (Cell n) none bad mis = none bad
-takes_at before ps o (Proc n xs) none bad mis = begins o mis
-takes_at before ps o (Put v t) none bad mis = goes_on o mis
-takes_at before ps o (GetAny x v) none bad mis = goes_on o mis
-takes_at before ps o (Fork n ts) none bad mis = goes_on o mis
-takes_at before ps o End none bad mis = goes_on o mis
+blank_opens : (os : List Opener) → open_step os Blank ≡ os
+blank_opens [] = refl
+blank_opens (InProcedure ∷ os) = refl
+blank_opens (InIf ∷ os) = refl
+blank_opens (InElse ∷ os) = refl
+blank_opens (InWhile ∷ os) = refl
+
+-- nothing is open, where no opener is
+nil_openers : (o : Option OpenProcedure) → is_nil (openers o) ≡ true → o ≡ None
+nil_openers None e = refl
+nil_openers (Some p) e = absurd (never_nil (reverse (map opener p.blocks.items)) e)
+  where
+    never_nil : (os : List Opener) → is_nil (os ++ InProcedure ∷ []) ≡ true → ⊥
+    never_nil [] e = cc
+    never_nil (x ∷ os) e = cc
+
+not_true : (b : Bool) → not b ≡ false → b ≡ true
+not_true true e = refl
+not_true false e = absurd cc
 
 module _ (said : List Line) (placed : (l : ℕ) → on_line (line_fails BadLine said) said l ≡ false) (closed : (l : ℕ) → on_line (line_fails OpenBlock said) said l ≡ false) where
-  pub takes : (i : ℕ) (x : Line) (ps : List Procedure) (o : Option Procedure) → i < length said → x ≡ get_or said i x → openers o ≡ open_after [] (take i said) → (list_any is_procedure (take i said) ≡ false → HasNone ps o) → Takes ps o x
-  takes i x ps o lt e opened none =
+  pub fits : (i : ℕ) (x : Line) (ps : List Procedure) (o : Option OpenProcedure) → i < length said → x ≡ get_or said i x → openers o ≡ open_after [] (take i said) → (list_any is_procedure (take i said) ≡ false → HasNone ps o) → Fits ps o x
+  fits i x ps o lt e opened none =
       let bad : stands_badly (take i said) x ≡ false = sym (at_item (line_fails BadLine said i) said i x lt e) ∙ placed (suc i) in
       let mis = or_left _ _ (sym (at_item (line_fails OpenBlock said i) said i x lt e) ∙ closed (suc i)) in
-      takes_at (take i said) ps o x none bad (subst (λ s. is_misplaced s x ≡ false) (sym opened) mis)
+      fits_at (take i said) ps o x none bad (subst (λ s. is_misplaced s x ≡ false) (sym opened) mis)
 
   pub says_more : (i : ℕ) (x : Line) → i < length said → x ≡ get_or said i x → filter says_something (take (i + 1) said) ≡ filter says_something (take i said) ++ what_is_said x
   says_more i x lt e = rw (take_more said i x lt) (filter-append says_something (take i said) (get_or said i x ∷ []) ∙ ap (λ (y : Line). filter says_something (take i said) ++ filter says_something (y ∷ [])) (sym e) ∙ ap (λ t. filter says_something (take i said) ++ t) (one_said x))
@@ -80,19 +107,21 @@ module _ (said : List Line) (placed : (l : ℕ) → on_line (line_fails BadLine 
       let g : (list_any is_procedure (take i said) || (is_procedure x || false)) ≡ false = ap (λ (y : Line). list_any is_procedure (take i said) || (is_procedure y || false)) e ∙ sym (list_any-append is_procedure (take i said) (get_or said i x ∷ [])) ∙ ap (list_any is_procedure) (sym (take_more said i x lt)) ∙ h in
       (or_left _ _ g, or_left _ _ (or_right _ _ g))
 
-  pub closes : (d : Line) (o : Option Procedure) → openers o ≡ open_after [] said → 0 < length said → o ≡ None
+  pub says_no_more : (i : ℕ) (x : Line) → i < length said → x ≡ get_or said i x → says_something x ≡ false → filter says_something (take (i + 1) said) ≡ filter says_something (take i said)
+  says_no_more i x lt e nothing = says_more i x lt e ∙ ap (λ (y : Line). filter says_something (take i said) ++ what_is_said y) (silent x nothing) ∙ append-nil (filter says_something (take i said))
+
+  pub opens_no_more : (i : ℕ) (x : Line) → i < length said → x ≡ get_or said i x → says_something x ≡ false → open_after [] (take (i + 1) said) ≡ open_after [] (take i said)
+  opens_no_more i x lt e nothing = open_after-more said i x lt e ∙ ap (open_step (open_after [] (take i said))) (silent x nothing) ∙ blank_opens (open_after [] (take i said))
+
+  pub closes : (d : Line) (o : Option OpenProcedure) → openers o ≡ open_after [] said → 0 < length said → o ≡ None
   closes d o e pos =
       let k = length said - 1 in
       let lt : length said - 1 < length said = omega arith in
       let last : (suc (length said - 1) == length said) ≡ true = eq-eqb _ _ (omega arith) in
       let r = or_right (is_misplaced (open_after [] (take (length said - 1) said)) (get_or said (length said - 1) d)) _ (sym (at_place (line_fails OpenBlock said (length said - 1)) said (length said - 1) d lt) ∙ closed (suc (length said - 1))) in
       let n = and_right _ _ last r in
-      begins o (subst (λ s. not (is_nil s) ≡ false) (sym e) n)
+      nil_openers o (not_true _ (subst (λ s. not (is_nil s) ≡ false) (sym e) n))
 
-nil_openers : (o : Option Procedure) → openers o ≡ [] → o ≡ None
-nil_openers None e = refl
-nil_openers (Some p) e = absurd cc
-
-pub ends_closed : (said : List Line) (placed : (l : ℕ) → on_line (line_fails BadLine said) said l ≡ false) (closed : (l : ℕ) → on_line (line_fails OpenBlock said) said l ≡ false) (i : ℕ) → length said ≤ i → (o : Option Procedure) → openers o ≡ open_after [] (take i said) → o ≡ None
-ends_closed [] placed closed i le o e = nil_openers o (e ∙ ap (open_after []) (take_all i [] le))
+pub ends_closed : (said : List Line) (placed : (l : ℕ) → on_line (line_fails BadLine said) said l ≡ false) (closed : (l : ℕ) → on_line (line_fails OpenBlock said) said l ≡ false) (i : ℕ) → length said ≤ i → (o : Option OpenProcedure) → openers o ≡ open_after [] (take i said) → o ≡ None
+ends_closed [] placed closed i le o e = nil_openers o (ap is_nil (e ∙ ap (open_after []) (take_all i [] le)))
 ends_closed (y ∷ ys) placed closed i le o e = closes (y ∷ ys) placed closed y o (e ∙ ap (open_after []) (take_all i (y ∷ ys) le)) (omega arith)

@@ -1,10 +1,8 @@
 -- The checks one after the other.
-use Rattle.std.proofs.Common.{◌≡◌, ℕ, zero, suc, ◌<◌, Bool, true, false, not, List, [], ◌∷◌, Option, Some, None, refl, arith}
-use Rattle.std.specs.Prelude.{slice_get}
-use Rattle.std.specs.Option.{option_map_or}
-use Rattle.lvish_script.specs.declared.fault.Fault.{Fault}
+use Rattle.std.proofs.Common.{◌≡◌, ℕ, zero, suc, Bool, true, false, not, [], ◌∷◌, Option, Some, None, refl, arith}
+use Rattle.std.specs.Option.{option_map}
 use Rattle.lvish_script.specs.declared.fault.Fault.TheVariants.{TooLong, NotAscii, BadLine, BadNumber, DoubleName, UnknownName, WrongKind, WrongCount, OpenBlock, Compatible, NoMain, TooMany}
-use Rattle.lvish_script.specs.Checks.{Parts, Passes, fails, on_line, on_whole, IsLowest, IsFirstFault, IsAccepted, checks}
+use Rattle.lvish_script.specs.Checks.{Parts, Passes, fails, on_whole, IsLowest, IsFirstOn, IsFirstFault, IsAccepted, IsVerdict}
 
 pub whole_passes : (b : Bool) → b ≡ false → (l : ℕ) → on_whole b l ≡ false
 whole_passes b e zero = e
@@ -12,21 +10,6 @@ whole_passes b e (suc l) = refl
 
 pub whole_lowest : (b : Bool) → b ≡ true → IsLowest (on_whole b) 0
 whole_lowest b e = record { at = e; below = λ m lt. absurd (omega arith) }
-
--- a check that no line can fail passes
-never : {X : Type 0} (xs : List X) (l : ℕ) → on_line (λ k x. false) xs l ≡ false
-never xs zero = refl
-never xs (suc l) = at_none (slice_get xs l)
-  where
-    at_none : {Y : Type 0} (o : Option Y) → option_map_or (λ y. false) o false ≡ false
-    at_none None = refl
-    at_none (Some y) = refl
-
-pub passes_WrongKind : (p : Parts) → Passes p WrongKind
-passes_WrongKind p = never p.said
-
-pub passes_Compatible : (p : Parts) → Passes p Compatible
-passes_Compatible p = never p.said
 
 module _ (p : Parts) (l : ℕ) where
   pub first_TooLong : IsLowest (fails TooLong p) l → IsFirstFault p TooLong l
@@ -65,21 +48,13 @@ module _ (p : Parts) (l : ℕ) where
   pub first_TooMany : Passes p TooLong → Passes p NotAscii → Passes p BadLine → Passes p BadNumber → Passes p DoubleName → Passes p UnknownName → Passes p WrongKind → Passes p WrongCount → Passes p OpenBlock → Passes p Compatible → Passes p NoMain → IsLowest (fails TooMany p) l → IsFirstFault p TooMany l
   first_TooMany p0 p1 p2 p3 p4 p5 p6 p7 p8 p9 p10 low = record { passed = TooLong ∷ NotAscii ∷ BadLine ∷ BadNumber ∷ DoubleName ∷ UnknownName ∷ WrongKind ∷ WrongCount ∷ OpenBlock ∷ Compatible ∷ NoMain ∷ []; rest = []; order = refl; earlier = (p0, (p1, (p2, (p3, (p4, (p5, (p6, (p7, (p8, (p9, (p10, tt))))))))))); lowest = low }
 
-  -- WrongKind and Compatible have no line on which they fail
-  pub then_WrongCount : Passes p TooLong → Passes p NotAscii → Passes p BadLine → Passes p BadNumber → Passes p DoubleName → Passes p UnknownName → IsLowest (fails WrongCount p) l → IsFirstFault p WrongCount l
-  then_WrongCount p0 p1 p2 p3 p4 p5 low = first_WrongCount p0 p1 p2 p3 p4 p5 (passes_WrongKind p) low
+pub accepted_by : (p : Parts) → Passes p TooLong → Passes p NotAscii → Passes p BadLine → Passes p BadNumber → Passes p DoubleName → Passes p UnknownName → Passes p WrongKind → Passes p WrongCount → Passes p OpenBlock → Passes p Compatible → Passes p NoMain → Passes p TooMany → IsAccepted p
+accepted_by p p0 p1 p2 p3 p4 p5 p6 p7 p8 p9 p10 p11 = (p0, (p1, (p2, (p3, (p4, (p5, (p6, (p7, (p8, (p9, (p10, (p11, tt))))))))))))
 
-  pub then_OpenBlock : Passes p TooLong → Passes p NotAscii → Passes p BadLine → Passes p BadNumber → Passes p DoubleName → Passes p UnknownName → Passes p WrongCount → IsLowest (fails OpenBlock p) l → IsFirstFault p OpenBlock l
-  then_OpenBlock p0 p1 p2 p3 p4 p5 p7 low = first_OpenBlock p0 p1 p2 p3 p4 p5 (passes_WrongKind p) p7 low
-
-  pub then_NoMain : Passes p TooLong → Passes p NotAscii → Passes p BadLine → Passes p BadNumber → Passes p DoubleName → Passes p UnknownName → Passes p WrongCount → Passes p OpenBlock → IsLowest (fails NoMain p) l → IsFirstFault p NoMain l
-  then_NoMain p0 p1 p2 p3 p4 p5 p7 p8 low = first_NoMain p0 p1 p2 p3 p4 p5 (passes_WrongKind p) p7 p8 (passes_Compatible p) low
-
-  pub then_TooMany : Passes p TooLong → Passes p NotAscii → Passes p BadLine → Passes p BadNumber → Passes p DoubleName → Passes p UnknownName → Passes p WrongCount → Passes p OpenBlock → Passes p NoMain → IsLowest (fails TooMany p) l → IsFirstFault p TooMany l
-  then_TooMany p0 p1 p2 p3 p4 p5 p7 p8 p10 low = first_TooMany p0 p1 p2 p3 p4 p5 (passes_WrongKind p) p7 p8 (passes_Compatible p) p10 low
-
-pub accepted_by : (p : Parts) → Passes p TooLong → Passes p NotAscii → Passes p BadLine → Passes p BadNumber → Passes p DoubleName → Passes p UnknownName → Passes p WrongCount → Passes p OpenBlock → Passes p NoMain → Passes p TooMany → IsAccepted p
-accepted_by p p0 p1 p2 p3 p4 p5 p7 p8 p10 p11 = (p0, (p1, (p2, (p3, (p4, (p5, (passes_WrongKind p, (p7, (p8, (passes_Compatible p, (p10, (p11, tt))))))))))))
+-- what the last check says, where the others pass
+pub last_verdict : (p : Parts) → Passes p TooLong → Passes p NotAscii → Passes p BadLine → Passes p BadNumber → Passes p DoubleName → Passes p UnknownName → Passes p WrongKind → Passes p WrongCount → Passes p OpenBlock → Passes p Compatible → Passes p NoMain → (found : Option ℕ) → IsFirstOn (fails TooMany p) found → IsVerdict p (option_map (λ l. record { fault = TooMany; line = l }) found)
+last_verdict p p0 p1 p2 p3 p4 p5 p6 p7 p8 p9 p10 None passes = accepted_by p p0 p1 p2 p3 p4 p5 p6 p7 p8 p9 p10 passes
+last_verdict p p0 p1 p2 p3 p4 p5 p6 p7 p8 p9 p10 (Some l) low = first_TooMany p l p0 p1 p2 p3 p4 p5 p6 p7 p8 p9 p10 low
 
 -- no `main` is a fault of the whole text
 pub without_main : (b : Bool) → b ≡ false → not b ≡ true

@@ -1,34 +1,32 @@
 -- What a scan over the lines knows after one line more.
-use Rattle.std.proofs.Common.{◌≡◌, ℕ, zero, suc, ◌+◌, ◌<◌, ◌≤◌, Bool, true, false, not, cond, ◌||◌, ◌&&◌, List, [], ◌∷◌, ◌++◌, length, map, take, drop, get_or, Option, Some, None, refl, sym, ap, subst, ◌∙◌, ◌==◌, arith, append_assoc, add-one, take_all, length-drop, ◌-◌}
+use Rattle.std.proofs.Common.{◌≡◌, ℕ, suc, ◌+◌, ◌<◌, ◌≤◌, Bool, true, false, not, cond, ◌||◌, ◌&&◌, List, [], ◌∷◌, ◌++◌, length, take, drop, get_or, Option, Some, None, Bor, refl, sym, ap, ◌∙◌, ◌==◌, arith, append_assoc, add-one, take_all}
 use Rattle.std.specs.Prelude.{count_by, if◌then◌else◌}
 use Rattle.std.specs.Option.{option_map, option_map_or, option_or}
-use Rattle.std.specs.List.{list_any, list_all}
+use Rattle.std.specs.List.{list_any}
 use Rattle.std.specs.Str.{bytes_eq}
 use Rattle.std.proofs.lemmas.List.{append-nil, drop_all, take-append-drop}
 use Rattle.std.proofs.Math.Seq.{drop-cons}
-use Rattle.std.proofs.lemmas.List.Folds.{list_any-append, list_all-append}
+use Rattle.std.proofs.lemmas.List.Folds.{list_any-append}
 use Rattle.std.proofs.lemmas.List.Sums.{sum_by-append}
-use Rattle.std.proofs.lemmas.Slice.Eq.{bytes_eq-Decides}
-use Rattle.lvish_script.specs.Text.{Word}
-use Rattle.lvish_script.specs.Name.{has_name, has_repeat, is_known}
-use Rattle.lvish_script.specs.Arities.{arity_of}
+use Rattle.std.proofs.lemmas.Grind.{flat_map-append}
+use Rattle.lvish_syntax.specs.Words.{Word}
+use Rattle.lvish_syntax.specs.Name.{has_name, has_repeat}
+use Rattle.lvish_syntax.specs.Sound.{variable_name, variable_names, pool_name, pool_names, kind_of, variable_of}
+use Rattle.lvish_syntax.specs.declared.declaration.Declaration.{Declaration}
+use Rattle.lvish_syntax.specs.declared.declaration.Declaration.TheVariants.{Variable, Pool}
+use Rattle.lvish_syntax.specs.declared.kind.VariableKind.{VariableKind}
+use Rattle.lvish_script.specs.Table.{value_at}
 use Rattle.lvish_script.specs.declared.line.Line.{Line}
-use Rattle.lvish_script.specs.declared.line.Line.TheVariants.{Blank, Bad, Cell, Proc, Put, GetAny, Fork, End}
-use Rattle.lvish_script.specs.declared.term.Term.{Term}
-use Rattle.lvish_script.specs.declared.term.Term.TheVariants.{Local, Number}
-use Rattle.lvish_script.specs.Checks.{declares_variable, declares_procedure, parameters_of, is_procedure, binds, binds_until_procedure, locals_step, locals_after, locals_at, is_misplaced, is_nil, open_after, open_step, line_fails}
+use Rattle.lvish_script.specs.declared.line.Line.TheVariants.{Declare, Proc}
+use Rattle.lvish_script.specs.Checks.{declared_by, declarations, has_variable, has_pool, has_procedure, declares_procedure, parameters_of, is_procedure, binds, binds_until_procedure, locals_step, locals_after, locals_at, is_misplaced, is_nil, open_after, open_step, line_fails}
 use Rattle.lvish_script.specs.declared.fault.Fault.TheVariants.{OpenBlock}
 use Rattle.std.proofs.lemmas.Bool.{eqb-true}
-use Rattle.lvish_script.specs.Known.{AreVariables, AreProcedures, AreArities, HaveSameNames}
+use Rattle.lvish_script.specs.Known.{AreVariables, ArePools, AreProcedures, AreArities, AreKinds, AreOfPools, HaveSameNames}
 use Rattle.lvish_script.proofs.Seen.{bytes_eq_flip}
-use Rattle.lvish_script.proofs.Cuts.{neither}
+use Rattle.lvish_script.proofs.Cuts.{neither, left_fails, right_fails}
 use Rattle.lvish_script.proofs.Lines.{locals_after-more, open_after-more, taken_with}
 
 -- ---- names that lines declare
-
-or_none : (b : Bool) → (b || (false || false)) ≡ b
-or_none true = refl
-or_none false = refl
 
 or_last : (a b : Bool) → (b || a) ≡ (a || (b || false))
 or_last true true = refl
@@ -51,21 +49,44 @@ count_taken p xs k x lt e = ap (count_by p) (taken_with xs k x lt e) ∙ sum_by-
     one true = refl
     one false = refl
 
--- a test that fails on a line is of no more lines
-same_any : (p : Line → Bool) (before : List Line) (x : Line) → p x ≡ false → list_any p (before ++ x ∷ []) ≡ list_any p before
-same_any p before x none = list_any-append p before (x ∷ []) ∙ rw none (or_none (list_any p before))
+-- what the lines declare, with a line more
+pub declared_more : (before : List Line) (x : Line) → declarations (before ++ x ∷ []) ≡ declarations before ++ declared_by x
+declared_more before x = flat_map-append declared_by before (x ∷ []) ∙ ap (λ ds. declarations before ++ ds) (append-nil (declared_by x))
 
-pub variable_more : (old new : List Word) (n : Word) (before : List Line) → ((q : Word) → has_name q new ≡ (bytes_eq n q || has_name q old)) → AreVariables old before → AreVariables new (before ++ Cell n ∷ [])
-variable_more old new n before added known q = added q ∙ ap (λ b. bytes_eq n q || b) (known q) ∙ or_last (list_any (declares_variable q) before) (bytes_eq n q) ∙ sym (list_any-append (declares_variable q) before (Cell n ∷ []))
+variable_pushed : (q : Word) (before : List Line) (x : Line) → has_variable q (before ++ x ∷ []) ≡ (has_variable q before || has_name q (variable_names (declared_by x)))
+variable_pushed q before x =
+    ap (λ ds. has_name q (variable_names ds)) (declared_more before x)
+    ∙ ap (has_name q) (flat_map-append variable_name (declarations before) (declared_by x))
+    ∙ list_any-append (λ y. bytes_eq y q) (variable_names (declarations before)) (variable_names (declared_by x))
+
+pool_pushed : (q : Word) (before : List Line) (x : Line) → has_pool q (before ++ x ∷ []) ≡ (has_pool q before || has_name q (pool_names (declared_by x)))
+pool_pushed q before x =
+    ap (λ ds. has_name q (pool_names ds)) (declared_more before x)
+    ∙ ap (has_name q) (flat_map-append pool_name (declarations before) (declared_by x))
+    ∙ list_any-append (λ y. bytes_eq y q) (pool_names (declarations before)) (pool_names (declared_by x))
+
+pub variable_more : (old new : List Word) (n : Word) (k : VariableKind) (before : List Line) → ((q : Word) → has_name q new ≡ (bytes_eq n q || has_name q old)) → AreVariables old before → AreVariables new (before ++ Declare (Variable n k) ∷ [])
+variable_more old new n k before added known q = added q ∙ ap (λ b. bytes_eq n q || b) (known q) ∙ or_last (has_variable q before) (bytes_eq n q) ∙ sym (variable_pushed q before (Declare (Variable n k)))
+
+pub pool_more : (old new : List Word) (p v : Word) (before : List Line) → ((q : Word) → has_name q new ≡ (bytes_eq p q || has_name q old)) → ArePools old before → ArePools new (before ++ Declare (Pool p v) ∷ [])
+pool_more old new p v before added known q = added q ∙ ap (λ b. bytes_eq p q || b) (known q) ∙ or_last (has_pool q before) (bytes_eq p q) ∙ sym (pool_pushed q before (Declare (Pool p v)))
 
 pub procedure_more : (old new : List Word) (n : Word) (xs : List Word) (before : List Line) → ((q : Word) → has_name q new ≡ (bytes_eq n q || has_name q old)) → AreProcedures old before → AreProcedures new (before ++ Proc n xs ∷ [])
-procedure_more old new n xs before added known q = added q ∙ ap (λ b. bytes_eq n q || b) (known q) ∙ or_last (list_any (declares_procedure q) before) (bytes_eq n q) ∙ sym (list_any-append (declares_procedure q) before (Proc n xs ∷ []))
+procedure_more old new n xs before added known q = added q ∙ ap (λ b. bytes_eq n q || b) (known q) ∙ or_last (has_procedure q before) (bytes_eq n q) ∙ sym (list_any-append (declares_procedure q) before (Proc n xs ∷ []))
 
-pub variables_same : (names : List Word) (before : List Line) (x : Line) → ((q : Word) → declares_variable q x ≡ false) → AreVariables names before → AreVariables names (before ++ x ∷ [])
-variables_same names before x none known q = known q ∙ sym (same_any (declares_variable q) before x (none q))
+or_no : (b : Bool) → b ≡ (b || false)
+or_no true = refl
+or_no false = refl
+
+-- a line that declares none changes nothing
+pub variables_same : (names : List Word) (before : List Line) (x : Line) → variable_names (declared_by x) ≡ [] → AreVariables names before → AreVariables names (before ++ x ∷ [])
+variables_same names before x none known q = known q ∙ or_no (has_variable q before) ∙ sym (variable_pushed q before x ∙ ap (λ ns. has_variable q before || has_name q ns) none)
+
+pub pools_same : (names : List Word) (before : List Line) (x : Line) → pool_names (declared_by x) ≡ [] → ArePools names before → ArePools names (before ++ x ∷ [])
+pools_same names before x none known q = known q ∙ or_no (has_pool q before) ∙ sym (pool_pushed q before x ∙ ap (λ ns. has_pool q before || has_name q ns) none)
 
 pub procedures_same : (names : List Word) (before : List Line) (x : Line) → ((q : Word) → declares_procedure q x ≡ false) → AreProcedures names before → AreProcedures names (before ++ x ∷ [])
-procedures_same names before x none known q = known q ∙ sym (same_any (declares_procedure q) before x (none q))
+procedures_same names before x none known q = known q ∙ or_no (has_procedure q before) ∙ sym (list_any-append (declares_procedure q) before (x ∷ []) ∙ ap (λ b. has_procedure q before || (b || false)) (none q))
 
 -- ---- counts of parameters
 
@@ -78,20 +99,21 @@ parameters_push q [] x = refl
 parameters_push q (Proc n xs ∷ before) x = first_or q n xs before x _ refl (parameters_push q before x)
 parameters_push q (l ∷ before) x = parameters_push q before x
 
-or_nothing : (o : Option (List Word)) → option_or o None ≡ o
+or_nothing : {V : Type 0} (o : Option V) → option_or o None ≡ o
 or_nothing None = refl
-or_nothing (Some xs) = refl
+or_nothing (Some v) = refl
 
-counted_or : (o : Option (List Word)) (xs : List Word) (t : Bool) → option_or (option_map length o) (if t then Some (length xs) else None) ≡ option_map length (option_or o (if t then Some xs else None))
-counted_or None xs true = refl
-counted_or None xs false = refl
-counted_or (Some ys) xs t = refl
+-- the value of what is added, where there was none, seen through f
+seen_or : {V W : Type 0} (f : V → W) (o : Option V) (v : V) (t : Bool) → option_map f (option_or o (if t then Some v else None)) ≡ option_or (option_map f o) (if t then Some (f v) else None)
+seen_or f None v true = refl
+seen_or f None v false = refl
+seen_or f (Some w) v t = refl
 
-pub arity_more : (old new : List (Word × ℕ)) (n : Word) (xs : List Word) (before : List Line) → ((q : Word) → arity_of q new ≡ option_or (arity_of q old) (if bytes_eq n q then Some (length xs) else None)) → AreArities old before → AreArities new (before ++ Proc n xs ∷ [])
+pub arity_more : (old new : List (Word × ℕ)) (n : Word) (xs : List Word) (before : List Line) → ((q : Word) → value_at q new ≡ option_or (value_at q old) (if bytes_eq n q then Some (length xs) else None)) → AreArities old before → AreArities new (before ++ Proc n xs ∷ [])
 arity_more old new n xs before added known q =
     added q
     ∙ ap (λ o. option_or o (if bytes_eq n q then Some (length xs) else None)) (known q)
-    ∙ counted_or (parameters_of q before) xs (bytes_eq n q)
+    ∙ sym (seen_or length (parameters_of q before) xs (bytes_eq n q))
     ∙ ap (option_map length) (sym (parameters_push q before (Proc n xs)))
 
 pub arities_same : (counts : List (Word × ℕ)) (before : List Line) (x : Line) → ((q : Word) → parameters_of q (x ∷ []) ≡ None) → AreArities counts before → AreArities counts (before ++ x ∷ [])
@@ -100,6 +122,42 @@ arities_same counts before x none known q = known q ∙ ap (option_map length) (
 pub no_parameters : (x : Line) → ((n : Word) (xs : List Word) → x ≡ Proc n xs → ⊥) → (q : Word) → parameters_of q (x ∷ []) ≡ None
 no_parameters (Proc n xs) h q = absurd (h n xs refl)
 no_parameters x h q = refl
+
+-- ---- kinds of variables, and variables of pools
+
+kind_first : (q n : Word) (k : VariableKind) (ds : List Declaration) (d : Declaration) (t : Bool) → bytes_eq n q ≡ t → kind_of q (ds ++ d ∷ []) ≡ option_or (kind_of q ds) (kind_of q (d ∷ [])) → kind_of q (Variable n k ∷ (ds ++ d ∷ [])) ≡ option_or (kind_of q (Variable n k ∷ ds)) (kind_of q (d ∷ []))
+kind_first q n k ds d true e h = rw e refl
+kind_first q n k ds d false e h = rw e h
+
+kind_push : (q : Word) (ds : List Declaration) (d : Declaration) → kind_of q (ds ++ d ∷ []) ≡ option_or (kind_of q ds) (kind_of q (d ∷ []))
+kind_push q [] d = refl
+kind_push q (Variable n k ∷ ds) d = kind_first q n k ds d _ refl (kind_push q ds d)
+kind_push q (Pool p v ∷ ds) d = kind_push q ds d
+
+pool_first : (q p v : Word) (ds : List Declaration) (d : Declaration) (t : Bool) → bytes_eq p q ≡ t → variable_of q (ds ++ d ∷ []) ≡ option_or (variable_of q ds) (variable_of q (d ∷ [])) → variable_of q (Pool p v ∷ (ds ++ d ∷ [])) ≡ option_or (variable_of q (Pool p v ∷ ds)) (variable_of q (d ∷ []))
+pool_first q p v ds d true e h = rw e refl
+pool_first q p v ds d false e h = rw e h
+
+variable_push : (q : Word) (ds : List Declaration) (d : Declaration) → variable_of q (ds ++ d ∷ []) ≡ option_or (variable_of q ds) (variable_of q (d ∷ []))
+variable_push q [] d = refl
+variable_push q (Pool p v ∷ ds) d = pool_first q p v ds d _ refl (variable_push q ds d)
+variable_push q (Variable n k ∷ ds) d = variable_push q ds d
+
+pub kind_more : (old new : List (Word × VariableKind)) (n : Word) (k : VariableKind) (ds : List Declaration) → ((q : Word) → value_at q new ≡ option_or (value_at q old) (if bytes_eq n q then Some k else None)) → AreKinds old ds → AreKinds new (ds ++ Variable n k ∷ [])
+kind_more old new n k ds added known q = added q ∙ ap (λ o. option_or o (if bytes_eq n q then Some k else None)) (known q) ∙ sym (kind_push q ds (Variable n k))
+
+pub kinds_past_pool : (kinds : List (Word × VariableKind)) (p v : Word) (ds : List Declaration) → AreKinds kinds ds → AreKinds kinds (ds ++ Pool p v ∷ [])
+kinds_past_pool kinds p v ds known q = known q ∙ sym (kind_push q ds (Pool p v) ∙ or_nothing (kind_of q ds))
+
+pub of_pool_more : (old new : List (Word × Bor Word)) (p : Word) (v : Bor Word) (ds : List Declaration) → ((q : Word) → value_at q new ≡ option_or (value_at q old) (if bytes_eq p q then Some v else None)) → AreOfPools old ds → AreOfPools new (ds ++ Pool p v.now ∷ [])
+of_pool_more old new p v ds added known q =
+    ap (option_map (λ b. b.now)) (added q)
+    ∙ seen_or (λ b. b.now) (value_at q old) v (bytes_eq p q)
+    ∙ ap (λ o. option_or o (if bytes_eq p q then Some v.now else None)) (known q)
+    ∙ sym (variable_push q ds (Pool p v.now))
+
+pub of_pools_past_variable : (variables : List (Word × Bor Word)) (n : Word) (k : VariableKind) (ds : List Declaration) → AreOfPools variables ds → AreOfPools variables (ds ++ Variable n k ∷ [])
+of_pools_past_variable variables n k ds known q = known q ∙ sym (variable_push q ds (Variable n k) ∙ or_nothing (variable_of q ds))
 
 -- ---- names that stand twice
 
@@ -125,20 +183,12 @@ pub repeat_found : (x : Word) (xs ys : List Word) → has_name x xs ≡ true →
 repeat_found x [] ys h = absurd cc
 repeat_found x (y ∷ xs) ys h = either_twice y x xs ys _ refl (repeat_found x xs ys) h
 
-left_no : (a b : Bool) → (a || b) ≡ false → a ≡ false
-left_no true b e = absurd cc
-left_no false b e = refl
-
-right_no : (a b : Bool) → (a || b) ≡ false → b ≡ false
-right_no true b e = absurd cc
-right_no false b e = e
-
 pub no_repeat_more : (x : Word) (xs : List Word) → has_repeat xs ≡ false → has_name x xs ≡ false → has_repeat (xs ++ x ∷ []) ≡ false
 no_repeat_more x [] r h = refl
 no_repeat_more x (y ∷ xs) r h =
-    let apart : bytes_eq x y ≡ false = bytes_eq_flip x y ∙ left_no (bytes_eq y x) (has_name x xs) h in
-    let first : has_name y (xs ++ x ∷ []) ≡ false = list_any-append (λ z. bytes_eq z y) xs (x ∷ []) ∙ neither (has_name y xs) _ (left_no (has_name y xs) (has_repeat xs) r) (neither (bytes_eq x y) false apart refl) in
-    neither (has_name y (xs ++ x ∷ [])) _ first (no_repeat_more x xs (right_no (has_name y xs) (has_repeat xs) r) (right_no (bytes_eq y x) (has_name x xs) h))
+    let apart : bytes_eq x y ≡ false = bytes_eq_flip x y ∙ left_fails (bytes_eq y x) (has_name x xs) h in
+    let first : has_name y (xs ++ x ∷ []) ≡ false = list_any-append (λ z. bytes_eq z y) xs (x ∷ []) ∙ neither (has_name y xs) _ (left_fails (has_name y xs) (has_repeat xs) r) (neither (bytes_eq x y) false apart refl) in
+    neither (has_name y (xs ++ x ∷ [])) _ first (no_repeat_more x xs (right_fails (has_name y xs) (has_repeat xs) r) (right_fails (bytes_eq y x) (has_name x xs) h))
 
 drop_at : {X : Type 0} (xs : List X) (k : ℕ) (x : X) → k < length xs → x ≡ get_or xs k x → drop k xs ≡ x ∷ drop (k + 1) xs
 drop_at xs k x lt e = rw add-one (drop-cons xs k x lt ∙ ap (λ y. y ∷ drop (suc k) xs) (sym e))
@@ -200,9 +250,9 @@ abbrev pub Gathers : List Word → List Word → List Word → Type 0
 Gathers names rest all = (q : Word) → (has_name q names || has_name q rest) ≡ has_name q all
 
 module _ (lines : List Line) (k : ℕ) (x : Line) (lt : k < length lines) (e : x ≡ get_or lines k x) where
-  pub gathers_one : (old new all : List Word) (y v : Word) → x ≡ GetAny y v → ((q : Word) → has_name q new ≡ (bytes_eq y q || has_name q old)) → Gathers old (binds_until_procedure (drop k lines)) all → Gathers new (binds_until_procedure (drop (k + 1) lines)) all
-  gathers_one old new all y v p added known q =
-      let rest : binds_until_procedure (drop k lines) ≡ y ∷ binds_until_procedure (drop (k + 1) lines) = ap binds_until_procedure (drop_at lines k x lt e ∙ ap (λ (z : Line). z ∷ drop (k + 1) lines) p) in
+  pub gathers_one : (old new all : List Word) (y : Word) → is_procedure x ≡ false → binds x ≡ y ∷ [] → ((q : Word) → has_name q new ≡ (bytes_eq y q || has_name q old)) → Gathers old (binds_until_procedure (drop k lines)) all → Gathers new (binds_until_procedure (drop (k + 1) lines)) all
+  gathers_one old new all y inside p added known q =
+      let rest : binds_until_procedure (drop k lines) ≡ y ∷ binds_until_procedure (drop (k + 1) lines) = ap binds_until_procedure (drop_at lines k x lt e) ∙ until_more x (drop (k + 1) lines) inside ∙ rw p refl in
       rw (added q) (regroup (bytes_eq y q) (has_name q old) (has_name q (binds_until_procedure (drop (k + 1) lines))) ∙ ap (λ t. has_name q old || has_name q t) (sym rest) ∙ known q)
 
   pub gathers_none : (old all : List Word) → is_procedure x ≡ false → binds x ≡ [] → Gathers old (binds_until_procedure (drop k lines)) all → Gathers old (binds_until_procedure (drop (k + 1) lines)) all
@@ -214,23 +264,11 @@ module _ (lines : List Line) (k : ℕ) (x : Line) (lt : k < length lines) (e : x
   gathers_ends old all begins known q =
       let rest : binds_until_procedure (drop k lines) ≡ [] = ap binds_until_procedure (drop_at lines k x lt e) ∙ rw begins refl in
       or_no (has_name q old) ∙ ap (λ t. has_name q old || has_name q t) (sym rest) ∙ known q
-    where
-      or_no : (b : Bool) → b ≡ (b || false)
-      or_no true = refl
-      or_no false = refl
 
 pub gathers_all : (lines : List Line) (k : ℕ) (old all : List Word) → length lines ≤ k → Gathers old (binds_until_procedure (drop k lines)) all → HaveSameNames old all
 gathers_all lines k old all past known q =
     let rest : binds_until_procedure (drop k lines) ≡ [] = ap binds_until_procedure (drop_all k lines past) in
     or_no (has_name q old) ∙ ap (λ t. has_name q old || has_name q t) (sym rest) ∙ known q
-  where
-    or_no : (b : Bool) → b ≡ (b || false)
-    or_no true = refl
-    or_no false = refl
-
-pub no_binds : (x : Line) → ((y v : Word) → x ≡ GetAny y v → ⊥) → binds x ≡ []
-no_binds (GetAny y v) h = absurd (h y v refl)
-no_binds x h = refl
 
 pub no_procedure : (x : Line) → ((n : Word) (xs : List Word) → x ≡ Proc n xs → ⊥) → is_procedure x ≡ false
 no_procedure (Proc n xs) h = absurd (h n xs refl)
@@ -238,10 +276,6 @@ no_procedure x h = refl
 
 pub begins_gathering : (names parameters rest : List Word) → HaveSameNames names parameters → Gathers names rest (parameters ++ rest)
 begins_gathering names parameters rest same q = ap (λ b. b || has_name q rest) (same q) ∙ sym (list_any-append (λ y. bytes_eq y q) parameters rest)
-
--- the slice from a place on
-pub rest_whole : {X : Type 0} (n : ℕ) (xs : List X) → take (length xs - n) (drop n xs) ≡ drop n xs
-rest_whole n xs = take_all (length xs - n) (drop n xs) (omega (arith, length-drop n xs))
 
 -- ---- blocks
 

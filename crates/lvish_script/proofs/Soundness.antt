@@ -1,328 +1,303 @@
 -- What the checks passed on the lines of a script say of the script.
-use Rattle.std.proofs.Common.{◌≡◌, ℕ, zero, suc, ◌+◌, ◌<◌, ◌≤◌, Bool, true, false, not, cond, ◌||◌, ◌&&◌, ◌==◌, List, [], ◌∷◌, ◌++◌, length, map, Option, Some, None, refl, sym, ap, ◌∙◌, arith, append_assoc}
-use Rattle.std.specs.Prelude.{filter, count_by, codes, nat_le, if◌then◌else◌, take, drop}
-use Rattle.std.specs.Option.{option_map, option_map_or}
+use Rattle.std.proofs.Common.{◌≡◌, ℕ, Bool, true, false, not, ◌||◌, ◌&&◌, List, [], ◌∷◌, ◌++◌, length, Option, Some, None, refl, sym, ap, subst, ◌∙◌, append_assoc}
+use Rattle.std.specs.Prelude.{filter, is_some, take, nat_le}
+use Rattle.std.specs.Option.{option_map_or}
 use Rattle.std.specs.List.{list_any, list_all, flat_map}
 use Rattle.std.specs.Str.{bytes_eq}
-use Rattle.std.proofs.lemmas.Bool.Decides.{nat_tests}
-use Rattle.std.proofs.lemmas.List.{map-append}
-use Rattle.std.proofs.lemmas.List.Folds.{list_any-append}
-use Rattle.std.proofs.lemmas.List.Sums.{sum_by-append}
+use Rattle.std.proofs.lemmas.List.{append-nil, map-append}
+use Rattle.std.proofs.lemmas.List.Folds.{list_any-append, list_all-append}
 use Rattle.std.proofs.lemmas.Grind.{flat_map-append}
-use Rattle.lvish_script.specs.Text.{Word}
-use Rattle.lvish_script.specs.Name.{has_name, has_repeat, is_known}
+use Rattle.lvish_syntax.specs.Words.{Word, is_name}
+use Rattle.lvish_syntax.specs.Name.{has_name, has_repeat, is_known}
+use Rattle.lvish_syntax.specs.Nested.{statements, all_depth}
+use Rattle.lvish_syntax.specs.Written.{is_declaration_written, is_command_written, is_term_written, is_own_written, is_procedure_written}
+use Rattle.lvish_syntax.specs.Sound as sound
+use Rattle.lvish_syntax.specs.Sound.{IsSound, variable_name, variable_names, pool_name, pool_names, kind_of, kind_there, procedure_names, command_binds, own_binds, locals_of, takes, is_pool_known, is_pool_of, is_of_kind, is_apart, is_put_sound, is_get_sound, is_value_known, is_threshold_known, is_command_sound, is_own_sound, is_procedure_sound}
+use Rattle.lvish_syntax.specs.declared.kind.SimpleKind.{SimpleKind}
+use Rattle.lvish_syntax.specs.declared.term.Term.{Term}
+use Rattle.lvish_syntax.specs.declared.threshold.Threshold.{Threshold}
+use Rattle.lvish_syntax.specs.declared.declaration.Declaration.{Declaration}
+use Rattle.lvish_syntax.specs.declared.declaration.Declaration.TheVariants.{Variable, Pool}
+use Rattle.lvish_syntax.specs.declared.command.Command.{Command}
+use Rattle.lvish_syntax.specs.declared.command.Command.TheVariants.{Let, Put, PutAt, Get, GetAt, Fork, Call, Handle, Freeze, FreezeEach}
+use Rattle.lvish_syntax.specs.declared.procedure.Procedure.{Procedure}
+use Rattle.lvish_syntax.specs.declared.statement.Block.{Block}
+use Rattle.lvish_syntax.specs.declared.statement.Statement.{Statement}
+use Rattle.lvish_syntax.specs.declared.statement.Statement.TheOpen as o
+use Rattle.lvish_syntax.specs.declared.statement.Statement.TheViews.{out-Statement}
 use Rattle.lvish_script.specs.declared.line.Line.{Line}
-use Rattle.lvish_script.specs.declared.line.Line.TheVariants.{Blank, Bad, Cell, Proc, Put, GetAny, Fork, End}
-use Rattle.lvish_script.specs.declared.declaration.Declaration.{Declaration}
-use Rattle.lvish_script.specs.declared.declaration.Declaration.TheVariants as declared
-use Rattle.lvish_script.specs.declared.statement.Statement.{Statement}
-use Rattle.lvish_script.specs.declared.statement.Statement.TheVariants as statement
-use Rattle.lvish_script.specs.declared.procedure.Procedure.{Procedure}
-use Rattle.lvish_script.specs.Checks.{Parts, IsAccepted, is_nil, is_main, is_variable, is_procedure, declares_variable, declares_procedure, declares_again, is_past_limit, binds, on_line, binds_until_procedure, locals_step, locals_after, locals_at, parameters_of, miscounts, names_unknown}
-use Rattle.lvish_script.specs.Sound.{variable_name, variable_names, procedure_names, statements, statement_binds, locals_of, takes, is_statement_sound, is_procedure_sound, IsSound}
-use Rattle.lvish_script.specs.Spells.{declaration_line, statement_lines, body_lines, procedure_lines, script_lines, says_something}
-use Rattle.lvish_script.proofs.Cuts.{left_fails, right_fails, neither, both_hold, same_name, all_by_cut, none_by_cut, few_by_cut, differ_by_cut}
-use Rattle.lvish_script.proofs.Cleaned.{locals_in, count_cons, any_cleaned, again_at, limit_at, count_at, unknown_at}
+use Rattle.lvish_script.specs.declared.line.Line.TheVariants.{Blank, Bad, Declare, Proc, Do, If, While, Else, End}
+use Rattle.lvish_script.specs.Checks.{InProcedure, on_line, has_variable, has_pool, has_procedure, is_main, is_procedure, declares_again, is_past_limit, binds, binds_until_procedure, locals_after, locals_step, miscounts, misfits, mixes, names_unknown, has_other_count, is_get_of_kind, is_get_apart, command_unknown, command_misfits, command_miscounts, command_mixes, open_after}
+use Rattle.lvish_script.specs.Spells.{body_lines, procedure_lines, script_lines, says_something}
+use Rattle.lvish_script.proofs.Cuts.{left_fails, right_fails, both_hold, same_name, all_by_cut, none_by_cut, few_by_cut, differ_by_cut}
+use Rattle.lvish_script.proofs.Cleaned.{any_cleaned}
+use Rattle.lvish_script.proofs.Cleared.{locals_in, again_at, limit_at, count_at, fit_at, apart_at, unknown_at}
+use Rattle.lvish_script.proofs.Bodies.{own_line, given, all_statements, no_procedures, locals_inside, binds_inside, first_holds, second_holds}
+use Rattle.lvish_script.proofs.Levels.{open_append, stays_shallow, shallow_body, within_limits}
+use Rattle.lvish_script.proofs.Declaring.{heads, declared, declared_heads, procedures_declared, main_declared, none_open, few_names, names_differ, one_variable, one_pool, few_variables_before, few_pools_before, few_procedures_before, new_variable, new_pool, known_further, follow_by_cut, kind_known, taken_there, not_false}
 
--- ---- what the lines of declarations, bodies and procedures declare
+-- ---- a command, by the checks of its line
 
-any_declarations : (p : Line → Bool) (q : Declaration → Bool) → ((d : Declaration) → p (declaration_line d) ≡ q d) → (ds : List Declaration) → list_any p (map declaration_line ds) ≡ list_any q ds
-any_declarations p q h [] = refl
-any_declarations p q h (d ∷ ds) = rw (h d, any_declarations p q h ds) refl
+get_fits : (kind : Option SimpleKind) (r : Threshold) → option_map_or (λ k. is_of_kind k r) kind false ≡ true → option_map_or (λ k. is_apart k r) kind true ≡ true → option_map_or (λ k. is_of_kind k r && is_apart k r) kind false ≡ true
+get_fits None r e f = absurd cc
+get_fits (Some k) r e f = both_hold (is_of_kind k r) (is_apart k r) e f
 
-any_names : {X : Type 0} (name : X → Word) (v : Word) (xs : List X) → list_any (λ x. bytes_eq (name x) v) xs ≡ has_name v (map name xs)
-any_names name v [] = refl
-any_names name v (x ∷ xs) = ap (λ b. bytes_eq (name x) v || b) (any_names name v xs)
+module _ (ds : List Declaration) (ps : List Procedure) where
+  variable_there : (v : Word) → not (has_variable v (script_lines ds ps)) ≡ false → has_name v (variable_names ds) ≡ true
+  variable_there v e = ap (λ t. has_name v (variable_names t)) (sym (declared ds ps)) ∙ not_false _ e
 
-none_of : {X : Type 0} (xs : List X) → list_any (λ x. false) xs ≡ false
-none_of [] = refl
-none_of (x ∷ xs) = none_of xs
+  pool_there : (p : Word) → not (has_pool p (script_lines ds ps)) ≡ false → has_name p (pool_names ds) ≡ true
+  pool_there p e = ap (λ t. has_name p (pool_names t)) (sym (declared ds ps)) ∙ not_false _ e
 
-none_in_body : (p : Line → Bool) → ((s : Statement) → list_any p (statement_lines s) ≡ false) → (ss : List Statement) → list_any p (body_lines ss) ≡ false
-none_in_body p h [] = refl
-none_in_body p h (s ∷ ss) = list_any-append p (statement_lines s) (body_lines ss) ∙ neither _ _ (h s) (none_in_body p h ss)
+  taken : (n : Word) (k : ℕ) → not (has_procedure n (script_lines ds ps)) ≡ false → has_other_count (script_lines ds ps) n k ≡ false → list_any (takes n k) ps ≡ true
+  taken n k e m = taken_there n k ds ps (sym (procedures_declared n ds ps) ∙ not_false _ e) m
 
-or_false : (b : Bool) → (b || false) ≡ b
-or_false true = refl
-or_false false = refl
+  gets : (v : Word) (at : Option Term) (r : Threshold) → not (is_get_of_kind ds v at r) ≡ false → not (is_get_apart ds v at r) ≡ false → is_get_sound ds v at r ≡ true
+  gets v at r e f = get_fits (kind_there ds v at) r (not_false _ e) (not_false _ f)
 
-module _ (p : Line → Bool) (q : Procedure → Bool) (head : (r : Procedure) → p (Proc r.name r.parameters) ≡ q r) (body : (s : Statement) → list_any p (statement_lines s) ≡ false) (end : p End ≡ false) where
-  any_procedure : (r : Procedure) → list_any p (procedure_lines r) ≡ q r
-  any_procedure r =
-      let inner : list_any p (body_lines (statements r.body) ++ End ∷ []) ≡ false = list_any-append p (body_lines (statements r.body)) (End ∷ []) ∙ neither _ _ (none_in_body p body (statements r.body)) (neither (p End) false end refl) in
-      rw (head r, inner) (or_false (q r))
+  command_sound : (locals : List Word) (c : Command) → command_unknown (script_lines ds ps) locals c ≡ false → command_misfits ds c ≡ false → command_miscounts (script_lines ds ps) c ≡ false → command_mixes ds c ≡ false → list_all (λ x. has_name x locals) (command_binds c) ≡ true → is_command_sound ds ps locals c ≡ true
+  command_sound locals (Let x v) un mis count mix bound = both_hold (has_name x locals) _ (first_holds (has_name x locals) true bound) (not_false _ un)
+  command_sound locals (Put v t) un mis count mix bound = both_hold (is_put_sound ds v None) _ (not_false _ mis) (not_false _ (right_fails (not (has_variable v (script_lines ds ps))) _ un))
+  command_sound locals (PutAt v k t) un mis count mix bound =
+      let a : (not (has_variable v (script_lines ds ps)) || not (is_known locals k)) ≡ false = left_fails _ (not (is_known locals t)) un in
+      both_hold (is_put_sound ds v (Some k) && is_known locals k) _ (both_hold (is_put_sound ds v (Some k)) _ (not_false _ mis) (not_false _ (right_fails (not (has_variable v (script_lines ds ps))) _ a))) (not_false _ (right_fails _ (not (is_known locals t)) un))
+  command_sound locals (Get x v r) un mis count mix bound =
+      both_hold (has_name x locals && is_get_sound ds v None r) _ (both_hold (has_name x locals) _ (first_holds (has_name x locals) true bound) (gets v None r mis mix)) (not_false _ (right_fails (not (has_variable v (script_lines ds ps))) _ un))
+  command_sound locals (GetAt x v k r) un mis count mix bound =
+      let a : (not (has_variable v (script_lines ds ps)) || not (is_known locals k)) ≡ false = left_fails _ (not (is_threshold_known locals r)) un in
+      both_hold (has_name x locals && is_get_sound ds v (Some k) r && is_known locals k) _
+      (both_hold (has_name x locals && is_get_sound ds v (Some k) r) _ (both_hold (has_name x locals) _ (first_holds (has_name x locals) true bound) (gets v (Some k) r mis mix)) (not_false _ (right_fails (not (has_variable v (script_lines ds ps))) _ a)))
+      (not_false _ (right_fails _ (not (is_threshold_known locals r)) un))
+  command_sound locals (Fork n ts) un mis count mix bound =
+      both_hold (list_any (takes n (length ts)) ps) _ (taken n (length ts) (left_fails _ (not (list_all (is_known locals) ts)) un) count) (not_false _ (right_fails (not (has_procedure n (script_lines ds ps))) _ un))
+  command_sound locals (Call n ts) un mis count mix bound =
+      both_hold (list_any (takes n (length ts)) ps) _ (taken n (length ts) (left_fails _ (not (list_all (is_known locals) ts)) un) count) (not_false _ (right_fails (not (has_procedure n (script_lines ds ps))) _ un))
+  command_sound locals (Handle p n) un mis count mix bound =
+      both_hold (has_name p (pool_names ds)) _ (pool_there p (left_fails _ (not (has_procedure n (script_lines ds ps))) un)) (taken n 2 (right_fails (not (has_pool p (script_lines ds ps))) _ un) count)
+  command_sound locals (Freeze x v pools) un mis count mix bound =
+      let there = variable_there v (left_fails (not (has_variable v (script_lines ds ps))) _ un) in
+      both_hold (has_name x locals && is_some (kind_of v ds)) _ (both_hold (has_name x locals) _ (first_holds (has_name x locals) true bound) (kind_known v ds ∙ there)) (not_false _ mis)
+  command_sound locals (FreezeEach x v pools n) un mis count mix bound =
+      let a : (not (has_variable v (script_lines ds ps)) || not (list_all (λ p. has_pool p (script_lines ds ps)) pools)) ≡ false = left_fails _ (not (has_procedure n (script_lines ds ps))) un in
+      let there = variable_there v (left_fails (not (has_variable v (script_lines ds ps))) _ a) in
+      both_hold (has_name x locals && is_some (kind_of v ds) && list_all (is_pool_of ds v) pools) _
+      (both_hold (has_name x locals && is_some (kind_of v ds)) _ (both_hold (has_name x locals) _ (first_holds (has_name x locals) true bound) (kind_known v ds ∙ there)) (not_false _ mis))
+      (taken n 2 (right_fails (not (has_variable v (script_lines ds ps)) || not (list_all (λ p. has_pool p (script_lines ds ps)) pools)) _ un) count)
 
-  any_procedures : (ps : List Procedure) → list_any p (flat_map procedure_lines ps) ≡ list_any q ps
-  any_procedures [] = refl
-  any_procedures (r ∷ ps) = list_any-append p (procedure_lines r) (flat_map procedure_lines ps) ∙ rw (any_procedure r, any_procedures ps) refl
+-- ---- the locals at a line of a procedure
 
-no_variable : (v : Word) (s : Statement) → list_any (declares_variable v) (statement_lines s) ≡ false
-no_variable v (statement.Put w t) = refl
-no_variable v (statement.GetAny x w) = refl
-no_variable v (statement.Fork n ts) = refl
+among_all : (front rest : List Word) (x : Word) → has_name x (front ++ x ∷ rest) ≡ true
+among_all [] rest x = ap (λ b. b || has_name x rest) (same_name x)
+among_all (y ∷ front) rest x = ap (λ b. bytes_eq y x || b) (among_all front rest x) ∙ or_true (bytes_eq y x)
+  where
+    or_true : (b : Bool) → (b || true) ≡ true
+    or_true true = refl
+    or_true false = refl
 
-no_procedure : (n : Word) (s : Statement) → list_any (declares_procedure n) (statement_lines s) ≡ false
-no_procedure n (statement.Put w t) = refl
-no_procedure n (statement.GetAny x w) = refl
-no_procedure n (statement.Fork m ts) = refl
+all_among : (front mid rest : List Word) → list_all (λ x. has_name x (front ++ (mid ++ rest))) mid ≡ true
+all_among front [] rest = refl
+all_among front (x ∷ mid) rest =
+    both_hold (has_name x (front ++ (x ∷ (mid ++ rest)))) _ (among_all front (mid ++ rest) x)
+    (ap (λ t. list_all (λ y. has_name y t) mid) (sym (append_assoc front (x ∷ []) (mid ++ rest))) ∙ all_among (front ++ x ∷ []) mid rest)
 
-no_main : (s : Statement) → list_any is_main (statement_lines s) ≡ false
-no_main (statement.Put w t) = refl
-no_main (statement.GetAny x w) = refl
-no_main (statement.Fork m ts) = refl
-
-variable_line : (v : Word) (d : Declaration) → declares_variable v (declaration_line d) ≡ bytes_eq (variable_name d) v
-variable_line v (declared.Cell n) = refl
-
-no_procedure_line : (n : Word) (d : Declaration) → declares_procedure n (declaration_line d) ≡ false
-no_procedure_line n (declared.Cell m) = refl
-
-no_main_line : (d : Declaration) → is_main (declaration_line d) ≡ false
-no_main_line (declared.Cell m) = refl
-
-variables_declared : (v : Word) (ds : List Declaration) → list_any (declares_variable v) (map declaration_line ds) ≡ has_name v (variable_names ds)
-variables_declared v ds = any_declarations (declares_variable v) (λ d. bytes_eq (variable_name d) v) (variable_line v) ds ∙ any_names variable_name v ds
-
-procedures_declared : (n : Word) (ds : List Declaration) (ps : List Procedure) → list_any (declares_procedure n) (script_lines ds ps) ≡ has_name n (procedure_names ps)
-procedures_declared n ds ps =
-    list_any-append (declares_procedure n) (map declaration_line ds) (flat_map procedure_lines ps)
-    ∙ ap (λ b. b || list_any (declares_procedure n) (flat_map procedure_lines ps)) (any_declarations (declares_procedure n) (λ d. false) (no_procedure_line n) ds ∙ none_of ds)
-    ∙ any_procedures (declares_procedure n) (λ r. bytes_eq r.name n) (λ r. refl) (no_procedure n) refl ps
-    ∙ any_names (λ (r : Procedure). r.name) n ps
-
-all_variables : (v : Word) (ds : List Declaration) (ps : List Procedure) → list_any (declares_variable v) (script_lines ds ps) ≡ has_name v (variable_names ds)
-all_variables v ds ps =
-    list_any-append (declares_variable v) (map declaration_line ds) (flat_map procedure_lines ps)
-    ∙ ap (λ b. list_any (declares_variable v) (map declaration_line ds) || b) (any_procedures (declares_variable v) (λ r. false) (λ r. refl) (no_variable v) refl ps ∙ none_of ps)
-    ∙ or_false _
-    ∙ variables_declared v ds
-
-nil_length : {X : Type 0} (xs : List X) → is_nil xs ≡ (length xs == 0)
-nil_length [] = refl
-nil_length (x ∷ xs) = grind (arith, nat_tests)
-
-main_head : (r : Procedure) → is_main (Proc r.name r.parameters) ≡ takes (codes "main") 0 r
-main_head r = ap (λ b. bytes_eq r.name (codes "main") && b) (nil_length r.parameters)
-
-main_declared : (ds : List Declaration) (ps : List Procedure) → list_any is_main (script_lines ds ps) ≡ list_any (takes (codes "main") 0) ps
-main_declared ds ps =
-    list_any-append is_main (map declaration_line ds) (flat_map procedure_lines ps)
-    ∙ ap (λ b. b || list_any is_main (flat_map procedure_lines ps)) (any_declarations is_main (λ d. false) no_main_line ds ∙ none_of ds)
-    ∙ any_procedures is_main (takes (codes "main") 0) main_head no_main refl ps
-
--- ---- how many there are
-
-count_append : (p : Line → Bool) (xs ys : List Line) → count_by p (xs ++ ys) ≡ count_by p xs + count_by p ys
-count_append p xs ys = sum_by-append (λ x. cond (p x) 1 0) xs ys
-
-variables_counted : (ds : List Declaration) → count_by is_variable (map declaration_line ds) ≡ length ds
-variables_counted [] = refl
-variables_counted (declared.Cell n ∷ ds) =
-    let one : count_by is_variable (Cell n ∷ map declaration_line ds) ≡ 1 + count_by is_variable (map declaration_line ds) = count_cons is_variable (Cell n) (map declaration_line ds) in
-    let more = variables_counted ds in
-    omega arith
-
-no_procedures_counted : (ds : List Declaration) → count_by is_procedure (map declaration_line ds) ≡ 0
-no_procedures_counted [] = refl
-no_procedures_counted (declared.Cell n ∷ ds) =
-    let one : count_by is_procedure (Cell n ∷ map declaration_line ds) ≡ 0 + count_by is_procedure (map declaration_line ds) = count_cons is_procedure (Cell n) (map declaration_line ds) in
-    let more = no_procedures_counted ds in
-    omega arith
-
-none_counted : (s : Statement) → count_by is_procedure (statement_lines s) ≡ 0
-none_counted (statement.Put w t) = refl
-none_counted (statement.GetAny x w) = refl
-none_counted (statement.Fork m ts) = refl
-
-body_counted : (ss : List Statement) → count_by is_procedure (body_lines ss) ≡ 0
-body_counted [] = refl
-body_counted (s ∷ ss) =
-    let both = count_append is_procedure (statement_lines s) (body_lines ss) in
-    let one = none_counted s in
-    let more = body_counted ss in
-    omega arith
-
-procedures_counted : (ps : List Procedure) → count_by is_procedure (flat_map procedure_lines ps) ≡ length ps
-procedures_counted [] = refl
-procedures_counted (r ∷ ps) =
-    let all = count_append is_procedure (procedure_lines r) (flat_map procedure_lines ps) in
-    let one : count_by is_procedure (procedure_lines r) ≡ 1 + count_by is_procedure (body_lines (statements r.body) ++ End ∷ []) = count_cons is_procedure (Proc r.name r.parameters) (body_lines (statements r.body) ++ End ∷ []) in
-    let two = count_append is_procedure (body_lines (statements r.body)) (End ∷ []) in
-    let none = body_counted (statements r.body) in
-    let end : count_by is_procedure (End ∷ []) ≡ 0 = refl in
-    let more = procedures_counted ps in
-    omega arith
-
-below_limit : (n : ℕ) → nat_le 64 n ≡ false → n < 64
-below_limit n e = grind (arith, nat_tests)
-
--- ---- the locals of a procedure
-
-locals_after_append : (found : Option (List Word)) (xs ys : List Line) → locals_after found (xs ++ ys) ≡ locals_after (locals_after found xs) ys
-locals_after_append found [] ys = refl
-locals_after_append found (x ∷ xs) ys = locals_after_append (locals_step found x) xs ys
-
-append_none : {X : Type 0} (xs : List X) → xs ++ [] ≡ xs
-append_none [] = refl
-append_none (x ∷ xs) = ap (λ t. x ∷ t) (append_none xs)
-
-body_binds : (acc : List Word) (ss : List Statement) → locals_after (Some acc) (body_lines ss) ≡ Some (acc ++ flat_map statement_binds ss)
-body_binds acc [] = ap Some (sym (append_none acc))
-body_binds acc (statement.Put v t ∷ ss) = body_binds (acc ++ []) ss ∙ ap Some (ap (λ t. t ++ flat_map statement_binds ss) (append_none acc))
-body_binds acc (statement.GetAny x v ∷ ss) = body_binds (acc ++ x ∷ []) ss ∙ ap Some (simp append_assoc)
-body_binds acc (statement.Fork n ts ∷ ss) = body_binds (acc ++ []) ss ∙ ap Some (ap (λ t. t ++ flat_map statement_binds ss) (append_none acc))
+locals_append : (found : Option (List Word)) (xs ys : List Line) → locals_after found (xs ++ ys) ≡ locals_after (locals_after found xs) ys
+locals_append found [] ys = refl
+locals_append found (x ∷ xs) ys = locals_append (locals_step found x) xs ys
 
 nothing_after : (ps : List Procedure) → binds_until_procedure (flat_map procedure_lines ps) ≡ []
 nothing_after [] = refl
 nothing_after (r ∷ ps) = refl
 
-rest_binds : (ss : List Statement) (ps : List Procedure) → binds_until_procedure (body_lines ss ++ (End ∷ flat_map procedure_lines ps)) ≡ flat_map statement_binds ss
-rest_binds [] ps = nothing_after ps
-rest_binds (statement.Put v t ∷ ss) ps = rest_binds ss ps
-rest_binds (statement.GetAny x v ∷ ss) ps = ap (λ t. x ∷ t) (rest_binds ss ps)
-rest_binds (statement.Fork n ts ∷ ss) ps = rest_binds ss ps
+binds_same : (u : o.Statement-F Statement Block) → binds (own_line u) ≡ own_binds u
+binds_same (o.Do c) = refl
+binds_same (o.If t a) = refl
+binds_same (o.IfElse t a b) = refl
+binds_same (o.While t a) = refl
 
--- ---- a statement's line among the lines
+body_binds : (ss : List Statement) → flat_map binds (body_lines ss) ≡ sound.binds ss
+body_binds ss = given binds (λ s. own_binds (out-Statement s)) (record { same = λ s. binds_same (out-Statement s); no_else = refl; no_end = refl }) ss
 
--- the lines before a statement, and those after it
-abbrev lines_before : List Declaration → List Procedure → Procedure → List Statement → List Line
-lines_before ds q r ss = (map declaration_line ds ++ flat_map procedure_lines q) ++ (Proc r.name r.parameters ∷ body_lines ss)
+front_none : (p : Line → Bool) (xs ys : List Line) → list_any p (xs ++ ys) ≡ false → list_any p xs ≡ false
+front_none p xs ys e = left_fails (list_any p xs) (list_any p ys) (sym (list_any-append p xs ys) ∙ e)
 
-abbrev lines_after : List Statement → List Procedure → List Line
-lines_after ss q = body_lines ss ++ (End ∷ flat_map procedure_lines q)
+back_none : (p : Line → Bool) (xs ys : List Line) → list_any p (xs ++ ys) ≡ false → list_any p ys ≡ false
+back_none p xs ys e = right_fails (list_any p xs) (list_any p ys) (sym (list_any-append p xs ys) ∙ e)
 
-procedure_at : (ds : List Declaration) (q : List Procedure) (r : Procedure) (more : List Procedure) → script_lines ds (q ++ r ∷ more) ≡ (map declaration_line ds ++ flat_map procedure_lines q) ++ (Proc r.name r.parameters ∷ (body_lines (statements r.body) ++ (End ∷ flat_map procedure_lines more)))
+-- the lines up to a procedure's, and those after its body
+abbrev pub lines_to : List Declaration → List Procedure → Procedure → List Line
+lines_to ds q r = script_lines ds q ++ Proc r.name r.parameters ∷ []
+
+abbrev pub lines_from : List Procedure → List Line
+lines_from more = End ∷ flat_map procedure_lines more
+
+procedure_at : (ds : List Declaration) (q : List Procedure) (r : Procedure) (more : List Procedure) → script_lines ds (q ++ r ∷ more) ≡ lines_to ds q r ++ (body_lines (statements r.body) ++ lines_from more)
 procedure_at ds q r more = simp (append_assoc, flat_map-append)
 
-statement_at : (ds : List Declaration) (q : List Procedure) (r : Procedure) (more : List Procedure) (b : List Statement) (s : Statement) (a : List Statement) → statements r.body ≡ b ++ s ∷ a → script_lines ds (q ++ r ∷ more) ≡ lines_before ds q r b ++ (statement_lines s ++ lines_after a more)
-statement_at ds q r more b s a e = procedure_at ds q r more ∙ rw e (simp (append_assoc, flat_map-append))
+module _ (ds : List Declaration) (q : List Procedure) (r : Procedure) (more : List Procedure) (b : List Line) (l : Line) (a : List Line) (e : body_lines (statements r.body) ≡ b ++ l ∷ a) where
+  none_here : list_any is_procedure (b ++ l ∷ a) ≡ false
+  none_here = ap (list_any is_procedure) (sym e) ∙ no_procedures (statements r.body)
 
-before_locals : (ds : List Declaration) (q : List Procedure) (r : Procedure) (b : List Statement) → locals_after None (lines_before ds q r b) ≡ Some (r.parameters ++ flat_map statement_binds b)
-before_locals ds q r b = locals_after_append None (map declaration_line ds ++ flat_map procedure_lines q) (Proc r.name r.parameters ∷ body_lines b) ∙ body_binds r.parameters b
+  its_locals : locals_of r ≡ r.parameters ++ (flat_map binds b ++ (binds l ++ flat_map binds a))
+  its_locals = ap (λ t. r.parameters ++ t) (sym (body_binds (statements r.body)) ∙ ap (flat_map binds) e ∙ flat_map-append binds b (l ∷ a))
 
--- the locals at a statement's line are those of its procedure
-module _ (ds : List Declaration) (q : List Procedure) (r : Procedure) (more : List Procedure) (b : List Statement) (s : Statement) (a : List Statement) (e : statements r.body ≡ b ++ s ∷ a) (line : Line) (binding : binds line ≡ statement_binds s) (inside : is_procedure line ≡ false) where
-  locals_here : locals_in (lines_before ds q r b) (line ∷ lines_after a more) ≡ locals_of r
+  locals_before : locals_after None (lines_to ds q r ++ b) ≡ Some (r.parameters ++ flat_map binds b)
+  locals_before =
+      ap (locals_after None) (append_assoc (script_lines ds q) (Proc r.name r.parameters ∷ []) b)
+      ∙ locals_append None (script_lines ds q) (Proc r.name r.parameters ∷ b)
+      ∙ locals_inside r.parameters b (front_none is_procedure b (l ∷ a) none_here)
+
+  binds_here : binds_until_procedure (l ∷ (a ++ lines_from more)) ≡ binds l ++ flat_map binds a
+  binds_here = binds_inside (l ∷ a) (lines_from more) (back_none is_procedure b (l ∷ a) none_here) ∙ ap (λ t. (binds l ++ flat_map binds a) ++ t) (nothing_after more) ∙ append-nil (binds l ++ flat_map binds a)
+
+  -- the locals at a line of a body are those of its procedure
+  pub locals_here : locals_in (lines_to ds q r ++ b) (l ∷ (a ++ lines_from more)) ≡ locals_of r
   locals_here =
-      let rest : binds_until_procedure (line ∷ lines_after a more) ≡ statement_binds s ++ flat_map statement_binds a = rw (inside, binding, rest_binds a more) refl in
-      let whole : flat_map statement_binds (statements r.body) ≡ flat_map statement_binds b ++ (statement_binds s ++ flat_map statement_binds a) = ap (flat_map statement_binds) e ∙ flat_map-append statement_binds b (s ∷ a) in
-      rw (before_locals ds q r b, rest, whole) (simp append_assoc)
+      ap (λ o. option_map_or (λ xs. xs ++ binds_until_procedure (l ∷ (a ++ lines_from more))) o []) locals_before
+      ∙ ap (λ t. (r.parameters ++ flat_map binds b) ++ t) binds_here
+      ∙ append_assoc r.parameters (flat_map binds b) (binds l ++ flat_map binds a) ∙ sym its_locals
 
--- ---- soundness
+  bound_here : list_all (λ x. has_name x (locals_of r)) (binds l) ≡ true
+  bound_here = ap (λ t. list_all (λ x. has_name x t) (binds l)) (its_locals ∙ sym (append_assoc r.parameters (flat_map binds b) (binds l ++ flat_map binds a))) ∙ all_among (r.parameters ++ flat_map binds b) (binds l) (flat_map binds a)
 
-not_false : (b : Bool) → not b ≡ false → b ≡ true
-not_false true e = refl
-not_false false e = absurd cc
+  line_at : (ps : List Procedure) → ps ≡ q ++ r ∷ more → script_lines ds ps ≡ (lines_to ds q r ++ b) ++ l ∷ (a ++ lines_from more)
+  line_at ps g =
+      ap (script_lines ds) g ∙ procedure_at ds q r more ∙ ap (λ t. lines_to ds q r ++ (t ++ lines_from more)) e
+      ∙ ap (λ t. lines_to ds q r ++ t) (append_assoc b (l ∷ a) (lines_from more)) ∙ sym (append_assoc (lines_to ds q r) b (l ∷ (a ++ lines_from more)))
 
-equal_lengths : (m n : ℕ) → not (m == n) ≡ false → (m == n) ≡ true
-equal_lengths m n e = not_false (m == n) e
+-- ---- the lines of bodies, and the statements
 
-skip_body : (n : Word) (ss : List Statement) (rest : List Line) → parameters_of n ((body_lines ss ++ (End ∷ [])) ++ rest) ≡ parameters_of n rest
-skip_body n [] rest = refl
-skip_body n (statement.Put v t ∷ ss) rest = skip_body n ss rest
-skip_body n (statement.GetAny x v ∷ ss) rest = skip_body n ss rest
-skip_body n (statement.Fork m ts ∷ ss) rest = skip_body n ss rest
+-- whether a line in the body of a procedure is sound
+abbrev pub is_line_sound : List Declaration → List Procedure → List Word → Line → Bool
+is_line_sound ds ps locals (Do c) = is_command_sound ds ps locals c
+is_line_sound ds ps locals (If t) = is_known locals t
+is_line_sound ds ps locals (While t) = is_known locals t
+is_line_sound ds ps locals l = true
 
-skip_declarations : (n : Word) (ds : List Declaration) (rest : List Line) → parameters_of n (map declaration_line ds ++ rest) ≡ parameters_of n rest
-skip_declarations n [] rest = refl
-skip_declarations n (declared.Cell m ∷ ds) rest = skip_declarations n ds rest
+own_sound : (ds : List Declaration) (ps : List Procedure) (locals : List Word) (u : o.Statement-F Statement Block) → is_line_sound ds ps locals (own_line u) ≡ true → is_own_sound ds ps locals u ≡ true
+own_sound ds ps locals (o.Do c) e = e
+own_sound ds ps locals (o.If t a) e = e
+own_sound ds ps locals (o.IfElse t a b) e = e
+own_sound ds ps locals (o.While t a) e = e
 
-abbrev disagrees : ℕ → Option (List Word) → Bool
-disagrees k o = option_map_or (λ xs. not (length xs == k)) o false
+-- whether a line has only names and numbers that can stand in it
+abbrev pub is_line_written : Line → Bool
+is_line_written (Declare d) = is_declaration_written d
+is_line_written (Proc n xs) = is_name n && list_all is_name xs
+is_line_written (Do c) = is_command_written c
+is_line_written (If t) = is_term_written t
+is_line_written (While t) = is_term_written t
+is_line_written l = true
 
-takes_here : (n : Word) (k : ℕ) (r : Procedure) (ps : List Procedure) (t : Bool) → bytes_eq r.name n ≡ t → (has_name n (procedure_names ps) ≡ true → disagrees k (parameters_of n (flat_map procedure_lines ps)) ≡ false → list_any (takes n k) ps ≡ true) → (bytes_eq r.name n || has_name n (procedure_names ps)) ≡ true → disagrees k (if bytes_eq r.name n then Some r.parameters else parameters_of n (flat_map procedure_lines ps)) ≡ false → (takes n k r || list_any (takes n k) ps) ≡ true
-takes_here n k r ps true e more h m =
-    let agrees : not (length r.parameters == k) ≡ false = rw e at m in
-    let counted : (length r.parameters == k) ≡ true = equal_lengths _ _ agrees in
-    rw (e, counted) refl
-takes_here n k r ps false e more h m =
-    let named : has_name n (procedure_names ps) ≡ true = rw e at h in
-    let agrees : disagrees k (parameters_of n (flat_map procedure_lines ps)) ≡ false = rw e at m in
-    rw e (more named agrees)
+own_written : (u : o.Statement-F Statement Block) → is_line_written (own_line u) ≡ true → is_own_written u ≡ true
+own_written (o.Do c) e = e
+own_written (o.If t a) e = e
+own_written (o.IfElse t a b) e = e
+own_written (o.While t a) e = e
 
--- a procedure that is declared takes as many terms as the first of that name
-taken : (n : Word) (k : ℕ) (ps : List Procedure) → has_name n (procedure_names ps) ≡ true → disagrees k (parameters_of n (flat_map procedure_lines ps)) ≡ false → list_any (takes n k) ps ≡ true
-taken n k [] h m = h
-taken n k (r ∷ ps) h m =
-    let skipped = skip_body n (statements r.body) (flat_map procedure_lines ps) in
-    takes_here n k r ps (bytes_eq r.name n) refl (taken n k ps) h (ap (λ o. disagrees k (if bytes_eq r.name n then Some r.parameters else o)) (sym skipped) ∙ m)
+front_written : (xs ys : List Line) → list_all is_line_written (xs ++ ys) ≡ true → list_all is_line_written xs ≡ true
+front_written xs ys e = first_holds (list_all is_line_written xs) (list_all is_line_written ys) (sym (list_all-append is_line_written xs ys) ∙ e)
 
-or_true : (b : Bool) → (b || true) ≡ true
-or_true true = refl
-or_true false = refl
+back_written : (xs ys : List Line) → list_all is_line_written (xs ++ ys) ≡ true → list_all is_line_written ys ≡ true
+back_written xs ys e = second_holds (list_all is_line_written xs) (list_all is_line_written ys) (sym (list_all-append is_line_written xs ys) ∙ e)
 
-bound_here : (x : Word) (front middle rest : List Word) → has_name x (front ++ (middle ++ x ∷ rest)) ≡ true
-bound_here x [] [] rest = rw (same_name x) refl
-bound_here x [] (y ∷ middle) rest = rw (bound_here x [] middle rest) (or_true (bytes_eq y x))
-bound_here x (y ∷ front) middle rest = rw (bound_here x front middle rest) (or_true (bytes_eq y x))
+heads_written : (ds : List Declaration) → list_all is_line_written (heads ds) ≡ true → list_all is_declaration_written ds ≡ true
+heads_written [] e = refl
+heads_written (d ∷ ds) e = both_hold (is_declaration_written d) _ (first_holds (is_declaration_written d) _ e) (heads_written ds (second_holds (is_declaration_written d) _ e))
 
-again_variable : (d : Declaration) (b : List Declaration) → declares_again (map declaration_line b) (declaration_line d) ≡ false → has_name (variable_name d) (variable_names b) ≡ false
-again_variable (declared.Cell n) b h = sym (variables_declared n b) ∙ h
+procedure_written : (r : Procedure) → list_all is_line_written (procedure_lines r) ≡ true → is_procedure_written r ≡ true
+procedure_written r e =
+    both_hold (is_name r.name && list_all is_name r.parameters) _ (first_holds (is_name r.name && list_all is_name r.parameters) _ e)
+    (all_statements is_line_written (λ s. is_own_written (out-Statement s)) (λ s. own_written (out-Statement s)) (statements r.body) (front_written (body_lines (statements r.body)) (End ∷ []) (second_holds (is_name r.name && list_all is_name r.parameters) _ e)))
 
-few_before : (d : Declaration) (b : List Declaration) → is_past_limit (map declaration_line b) (declaration_line d) ≡ false → length b < 64
-few_before (declared.Cell n) b h = let few = below_limit (count_by is_variable (map declaration_line b)) h in let all = variables_counted b in omega arith
+procedures_written : (ps : List Procedure) → list_all is_line_written (flat_map procedure_lines ps) ≡ true → list_all is_procedure_written ps ≡ true
+procedures_written [] e = refl
+procedures_written (r ∷ ps) e =
+    both_hold (is_procedure_written r) _ (procedure_written r (front_written (procedure_lines r) (flat_map procedure_lines ps) e)) (procedures_written ps (back_written (procedure_lines r) (flat_map procedure_lines ps) e))
 
-fewer_before : (r : Procedure) (ds : List Declaration) (q : List Procedure) → is_past_limit (script_lines ds q) (Proc r.name r.parameters) ≡ false → length q < 64
-fewer_before r ds q h =
-    let few = below_limit (count_by is_procedure (script_lines ds q)) h in
-    let both = count_append is_procedure (map declaration_line ds) (flat_map procedure_lines q) in
-    let none = no_procedures_counted ds in
-    let all = procedures_counted q in
-    omega arith
+-- ---- all of it
 
-module _ (said : List Line) (ds : List Declaration) (ps : List Procedure) (clean : filter says_something said ≡ script_lines ds ps) where
-  declaration_cut : (b : List Declaration) (d : Declaration) (a : List Declaration) → ds ≡ b ++ d ∷ a → script_lines ds ps ≡ map declaration_line b ++ (declaration_line d ∷ (map declaration_line a ++ flat_map procedure_lines ps))
+-- what the checks say of the lines of a text
+pub record Passed (said : List Line) : Type 0 where
+  pub again : (l : ℕ) → on_line (λ k l. declares_again (take k said) l) said l ≡ false
+  pub unknown : (l : ℕ) → on_line (λ k l. names_unknown said k l) said l ≡ false
+  pub kinds : (l : ℕ) → on_line (λ k l. misfits said l) said l ≡ false
+  pub counts : (l : ℕ) → on_line (λ k l. miscounts said l) said l ≡ false
+  pub apart : (l : ℕ) → on_line (λ k l. mixes said l) said l ≡ false
+  pub few : (l : ℕ) → on_line (λ k l. is_past_limit (take k said) l) said l ≡ false
+  pub main : list_any is_main said ≡ true
+  pub written : list_all is_line_written (filter says_something said) ≡ true
+
+module _ (said : List Line) (ds : List Declaration) (ps : List Procedure) (clean : filter says_something said ≡ script_lines ds ps) (passed : Passed said) where
+  declaration_cut : (b : List Declaration) (d : Declaration) (a : List Declaration) → ds ≡ b ++ d ∷ a → script_lines ds ps ≡ heads b ++ (Declare d ∷ (heads a ++ flat_map procedure_lines ps))
   declaration_cut b d a e = rw e (simp (append_assoc, map-append))
 
-  procedure_cut : (q : List Procedure) (r : Procedure) (more : List Procedure) → ps ≡ q ++ r ∷ more → script_lines ds ps ≡ script_lines ds q ++ (Proc r.name r.parameters ∷ (body_lines (statements r.body) ++ (End ∷ flat_map procedure_lines more)))
-  procedure_cut q r more e = ap (script_lines ds) e ∙ procedure_at ds q r more
+  procedure_cut : (q : List Procedure) (r : Procedure) (more : List Procedure) → ps ≡ q ++ r ∷ more → script_lines ds ps ≡ script_lines ds q ++ (Proc r.name r.parameters ∷ (body_lines (statements r.body) ++ lines_from more))
+  procedure_cut q r more e = ap (script_lines ds) e ∙ procedure_at ds q r more ∙ append_assoc (script_lines ds q) (Proc r.name r.parameters ∷ []) (body_lines (statements r.body) ++ lines_from more)
 
-  statement_cut : (q : List Procedure) (r : Procedure) (more : List Procedure) → ps ≡ q ++ r ∷ more → (b : List Statement) (s : Statement) (a : List Statement) → statements r.body ≡ b ++ s ∷ a → script_lines ds ps ≡ lines_before ds q r b ++ (statement_lines s ++ lines_after a more)
-  statement_cut q r more e b s a f = ap (script_lines ds) e ∙ statement_at ds q r more b s a f
+  line_sound : (q : List Procedure) (r : Procedure) (more : List Procedure) → ps ≡ q ++ r ∷ more → (b : List Line) (l : Line) (a : List Line) → body_lines (statements r.body) ≡ b ++ l ∷ a → is_line_sound ds ps (locals_of r) l ≡ true
+  line_sound q r more g b (Do c) a e =
+      let cut = line_at ds q r more b (Do c) a e ps g in
+      let un : command_unknown (script_lines ds ps) (locals_of r) c ≡ false = ap (λ t. command_unknown (script_lines ds ps) t c) (sym (locals_here ds q r more b (Do c) a e)) ∙ unknown_at said (script_lines ds ps) clean passed.unknown (lines_to ds q r ++ b) (Do c) (a ++ lines_from more) cut in
+      let mis : command_misfits ds c ≡ false = ap (λ t. command_misfits t c) (sym (declared ds ps)) ∙ fit_at said (script_lines ds ps) clean passed.kinds (lines_to ds q r ++ b) (Do c) (a ++ lines_from more) cut in
+      let mix : command_mixes ds c ≡ false = ap (λ t. command_mixes t c) (sym (declared ds ps)) ∙ apart_at said (script_lines ds ps) clean passed.apart (lines_to ds q r ++ b) (Do c) (a ++ lines_from more) cut in
+      command_sound ds ps (locals_of r) c un mis (count_at said (script_lines ds ps) clean passed.counts (lines_to ds q r ++ b) (Do c) (a ++ lines_from more) cut) mix (bound_here ds q r more b (Do c) a e)
+  line_sound q r more g b (If t) a e =
+      ap (λ w. is_known w t) (sym (locals_here ds q r more b (If t) a e)) ∙ not_false _ (unknown_at said (script_lines ds ps) clean passed.unknown (lines_to ds q r ++ b) (If t) (a ++ lines_from more) (line_at ds q r more b (If t) a e ps g))
+  line_sound q r more g b (While t) a e =
+      ap (λ w. is_known w t) (sym (locals_here ds q r more b (While t) a e)) ∙ not_false _ (unknown_at said (script_lines ds ps) clean passed.unknown (lines_to ds q r ++ b) (While t) (a ++ lines_from more) (line_at ds q r more b (While t) a e ps g))
+  line_sound q r more g b Blank a e = refl
+  line_sound q r more g b Bad a e = refl
+  line_sound q r more g b (Declare d) a e = refl
+  line_sound q r more g b (Proc n xs) a e = refl
+  line_sound q r more g b Else a e = refl
+  line_sound q r more g b End a e = refl
 
-  -- what the check of names says of a statement
-  named : (unknown : (l : ℕ) → on_line (λ k l. names_unknown said (locals_at said k) l) said l ≡ false) → (q : List Procedure) (r : Procedure) (more : List Procedure) → ps ≡ q ++ r ∷ more → (b : List Statement) (s : Statement) (a : List Statement) → statements r.body ≡ b ++ s ∷ a → (line : Line) → statement_lines s ≡ line ∷ [] → says_something line ≡ true → binds line ≡ statement_binds s → is_procedure line ≡ false → names_unknown (script_lines ds ps) (locals_of r) line ≡ false
-  named unknown q r more e b s a f line one says binding inside =
-      let cut : script_lines ds ps ≡ lines_before ds q r b ++ (line ∷ lines_after a more) = statement_cut q r more e b s a f ∙ ap (λ t. lines_before ds q r b ++ (t ++ lines_after a more)) one in
-      let h = unknown_at said (script_lines ds ps) clean unknown (lines_before ds q r b) line (lines_after a more) says cut in
-      ap (λ t. names_unknown (script_lines ds ps) t line) (sym (locals_here ds q r more b s a f line binding inside)) ∙ h
+  procedure_sound : (q : List Procedure) (r : Procedure) (more : List Procedure) → ps ≡ q ++ r ∷ more → is_procedure_sound ds ps r ≡ true
+  procedure_sound q r more g =
+      all_statements (is_line_sound ds ps (locals_of r)) (λ s. is_own_sound ds ps (locals_of r) (out-Statement s)) (λ s. own_sound ds ps (locals_of r) (out-Statement s)) (statements r.body)
+      (all_by_cut (is_line_sound ds ps (locals_of r)) (body_lines (statements r.body)) (line_sound q r more g))
 
-  statement_sound : (unknown : (l : ℕ) → on_line (λ k l. names_unknown said (locals_at said k) l) said l ≡ false) → (counts : (l : ℕ) → on_line (λ k l. miscounts said l) said l ≡ false) → (q : List Procedure) (r : Procedure) (more : List Procedure) → ps ≡ q ++ r ∷ more → (b : List Statement) (s : Statement) (a : List Statement) → statements r.body ≡ b ++ s ∷ a → is_statement_sound ds ps (locals_of r) s ≡ true
-  statement_sound unknown counts q r more e b (statement.Put v t) a f =
-      let h = named unknown q r more e b (statement.Put v t) a f (Put v t) refl refl refl refl in
-      let declared : list_any (declares_variable v) (script_lines ds ps) ≡ true = not_false _ (left_fails (not (list_any (declares_variable v) (script_lines ds ps))) (not (is_known (locals_of r) t)) h) in
-      both_hold _ _ (sym (all_variables v ds ps) ∙ declared) (not_false _ (right_fails (not (list_any (declares_variable v) (script_lines ds ps))) (not (is_known (locals_of r) t)) h))
-  statement_sound unknown counts q r more e b (statement.GetAny x v) a f =
-      let h = named unknown q r more e b (statement.GetAny x v) a f (GetAny x v) refl refl refl refl in
-      let whole : locals_of r ≡ r.parameters ++ (flat_map statement_binds b ++ (x ∷ flat_map statement_binds a)) = ap (λ ss. r.parameters ++ flat_map statement_binds ss) f ∙ ap (λ t. r.parameters ++ t) (flat_map-append statement_binds b (statement.GetAny x v ∷ a)) in
-      both_hold _ _ (sym (all_variables v ds ps) ∙ not_false _ h) (ap (has_name x) whole ∙ bound_here x r.parameters (flat_map statement_binds b) (flat_map statement_binds a))
-  statement_sound unknown counts q r more e b (statement.Fork n ts) a f =
-      let h = named unknown q r more e b (statement.Fork n ts) a f (Fork n ts) refl refl refl refl in
-      let declared : list_any (declares_procedure n) (script_lines ds ps) ≡ true = not_false _ (left_fails (not (list_any (declares_procedure n) (script_lines ds ps))) (not (list_all (is_known (locals_of r)) ts)) h) in
-      let agrees : disagrees (length ts) (parameters_of n (script_lines ds ps)) ≡ false = count_at said (script_lines ds ps) clean counts (lines_before ds q r b) (Fork n ts) (lines_after a more) (statement_cut q r more e b (statement.Fork n ts) a f) in
-      let of_procedures : disagrees (length ts) (parameters_of n (flat_map procedure_lines ps)) ≡ false = ap (disagrees (length ts)) (sym (skip_declarations n ds (flat_map procedure_lines ps))) ∙ agrees in
-      both_hold _ _ (taken n (length ts) ps (sym (procedures_declared n ds ps) ∙ declared) of_procedures) (not_false _ (right_fails (not (list_any (declares_procedure n) (script_lines ds ps))) (not (list_all (is_known (locals_of r)) ts)) h))
+  procedure_again : (q : List Procedure) (r : Procedure) (more : List Procedure) → ps ≡ q ++ r ∷ more → declares_again (script_lines ds q) (Proc r.name r.parameters) ≡ false
+  procedure_again q r more e = again_at said (script_lines ds ps) clean passed.again (script_lines ds q) (Proc r.name r.parameters) _ (procedure_cut q r more e)
+
+  declaration_again : (b : List Declaration) (d : Declaration) (a : List Declaration) → ds ≡ b ++ d ∷ a → declares_again (heads b) (Declare d) ≡ false
+  declaration_again b d a e = again_at said (script_lines ds ps) clean passed.again (heads b) (Declare d) _ (declaration_cut b d a e)
+
+  declaration_limit : (b : List Declaration) (d : Declaration) (a : List Declaration) → ds ≡ b ++ d ∷ a → is_past_limit (heads b) (Declare d) ≡ false
+  declaration_limit b d a e = limit_at said (script_lines ds ps) clean passed.few (heads b) (Declare d) _ (declaration_cut b d a e)
+
+  open_here : (q : List Procedure) (r : Procedure) → open_after [] (lines_to ds q r) ≡ InProcedure ∷ []
+  open_here q r = open_append [] (script_lines ds q) (Proc r.name r.parameters ∷ []) ∙ ap (λ os. open_after os (Proc r.name r.parameters ∷ [])) (none_open ds q)
+
+  procedure_shallow : (q : List Procedure) (r : Procedure) (more : List Procedure) → ps ≡ q ++ r ∷ more → nat_le (all_depth (statements r.body)) 63 ≡ true
+  procedure_shallow q r more g =
+      shallow_body (statements r.body) (subst (λ os. stays_shallow os (body_lines (statements r.body)) ≡ true) (open_here q r)
+      (within_limits (lines_to ds q r) (body_lines (statements r.body)) (λ b l a e. limit_at said (script_lines ds ps) clean passed.few (lines_to ds q r ++ b) l (a ++ lines_from more) (line_at ds q r more b l a e ps g))))
+
+  pool_above : (b : List Declaration) (d : Declaration) (a : List Declaration) → ds ≡ b ++ d ∷ a → is_pool_known b d ≡ true
+  pool_above b (Variable n k) a e = refl
+  pool_above b (Pool p v) a e =
+      ap (λ t. has_name v (variable_names t)) (sym (declared_heads b)) ∙ not_false _ (unknown_at said (script_lines ds ps) clean passed.unknown (heads b) (Declare (Pool p v)) _ (declaration_cut b (Pool p v) a e))
+
+  all_written : list_all is_line_written (script_lines ds ps) ≡ true
+  all_written = ap (list_all is_line_written) (sym clean) ∙ passed.written
 
   -- the checks passed on the lines make the script sound
-  pub sound_from_checks : (again : (l : ℕ) → on_line (λ k l. declares_again (take k said) l) said l ≡ false) → (unknown : (l : ℕ) → on_line (λ k l. names_unknown said (locals_at said k) l) said l ≡ false) → (counts : (l : ℕ) → on_line (λ k l. miscounts said l) said l ≡ false) → (few : (l : ℕ) → on_line (λ k l. is_past_limit (take k said) l) said l ≡ false) → list_any is_main said ≡ true → IsSound ds ps
-  sound_from_checks again unknown counts few main =
-      let procedure_again = λ (q : List Procedure) (r : Procedure) (more : List Procedure) (e : ps ≡ q ++ r ∷ more). again_at said (script_lines ds ps) clean again (script_lines ds q) (Proc r.name r.parameters) _ (procedure_cut q r more e) in
+  pub sound_from_checks : IsSound ds ps
+  sound_from_checks =
       record {
-        statements_sound = all_by_cut (is_procedure_sound ds ps) ps (λ q r more e. all_by_cut (is_statement_sound ds ps (locals_of r)) (statements r.body) (statement_sound unknown counts q r more e));
-        parameters_differ = none_by_cut (λ r. has_repeat r.parameters) ps (λ q r more e. right_fails (list_any (declares_procedure r.name) (script_lines ds q)) (has_repeat r.parameters) (procedure_again q r more e));
-        variables_differ = differ_by_cut variable_name ds (λ b d a e. again_variable d b (again_at said (script_lines ds ps) clean again (map declaration_line b) (declaration_line d) _ (declaration_cut b d a e)));
-        procedures_differ = differ_by_cut (λ (r : Procedure). r.name) ps (λ q r more e. sym (procedures_declared r.name ds q) ∙ left_fails (list_any (declares_procedure r.name) (script_lines ds q)) (has_repeat r.parameters) (procedure_again q r more e));
-        few_variables = few_by_cut 64 ds (λ b d a e. few_before d b (limit_at said (script_lines ds ps) clean few (map declaration_line b) (declaration_line d) _ (declaration_cut b d a e)));
-        few_procedures = few_by_cut 64 ps (λ q r more e. fewer_before r ds q (limit_at said (script_lines ds ps) clean few (script_lines ds q) (Proc r.name r.parameters) _ (procedure_cut q r more e)));
-        main_stands = sym (main_declared ds ps) ∙ ap (list_any is_main) (sym clean) ∙ sym (any_cleaned is_main refl said) ∙ main;
+        statements_sound = all_by_cut (is_procedure_sound ds ps) ps procedure_sound;
+        parameters_differ = none_by_cut (λ r. has_repeat r.parameters) ps (λ q r more e. right_fails (has_procedure r.name (script_lines ds q)) (has_repeat r.parameters) (procedure_again q r more e));
+        variables_differ = names_differ variable_name one_variable ds (λ b d a v e w. new_variable d b v w (declaration_again b d a e));
+        pools_differ = names_differ pool_name one_pool ds (λ b d a v e w. new_pool d b v w (declaration_again b d a e));
+        procedures_differ = differ_by_cut (λ (r : Procedure). r.name) ps (λ q r more e. sym (procedures_declared r.name ds q) ∙ left_fails (has_procedure r.name (script_lines ds q)) (has_repeat r.parameters) (procedure_again q r more e));
+        pools_known = all_by_cut (is_pool_known ds) ds (λ b d a e. ap (λ t. is_pool_known t d) e ∙ known_further b d (d ∷ a) (pool_above b d a e));
+        few_variables = few_names variable_name one_variable ds 64 (λ b d a e k. few_variables_before d b k (declaration_limit b d a e));
+        few_pools = few_names pool_name one_pool ds 64 (λ b d a e k. few_pools_before d b k (declaration_limit b d a e));
+        few_procedures = few_by_cut 64 ps (λ q r more e. few_procedures_before r ds q (limit_at said (script_lines ds ps) clean passed.few (script_lines ds q) (Proc r.name r.parameters) _ (procedure_cut q r more e)));
+        shallow = all_by_cut (λ p. nat_le (all_depth (statements p.body)) 63) ps procedure_shallow;
+        pools_follow = follow_by_cut [] ds pool_above;
+        declarations_written = heads_written ds (front_written (heads ds) (flat_map procedure_lines ps) all_written);
+        procedures_written = procedures_written ps (back_written (heads ds) (flat_map procedure_lines ps) all_written);
+        main_stands = sym (main_declared ds ps) ∙ ap (list_any is_main) (sym clean) ∙ sym (any_cleaned is_main refl said) ∙ passed.main;
       }
-
--- a script whose lines are those of an accepted text is sound
-pub sound_when_accepted : (p : Parts) (ds : List Declaration) (ps : List Procedure) → script_lines ds ps ≡ filter says_something p.said → IsAccepted p → IsSound ds ps
-sound_when_accepted p ds ps clean accepted =
-    sound_from_checks p.said ds ps (sym clean)
-    accepted.1.1.1.1.0
-    accepted.1.1.1.1.1.0
-    accepted.1.1.1.1.1.1.1.0
-    accepted.1.1.1.1.1.1.1.1.1.1.1.0
-    (not_false _ (accepted.1.1.1.1.1.1.1.1.1.1.0 0))

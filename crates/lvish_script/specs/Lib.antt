@@ -1,11 +1,10 @@
-pub mod Equality
 pub mod Text
-pub mod Name
 pub mod Fault
-pub mod Arities
+pub mod Table
 pub mod Form
 pub mod Checks
 pub mod Known
-pub mod Sound
+pub mod Opened
 pub mod Spells
 pub mod Nested
+pub mod Canonical

@@ -1,37 +1,56 @@
 -- A script that is being put together from its lines.
-use Rattle.std.specs.Prelude.{◌≡◌, ℕ, false, List, [], ◌∷◌, ◌++◌, map, Option, Some, None, IsSome}
+use Rattle.std.specs.Prelude.{◌≡◌, false, List, [], ◌∷◌, ◌++◌, map, reverse, Option, Some, None}
 use Rattle.std.specs.List.{flat_map}
+use Rattle.lvish_syntax.specs.declared.procedure.Procedure.{Procedure}
+use Rattle.lvish_syntax.specs.Nested.{statements}
 use Rattle.lvish_script.specs.declared.line.Line.{Line}
-use Rattle.lvish_script.specs.declared.line.Line.TheVariants.{Blank, Bad, Cell, Proc, Put, GetAny, Fork, End}
-use Rattle.lvish_script.specs.declared.procedure.Procedure.{Procedure}
+use Rattle.lvish_script.specs.declared.line.Line.TheVariants as line
+use Rattle.lvish_script.specs.declared.open.OpenBlock.{OpenBlock}
+use Rattle.lvish_script.specs.declared.open.OpenBlock.TheVariants.{If, Else, While}
+use Rattle.lvish_script.specs.declared.nest.OpenProcedure.{OpenProcedure}
 use Rattle.lvish_script.specs.declared.nest.Draft.{Draft}
-use Rattle.lvish_script.specs.Checks.{Opener, InProcedure}
-use Rattle.lvish_script.specs.Spells.{declaration_line, procedure_lines, body_lines}
+use Rattle.lvish_script.specs.Checks.{Opener, InProcedure, InIf, InElse, InWhile, is_misplaced}
+use Rattle.lvish_script.specs.Spells.{body_lines, procedure_lines}
 
-abbrev pub open_lines : Option Procedure → List Line
+-- the lines of an open block as far as they were read
+abbrev pub block_lines : OpenBlock → List Line
+block_lines (If t a) = line.If t ∷ body_lines (statements a)
+block_lines (Else t a b) = line.If t ∷ (body_lines (statements a) ++ line.Else ∷ body_lines (statements b))
+block_lines (While t a) = line.While t ∷ body_lines (statements a)
+
+-- the lines of a procedure with its open blocks, the innermost last
+abbrev pub opened_lines : OpenProcedure → List Line
+opened_lines o = (line.Proc o.procedure.name o.procedure.parameters ∷ body_lines (statements o.procedure.body)) ++ flat_map block_lines o.blocks.items
+
+abbrev pub open_lines : Option OpenProcedure → List Line
 open_lines None = []
-open_lines (Some p) = Proc p.name p.parameters ∷ body_lines p.body.items.items
+open_lines (Some o) = opened_lines o
 
+-- the lines of a draft
 abbrev pub draft_lines : Draft → List Line
-draft_lines d = map declaration_line d.declarations.items ++ (flat_map procedure_lines d.procedures.items ++ open_lines d.opened)
+draft_lines d = map (λ e. line.Declare e) d.declarations.items ++ (flat_map procedure_lines d.procedures.items ++ open_lines d.opened)
 
--- what is open in a draft
-abbrev pub openers : Option Procedure → List Opener
+abbrev pub opener : OpenBlock → Opener
+opener (If t a) = InIf
+opener (Else t a b) = InElse
+opener (While t a) = InWhile
+
+-- what is open in a draft, the innermost first
+abbrev pub openers : Option OpenProcedure → List Opener
 openers None = []
-openers (Some p) = InProcedure ∷ []
+openers (Some o) = reverse (map opener o.blocks.items) ++ InProcedure ∷ []
 
 -- no procedure was begun
-abbrev pub HasNone : List Procedure → Option Procedure → Type 0
+abbrev pub HasNone : List Procedure → Option OpenProcedure → Type 0
 HasNone ps o = (ps ≡ []) × (o ≡ None)
 
--- a line that a draft with these procedures and this open one can take next
-abbrev pub Takes : List Procedure → Option Procedure → Line → Type 0
-Takes ps o Blank = Unit {0}
-Takes ps o Bad = ⊥
-Takes ps o (Cell n) = HasNone ps o
-Takes ps o (Proc n xs) = o ≡ None
-Takes ps o l = IsSome o
-
+-- what a line gives the lines of a draft
 abbrev pub what_is_said : Line → List Line
-what_is_said Blank = []
+what_is_said line.Blank = []
 what_is_said l = l ∷ []
+
+-- whether a draft can take the line next
+abbrev pub Fits : List Procedure → Option OpenProcedure → Line → Type 0
+Fits ps o line.Bad = ⊥
+Fits ps o (line.Declare e) = HasNone ps o
+Fits ps o l = is_misplaced (openers o) l ≡ false

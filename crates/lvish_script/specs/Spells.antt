@@ -1,40 +1,42 @@
 -- Which script a text spells.
-use Rattle.std.specs.Prelude.{◌≡◌, ◌⊎◌, ℕ, Bool, true, false, List, [], ◌∷◌, ◌++◌, map, filter, Option, Some, None}
+use Rattle.std.specs.Prelude.{◌≡◌, ◌⊎◌, ℕ, Bool, true, false, List, [], ◌∷◌, ◌++◌, map, filter}
 use Rattle.std.specs.List.{flat_map}
+use Rattle.lvish_syntax.specs.declared.declaration.Declaration.{Declaration}
+use Rattle.lvish_syntax.specs.declared.statement.Statement.{Statement, Do, If', IfElse', While', Row_of-Statement, end_of-Statement, more_of-Statement}
+use Rattle.lvish_syntax.specs.declared.procedure.Procedure.{Procedure}
+use Rattle.lvish_syntax.specs.declared.script.Script.{Script}
+use Rattle.lvish_syntax.specs.Nested.{statements}
 use Rattle.lvish_script.specs.declared.line.Line.{Line}
-use Rattle.lvish_script.specs.declared.line.Line.TheVariants.{Blank, Bad, Cell, Proc, Put, GetAny, Fork, End}
-use Rattle.lvish_script.specs.declared.declaration.Declaration.{Declaration}
-use Rattle.lvish_script.specs.declared.declaration.Declaration.TheVariants as declared
-use Rattle.lvish_script.specs.declared.statement.Statement.{Statement}
-use Rattle.lvish_script.specs.declared.statement.Statement.TheVariants as statements
-use Rattle.lvish_script.specs.declared.procedure.Procedure.{Procedure}
-use Rattle.lvish_script.specs.declared.script.Script.{Script}
-use Rattle.lvish_script.specs.Checks.{Parts, parts_of, IsAccepted, IsFirstFault}
+use Rattle.lvish_script.specs.declared.line.Line.TheVariants as line
+use Rattle.lvish_script.specs.Checks.{parts_of, IsAccepted, IsFirstFault}
 use Rattle.lvish_script.specs.declared.script_fault.ScriptFault.{ScriptFault}
 use Rattle.lvish_script.specs.declared.fault.Fault.TheVariants.{Memory}
 
-abbrev pub declaration_line : Declaration → Line
-declaration_line (declared.Cell n) = Cell n
+abbrev mutual
+  -- the lines of a statement, from its first to its end
+  pub statement_lines : Statement → List Line
+  statement_lines (Do c) = line.Do c ∷ []
+  statement_lines (If' t s a) = line.If t ∷ (row_lines a ++ line.End ∷ [])
+  statement_lines (IfElse' t s a r b) = line.If t ∷ (row_lines a ++ line.Else ∷ (row_lines b ++ line.End ∷ []))
+  statement_lines (While' t s a) = line.While t ∷ (row_lines a ++ line.End ∷ [])
 
--- the lines of a statement, from its first to its end
-abbrev pub statement_lines : Statement → List Line
-statement_lines (statements.Put v t) = Put v t ∷ []
-statement_lines (statements.GetAny x v) = GetAny x v ∷ []
-statement_lines (statements.Fork n ts) = Fork n ts ∷ []
+  pub row_lines : {m : _} → Row_of-Statement m → List Line
+  row_lines end_of-Statement = []
+  row_lines (more_of-Statement s rest) = statement_lines s ++ row_lines rest
 
 -- the lines of statements in order
 abbrev pub body_lines : List Statement → List Line
 body_lines ss = flat_map statement_lines ss
 
 abbrev pub procedure_lines : Procedure → List Line
-procedure_lines p = Proc p.name p.parameters ∷ (body_lines p.body.items.items ++ End ∷ [])
+procedure_lines p = line.Proc p.name p.parameters ∷ (body_lines (statements p.body) ++ line.End ∷ [])
 
 -- the lines of declarations and procedures in order
 abbrev pub script_lines : List Declaration → List Procedure → List Line
-script_lines ds ps = map declaration_line ds ++ flat_map procedure_lines ps
+script_lines ds ps = map (λ d. line.Declare d) ds ++ flat_map procedure_lines ps
 
 abbrev pub says_something : Line → Bool
-says_something Blank = false
+says_something line.Blank = false
 says_something l = true
 
 -- no check fails, and the lines that say something are the script's

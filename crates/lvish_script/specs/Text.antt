@@ -1,10 +1,7 @@
 -- The lines and words of a text.
 use Rattle.std.specs.Prelude.{ℕ, ◌-◌, Bool, false, not, ◌||◌, ◌&&◌, ◌==◌, nat_le, List, [], ◌∷◌, length, take, slice_index, filter, take_while, if◌then◌else◌}
 use Rattle.std.specs.List.{slice_split}
-
--- a word, by its bytes
-abbrev pub Word : Type 0
-Word = List ℕ
+use Rattle.lvish_syntax.specs.Words.{Word}
 
 -- without the last line feed, if the text ends in one
 abbrev pub without_last_feed : List ℕ → List ℕ

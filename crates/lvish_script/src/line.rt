@@ -1,19 +1,25 @@
-use crate::name::Name;
-use crate::names::Names;
-use crate::term::Term;
-use crate::terms::Terms;
+use crate::boxed::Boxed;
+use lvish_syntax::{Command, Declaration, Name, Names, Term};
 
-/// What a line says.
+/// What a line says. Small, since each line of a text has one, be it blank.
 #[derive(Debug, Drop)]
 pub enum Line {
     /// It has no words.
     Blank,
     /// It has none of the forms.
     Bad,
-    Cell(Name),
-    Proc(Name, Names),
-    Put(Name, Term),
-    GetAny(Name, Name),
-    Fork(Name, Terms),
+    /// It declares a variable or a pool.
+    Declare(Boxed<Declaration>),
+    /// It begins a procedure with these parameters.
+    Proc(Boxed<Name>, Boxed<Names>),
+    /// It is a statement of one line.
+    Do(Boxed<Command>),
+    /// It opens a block.
+    If(Boxed<Term>),
+    /// It opens a block.
+    While(Boxed<Term>),
+    /// It opens the other part of an `if`.
+    Else,
+    /// It closes the innermost block, or the procedure.
     End,
 }

@@ -1,10 +1,10 @@
 ghost use Rattle.std.specs.Prelude.{◌≡◌, ◌||◌, not, false, IfOk, OnOk};
 ghost use Rattle.std.specs.Str.{bytes_eq};
-ghost use Rattle.lvish_script.specs.Text.{Word};
-ghost use Rattle.lvish_script.specs.Name.{has_name};
+ghost use Rattle.lvish_syntax.specs.Words.{Word};
+ghost use Rattle.lvish_syntax.specs.Name.{has_name};
 
-use crate::name::Name;
 use indexmap::IndexSet;
+use lvish_syntax::Name;
 use std::alloc::{AllocError, Global};
 use std::marker::Model;
 

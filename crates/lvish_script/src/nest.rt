@@ -1,116 +1,178 @@
-ghost use Rattle.std.specs.Prelude.{◌≡◌, ◌++◌, ℕ, false, List, filter, IfOk};
-ghost use Rattle.lvish_script.specs.Checks.{on_line, line_fails, open_step, is_procedure};
-ghost use Rattle.lvish_script.specs.declared.fault.Fault.TheVariants.{BadLine, OpenBlock};
-ghost use Rattle.lvish_script.specs.Spells.{script_lines, says_something};
-ghost use Rattle.lvish_script.specs.Nested.{draft_lines, Takes, HasNone, openers, what_is_said};
+ghost use Rattle.std.specs.Prelude.{◌≡◌, ◌++◌, ◌∷◌, [], ℕ, false, true, filter, Some, IfOk};
+ghost use Rattle.std.specs.List.{flat_map};
+ghost use Rattle.lvish_script.specs.Checks.{on_line, line_fails, open_step, is_procedure, is_nil, takes_else};
+ghost use Rattle.lvish_script.specs.declared.fault.Fault.TheVariants.{BadLine, OpenBlock as UnclosedBlock};
+ghost use Rattle.lvish_script.specs.Spells.{script_lines, statement_lines, procedure_lines, says_something};
+ghost use Rattle.lvish_script.specs.Nested.{block_lines, opener, opened_lines, open_lines, draft_lines, openers, what_is_said, HasNone, Fits};
+ghost use Rattle.lvish_script.specs.declared.line.Line.TheVariants as line;
 
-use crate::declaration::{Declaration, Declarations};
 use crate::line::Line;
-use crate::procedure::{Procedure, Procedures};
-use crate::statement::{Block, Statement};
+use crate::open::{OpenBlock, empty, with_statement};
+use lvish_syntax::{Declaration, Declarations, Name, Names, Procedure, Procedures, Statement};
 use std::alloc::{AllocError, Global};
+
+/// A procedure that is open, with the open blocks in it, the innermost last.
+#[derive(Drop)]
+struct OpenProcedure {
+    procedure: Procedure,
+    blocks: Vec<OpenBlock>,
+}
+
+impl OpenProcedure {
+    /// A procedure without statements.
+    fn begun(alloc: Global, name: Name, parameters: Names) -> OpenProcedure
+        ensures lines { opened_lines result ≡ line.Proc name parameters ∷ [] }
+        ensures openers { openers (Some result) ≡ open_step [] (line.Proc name parameters) }
+    {
+        OpenProcedure {
+            procedure: Procedure {
+                name,
+                parameters,
+                body: empty(alloc),
+            },
+            blocks: Vec::new(alloc),
+        }
+    }
+
+    /// With a further statement in the innermost block.
+    fn with(self, statement: Statement) -> Result<OpenProcedure, AllocError>
+        ensures lines { IfOk result (λ o. opened_lines o ≡ opened_lines self ++ statement_lines statement) }
+        ensures openers { IfOk result (λ o. openers (Some o) ≡ openers (Some self)) }
+    {
+        let OpenProcedure {
+            mut procedure,
+            mut blocks,
+        } = self;
+        match blocks.pop() {
+            None => procedure.body = with_statement(procedure.body, statement)?,
+            Some(block) => blocks.push(block.with(statement)?)?,
+        }
+        Ok(OpenProcedure { procedure, blocks })
+    }
+
+    /// With a further block in the innermost one.
+    fn open(self, block: OpenBlock) -> Result<OpenProcedure, AllocError>
+        ensures lines { IfOk result (λ o. opened_lines o ≡ opened_lines self ++ block_lines block) }
+        ensures openers { IfOk result (λ o. openers (Some o) ≡ opener block ∷ openers (Some self)) }
+    {
+        let OpenProcedure {
+            procedure,
+            mut blocks,
+        } = self;
+        blocks.push(block)?;
+        Ok(OpenProcedure { procedure, blocks })
+    }
+
+    /// With the second part of the innermost block, an `if` before its `else`.
+    fn turned(self, alloc: Global) -> Result<OpenProcedure, AllocError>
+        requires { takes_else (openers (Some self)) ≡ true }
+        ensures lines { IfOk result (λ o. opened_lines o ≡ opened_lines self ++ line.Else ∷ []) }
+        ensures openers { IfOk result (λ o. openers (Some o) ≡ open_step (openers (Some self)) line.Else) }
+    {
+        let OpenProcedure {
+            procedure,
+            mut blocks,
+        } = self;
+        let Some(OpenBlock::If(test, first)) = blocks.pop() else {
+            unreachable!()
+        };
+        blocks.push(OpenBlock::Else(test, first, empty(alloc)))?;
+        Ok(OpenProcedure { procedure, blocks })
+    }
+
+    /// With the end of the innermost block; at the end of the procedure itself, it is one of the
+    /// procedures.
+    fn ended(self, procedures: &mut Vec<Procedure>) -> Result<Option<OpenProcedure>, AllocError>
+        ensures lines { IfOk result (λ o. flat_map procedure_lines procedures.new.items ++ open_lines o ≡ (flat_map procedure_lines procedures.old.items ++ opened_lines self) ++ line.End ∷ []) }
+        ensures openers { IfOk result (λ o. openers o ≡ open_step (openers (Some self)) line.End) }
+    {
+        let OpenProcedure {
+            procedure,
+            mut blocks,
+        } = self;
+        match blocks.pop() {
+            None => {
+                procedures.push(procedure)?;
+                Ok(None)
+            }
+            Some(block) => {
+                let opened = OpenProcedure { procedure, blocks };
+                Ok(Some(opened.with(block.closed())?))
+            }
+        }
+    }
+}
+
+/// What is open, where something is.
+fn inside(opened: Option<OpenProcedure>) -> OpenProcedure
+    requires { is_nil (openers opened) ≡ false }
+    ensures { opened ≡ Some result }
+{
+    match opened {
+        Some(opened) => opened,
+        None => unreachable!(),
+    }
+}
 
 /// What was read of a script.
 #[derive(Drop)]
 struct Draft {
     declarations: Vec<Declaration>,
     procedures: Vec<Procedure>,
-    opened: Option<Procedure>,
+    opened: Option<OpenProcedure>,
 }
 
-/// The draft with one more line.
-fn add(alloc: Global, draft: Draft, line: &Line) -> Result<Draft, AllocError>
-    requires { Takes draft.procedures.items draft.opened line.now }
-    ensures lines { IfOk result (λ d. draft_lines d ≡ draft_lines draft ++ what_is_said line.now) }
-    ensures opened { IfOk result (λ d. openers d.opened ≡ open_step (openers draft.opened) line.now) }
-    ensures none { is_procedure line.now ≡ false → HasNone draft.procedures.items draft.opened → IfOk result (λ d. HasNone d.procedures.items d.opened) }
-{
-    let Draft {
-        mut declarations,
-        mut procedures,
-        opened,
-    } = draft;
-    match line {
-        Line::Blank => Ok(Draft {
+impl Draft {
+    /// With one more line.
+    fn add(self, alloc: Global, line: Line) -> Result<Draft, AllocError>
+        requires { Fits self.procedures.items self.opened line }
+        ensures lines { IfOk result (λ d. draft_lines d ≡ draft_lines self ++ what_is_said line) }
+        ensures openers { IfOk result (λ d. openers d.opened ≡ open_step (openers self.opened) line) }
+        ensures none { is_procedure line ≡ false → HasNone self.procedures.items self.opened → IfOk result (λ d. HasNone d.procedures.items d.opened) }
+    {
+        let Draft {
+            mut declarations,
+            mut procedures,
+            opened,
+        } = self;
+        let opened = match line {
+            Line::Blank => opened,
+            Line::Bad => unreachable!(),
+            Line::Declare(declaration) => {
+                declarations.push(declaration.into_inner())?;
+                opened
+            }
+            Line::Proc(name, parameters) => {
+                Some(OpenProcedure::begun(alloc, name.into_inner(), parameters.into_inner()))
+            }
+            Line::Do(command) => {
+                let statement = Statement::Do(command.into_inner());
+                Some(inside(opened).with(statement)?)
+            }
+            Line::If(test) => Some(inside(opened).open(OpenBlock::If(test, empty(alloc)))?),
+            Line::While(test) => Some(inside(opened).open(OpenBlock::While(test, empty(alloc)))?),
+            Line::Else => Some(inside(opened).turned(alloc)?),
+            Line::End => inside(opened).ended(&mut procedures)?,
+        };
+        Ok(Draft {
             declarations,
             procedures,
             opened,
-        }),
-        Line::Bad => unreachable!(),
-        Line::Cell(name) => {
-            declarations.push(Declaration::Cell(name.copy(alloc)?))?;
-            Ok(Draft {
-                declarations,
-                procedures,
-                opened,
-            })
-        }
-        Line::Proc(name, parameters) => Ok(Draft {
-            declarations,
-            procedures,
-            opened: Some(Procedure {
-                name: name.copy(alloc)?,
-                parameters: parameters.copy(alloc)?,
-                body: Block {
-                    items: Vec::new(alloc),
-                },
-            }),
-        }),
-        Line::Put(variable, term) => {
-            let Some(mut procedure) = opened else {
-                unreachable!()
-            };
-            let statement = Statement::Put(variable.copy(alloc)?, term.copy(alloc)?);
-            procedure.body.items.push(statement)?;
-            Ok(Draft {
-                declarations,
-                procedures,
-                opened: Some(procedure),
-            })
-        }
-        Line::GetAny(x, variable) => {
-            let Some(mut procedure) = opened else {
-                unreachable!()
-            };
-            let statement = Statement::GetAny(x.copy(alloc)?, variable.copy(alloc)?);
-            procedure.body.items.push(statement)?;
-            Ok(Draft {
-                declarations,
-                procedures,
-                opened: Some(procedure),
-            })
-        }
-        Line::Fork(name, terms) => {
-            let Some(mut procedure) = opened else {
-                unreachable!()
-            };
-            let statement = Statement::Fork(name.copy(alloc)?, terms.copy(alloc)?);
-            procedure.body.items.push(statement)?;
-            Ok(Draft {
-                declarations,
-                procedures,
-                opened: Some(procedure),
-            })
-        }
-        Line::End => {
-            let Some(procedure) = opened else {
-                unreachable!()
-            };
-            procedures.push(procedure)?;
-            Ok(Draft {
-                declarations,
-                procedures,
-                opened: None,
-            })
-        }
+        })
     }
 }
 
-/// The script with these lines.
-pub fn nest(alloc: Global, said: &[Line]) -> Result<(Declarations, Procedures), AllocError>
-    requires placed { (l : ℕ) → on_line (line_fails BadLine said.now) said.now l ≡ false }
-    requires closed { (l : ℕ) → on_line (line_fails OpenBlock said.now) said.now l ≡ false }
-    ensures { IfOk result (λ r. script_lines r.0 r.1 ≡ filter says_something said.now) }
+fn says_something(line: &Line) -> bool
+    ensures { result ≡ says_something line.now }
+{
+    !matches!(line, Line::Blank)
+}
+
+/// The declarations and procedures with these lines.
+pub fn nest(alloc: Global, said: Vec<Line>) -> Result<(Declarations, Procedures), AllocError>
+    requires placed { (l : ℕ) → on_line (line_fails BadLine said.items) said.items l ≡ false }
+    requires closed { (l : ℕ) → on_line (line_fails UnclosedBlock said.items) said.items l ≡ false }
+    ensures { IfOk result (λ r. script_lines r.0 r.1 ≡ filter says_something said.items) }
 {
     let mut draft = Draft {
         declarations: Vec::new(alloc),
@@ -118,20 +180,12 @@ pub fn nest(alloc: Global, said: &[Line]) -> Result<(Declarations, Procedures), 
         opened: None,
     };
     for line in said {
-        draft = add(alloc, draft, line)?;
+        if says_something(&line) {
+            draft = draft.add(alloc, line)?;
+        }
     }
-    let Draft {
-        declarations,
-        procedures,
-        opened,
-    } = draft;
-    match opened {
-        None => Ok((
-            Declarations {
-                items: declarations,
-            },
-            Procedures { items: procedures },
-        )),
+    match draft.opened {
+        None => Ok((draft.declarations.into(), draft.procedures.into())),
         Some(_) => unreachable!(),
     }
 }

@@ -1,15 +1,19 @@
 ghost use Rattle.std.specs.Prelude.{◌≡◌, length, map, nat_lt, IfOk, MatchResult};
-ghost use Rattle.lvish_script.specs.Form.{line_of};
+ghost use Rattle.std.specs.List.{list_any};
+ghost use Rattle.lvish_script.specs.Text.{words_of};
+ghost use Rattle.lvish_script.specs.Form.{is_bad_number, line_of};
+ghost use Rattle.lvish_script.specs.Checks.{on_line, IsFirstOn};
 ghost use Rattle.lvish_script.specs.Spells.{Spells, IsRefused};
 
+use crate::check::first_bad_number;
 use crate::fault::Fault;
 use crate::form::line_of;
 use crate::line::Line;
 use crate::nest::nest;
-use crate::script::Script;
 use crate::script_fault::ScriptFault;
 use crate::verdict::first_fault;
-use crate::words::{lines, words_of_lines};
+use crate::words::{lines, words};
+use lvish_syntax::Script;
 use std::alloc::{AllocError, Global};
 
 const LONGEST: usize = 65536;
@@ -20,15 +24,21 @@ fn is_too_long(text: &[u8]) -> bool
     text.len() > LONGEST
 }
 
-/// What lines with these words say.
-fn said(alloc: Global, words: &[Vec<&[u8]>]) -> Result<Vec<Line>, AllocError>
-    ensures { IfOk result (λ v. v.items ≡ map line_of (map (λ ws. map (λ w. w.now) ws.items) words.now)) }
+/// What lines say, and the first of them with a number word that is no number. The words of a line are
+/// kept no longer than it takes to read them.
+fn said(alloc: Global, lines: &[&[u8]]) -> Result<(Vec<Line>, Option<usize>), AllocError>
+    ensures lines { IfOk result (λ r. r.0.items ≡ map line_of (map (λ line. words_of line.now) lines.now)) }
+    ensures bad_number { IfOk result (λ r. IsFirstOn (on_line (λ k words. list_any is_bad_number words) (map (λ line. words_of line.now) lines.now)) r.1) }
 {
     let mut said = Vec::new(alloc);
-    for line in words {
-        said.push(line_of(alloc, line)?)?;
+    let mut bad_number = None;
+    for k in 0..lines.len() {
+        let words = words(alloc, lines[k])?;
+        let words = words.as_slice();
+        bad_number = first_bad_number(bad_number, words, k + 1);
+        said.push(line_of(alloc, words)?)?;
     }
-    Ok(said)
+    Ok((said, bad_number))
 }
 
 /// The script that a text spells, or the first check that fails with the lowest line on which it does.
@@ -45,11 +55,8 @@ pub fn read_script(alloc: Global, text: &[u8]) -> Result<Script, ScriptFault>
     }
     let lines = lines(alloc, text)?;
     let lines = lines.as_slice();
-    let words = words_of_lines(alloc, lines)?;
-    let words = words.as_slice();
-    let said = said(alloc, words)?;
-    let said = said.as_slice();
-    match first_fault(alloc, lines, words, said)? {
+    let (said, bad_number) = said(alloc, lines)?;
+    match first_fault(alloc, lines, bad_number, said.as_slice())? {
         Some(fault) => Err(fault),
         None => {
             let (declarations, procedures) = nest(alloc, said)?;

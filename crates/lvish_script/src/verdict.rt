@@ -1,9 +1,13 @@
 ghost use Rattle.std.specs.Prelude.{◌≡◌, ℕ, List, length, map, nat_lt, false, Some, IfOk};
-ghost use Rattle.lvish_script.specs.Checks.{IsVerdict};
+ghost use Rattle.std.specs.List.{list_any};
+ghost use Rattle.std.specs.Option.{option_map};
+ghost use Rattle.lvish_syntax.specs.Words.{Word};
+ghost use Rattle.lvish_script.specs.Form.{is_bad_number};
+ghost use Rattle.lvish_script.specs.Checks.{on_line, IsFirstOn, IsVerdict};
 
 use crate::check::{
-    first_bad_line, first_bad_number, first_double_name, first_not_ascii, first_open_block,
-    first_too_many, first_unknown_name, first_wrong_count, has_main,
+    first_bad_line, first_compatible, first_double_name, first_not_ascii, first_open_block,
+    first_too_many, first_unknown_name, first_wrong_count, first_wrong_kind, has_main,
 };
 use crate::fault::Fault;
 use crate::line::Line;
@@ -16,14 +20,21 @@ fn at(fault: Fault, line: usize) -> Option<ScriptFault>
     Some(ScriptFault { fault, line })
 }
 
+fn at_first(fault: Fault, line: Option<usize>) -> Option<ScriptFault>
+    ensures { result ≡ option_map (λ l. record { fault = fault; line = l }) line }
+{
+    at(fault, line?)
+}
+
 /// The first check that fails of a text that isn't too long, and the lowest line on which it does.
+/// The words of the lines are known by the first line with a number word that is no number.
 pub fn first_fault(
     alloc: Global,
     lines: &[&[u8]],
-    words: &[Vec<&[u8]>],
+    bad_number: Option<usize>,
     said: &[Line],
 ) -> Result<Option<ScriptFault>, AllocError>
-    ensures { IfOk result (λ found. (bytes : List ℕ) → nat_lt 65536 (length bytes) ≡ false → IsVerdict (record { bytes = bytes; lines = map (λ w. w.now) lines.now; words = map (λ ws. map (λ w. w.now) ws.items) words.now; said = said.now }) found) }
+    ensures { IfOk result (λ found. (bytes : List ℕ) (words : List (List Word)) → nat_lt 65536 (length bytes) ≡ false → IsFirstOn (on_line (λ k ws. list_any is_bad_number ws) words) bad_number → IsVerdict (record { bytes = bytes; lines = map (λ w. w.now) lines.now; words = words; said = said.now }) found) }
 {
     if let Some(line) = first_not_ascii(lines) {
         return Ok(at(Fault::NotAscii, line));
@@ -31,7 +42,7 @@ pub fn first_fault(
     if let Some(line) = first_bad_line(said) {
         return Ok(at(Fault::BadLine, line));
     }
-    if let Some(line) = first_bad_number(words) {
+    if let Some(line) = bad_number {
         return Ok(at(Fault::BadNumber, line));
     }
     if let Some(line) = first_double_name(alloc, said)? {
@@ -40,17 +51,21 @@ pub fn first_fault(
     if let Some(line) = first_unknown_name(alloc, said)? {
         return Ok(at(Fault::UnknownName, line));
     }
+    if let Some(line) = first_wrong_kind(alloc, said)? {
+        return Ok(at(Fault::WrongKind, line));
+    }
     if let Some(line) = first_wrong_count(alloc, said)? {
         return Ok(at(Fault::WrongCount, line));
     }
-    if let Some(line) = first_open_block(said) {
+    if let Some(line) = first_open_block(alloc, said)? {
         return Ok(at(Fault::OpenBlock, line));
+    }
+    if let Some(line) = first_compatible(alloc, said)? {
+        return Ok(at(Fault::Compatible, line));
     }
     if !has_main(said) {
         return Ok(at(Fault::NoMain, 0));
     }
-    if let Some(line) = first_too_many(said) {
-        return Ok(at(Fault::TooMany, line));
-    }
-    Ok(None)
+    let line = first_too_many(alloc, said)?;
+    Ok(at_first(Fault::TooMany, line))
 }

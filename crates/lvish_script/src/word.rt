@@ -1,6 +1,7 @@
 ghost use Rattle.std.specs.Prelude.{◌≡◌};
 ghost use Rattle.std.specs.List.{list_all};
-ghost use Rattle.lvish_script.specs.Form.{is_digit, is_letter, is_name_byte, begins_name, is_reserved, is_name, is_number_word, number_of, is_bad_number};
+ghost use Rattle.lvish_syntax.specs.Words.{is_digit, is_letter, is_name_byte, begins_name, is_reserved, is_name};
+ghost use Rattle.lvish_script.specs.Form.{is_number_word, number_of, value_of_number, is_bad_number};
 
 const RESERVED: &[u8] =
     b"cell set max map pair pool proc end let put get any in has least fork call handle freeze after each if else while";
@@ -44,13 +45,15 @@ fn is_reserved(word: &[u8]) -> bool
     RESERVED.split(|b| *b == b' ').any(|r| r == word)
 }
 
-#[tactic(auto, unfolding(crate::specs::Form::is_name))]
+/// Whether a word is a name.
+#[tactic(auto, unfolding(lvish_syntax::specs::Words::is_name))]
 pub fn is_name(word: &[u8]) -> bool
     ensures { result ≡ is_name word.now }
 {
     begins_name(word) && word.len() <= 32 && has_name_bytes(word) && !is_reserved(word)
 }
 
+/// Whether a word stands for a number, be it one or not.
 pub fn is_number_word(word: &[u8]) -> bool
     ensures { result ≡ is_number_word word.now }
 {
@@ -73,6 +76,14 @@ pub fn number_of(word: &[u8]) -> Option<i64>
     }
 }
 
+/// The value of a number word; 0 for one that is no number, which is a fault before its value is used.
+pub fn value_of_number(word: &[u8]) -> i64
+    ensures { result ≡ value_of_number word.now }
+{
+    number_of(word).unwrap_or(0)
+}
+
+/// Whether a word stands for a number and is none.
 pub fn is_bad_number(word: &[u8]) -> bool
     ensures { result ≡ is_bad_number word.now }
 {

@@ -20,7 +20,7 @@ fn is_comment(word: &[u8]) -> bool
 }
 
 /// The words of a line.
-fn words(alloc: Global, line: &[u8]) -> Result<Vec<&[u8]>, AllocError>
+pub fn words(alloc: Global, line: &[u8]) -> Result<Vec<&[u8]>, AllocError>
     ensures { IfOk result (λ v. map (λ w. w.now) v.items ≡ words_of line.now) }
 {
     line.split(|b| is_separator(*b))
@@ -56,18 +56,4 @@ pub fn lines(alloc: Global, text: &[u8]) -> Result<Vec<&[u8]>, AllocError>
         return Ok(Vec::new(alloc));
     }
     pieces(alloc, without_last_feed(text))
-}
-
-/// The words of each line.
-pub fn words_of_lines<'a>(
-    alloc: Global,
-    lines: &[&'a [u8]],
-) -> Result<Vec<Vec<&'a [u8]>>, AllocError>
-    ensures { IfOk result (λ v. map (λ ws. map (λ w. w.now) ws.items) v.items ≡ map (λ line. words_of line.now) lines.now) }
-{
-    let mut all = Vec::new(alloc);
-    for line in lines {
-        all.push(words(alloc, line)?)?;
-    }
-    Ok(all)
 }

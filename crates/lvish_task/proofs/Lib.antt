@@ -1,8 +1,7 @@
-pub mod Numbers
-pub mod Names
-pub mod Kept
-pub mod CodeSound
+pub mod ReadFound
 pub mod Fitting
 pub mod Stored
-pub mod Following
+pub mod Inner
+pub mod Places
+pub mod Alike
 pub mod Meant

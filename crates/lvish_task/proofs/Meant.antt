@@ -1,145 +1,373 @@
 -- The code of a script means what its nested statements mean.
-use Rattle.std.proofs.Common.{◌≡◌, ℕ, ℤ, pos, ◌+◌, ◌-◌, Bool, true, codes, List, [], ◌∷◌, ◌++◌, length, map, Some, None, refl, sym, ap, ◌∙◌, subst, arith}
-use Rattle.std.specs.Prelude.{if◌then◌else◌, replicate}
-use Rattle.std.specs.Str.{bytes_eq}
-use Rattle.std.specs.Option.{option_map}
-use Rattle.std.specs.List.{slice_get, slice_index_or, list_any, list_all, find}
-use Rattle.std.proofs.lemmas.List.{length-append, length-replicate, length-set, length-map}
-use Rattle.std.proofs.lemmas.List.Folds.{find_at}
-use Rattle.std.proofs.lemmas.Option.{slice_get-map, slice_get_past}
+use Rattle.std.proofs.Common.{◌≡◌, ◌⊎◌, ℕ, zero, suc, ℤ, pos, ◌+◌, ◌≤◌, Bool, true, false, ◌&&◌, ◌||◌, ◌==◌, codes, inl, inr, List, [], ◌∷◌, length, Option, Some, None, Result, Ok, Err, refl, sym, ap, ◌∙◌, subst, arith}
+use Rattle.std.specs.Prelude.{if◌then◌else◌, nat_lt, unwrap_or}
+use Rattle.std.specs.List.{slice_get, slice_set, list_all, list_any}
 use Rattle.std.proofs.lemmas.Bool.Decides.{Decides-eqb}
-use Rattle.lvish_lattice.specs.declared.flat.Flat.{Flat}
-use Rattle.lvish_lattice.specs.declared.flat.Flat.TheVariants.{Value}
-use Rattle.lvish_calculus.specs.declared.request.Request.TheVariants as r
+use Rattle.lvish_compound.specs.declared.any.Any.{Any}
+use Rattle.lvish_compound.specs.declared.any_read.AnyRead.{AnyRead}
+use Rattle.lvish_compound.specs.declared.event.Event.{Event}
+use Rattle.lvish_calculus.specs.declared.request.ErrorKind.{ErrorKind}
+use Rattle.lvish_calculus.specs.declared.request.ErrorKind.TheVariants as fault
+use Rattle.lvish_calculus.specs.declared.request.Request.{Request}
+use Rattle.lvish_calculus.specs.declared.request.Request.TheVariants as ask
 use Rattle.lvish_calculus.specs.declared.request.Reply.{Reply}
-use Rattle.lvish_calculus.specs.declared.request.Reply.TheVariants.{Done, Answer, Frozen}
-use Rattle.lvish_script.specs.Text.{Word}
-use Rattle.lvish_script.specs.Name.{has_repeat}
-use Rattle.lvish_script.specs.Sound.{variable_names, procedure_names, statements, locals_of, takes, is_statement_sound, is_procedure_sound}
-use Rattle.lvish_script.specs.declared.procedure.Procedure.{Procedure}
-use Rattle.lvish_script.specs.declared.script.Script.{Script}
-use Rattle.lvish_script.specs.declared.statement.Statement.{Statement}
-use Rattle.lvish_script.specs.declared.statement.Statement.TheVariants as s
-use Rattle.lvish_task.specs.declared.instruction.Instruction.{Instruction}
-use Rattle.lvish_task.specs.declared.routine.Routine.{Routine}
-use Rattle.lvish_task.specs.declared.code.Code.{Code}
+use Rattle.lvish_calculus.specs.declared.request.Reply.TheVariants as reply
+use Rattle.lvish_calculus.specs.Program.{IsReplyTo}
+use Rattle.lvish_syntax.specs.Words.{Word}
+use Rattle.lvish_syntax.specs.Sound.{takes as takes_terms, locals_of, are_sound, is_own_sound, is_command_sound}
+use Rattle.lvish_syntax.specs.Name.{has_name}
+use Rattle.lvish_syntax.specs.declared.procedure.Procedure.{Procedure}
+use Rattle.lvish_syntax.specs.declared.script.Script.{Script}
+use Rattle.lvish_syntax.specs.declared.command.Command.{Command}
+use Rattle.lvish_syntax.specs.declared.command.Command.TheVariants as command
+use Rattle.lvish_syntax.specs.declared.statement.Statement.{Statement}
+use Rattle.lvish_code.specs.Numbering.{number_of}
+use Rattle.lvish_code.specs.Compile.{names_of, local_names, command_code, routine_of}
+use Rattle.lvish_code.specs.Compile as compile
+use Rattle.lvish_code.specs.Follows.{Follows, DoesCommand, Does}
+use Rattle.lvish_code.specs.Sound.{takes}
+use Rattle.lvish_code.specs.declared.instruction.Instruction.{Instruction}
+use Rattle.lvish_code.specs.declared.instruction.Instruction.TheVariants.{Ask, Let, Call, SkipIfZero, BackUnlessZero, GoOn, Return}
+use Rattle.lvish_code.specs.declared.code.Code as flat
+use Rattle.lvish_code.proofs.Bools.{both}
+use Rattle.lvish_code.proofs.Names.{taking}
+use Rattle.lvish_code.proofs.Following.{does, does_here, place_within}
+use Rattle.lvish_task.specs.declared.frame.Frame.{Frame}
 use Rattle.lvish_task.specs.declared.local.Local.{Local}
-use Rattle.lvish_task.specs.Numbering.{number_of}
-use Rattle.lvish_task.specs.Compile.{local_names, operand_of, routine_of, IsCodeOf}
-use Rattle.lvish_task.specs.Run.{functions, nowhere, begun_in, begun, instruction_in, instruction_at, asked_by, answered, resumed_by, operand_value}
-use Rattle.lvish_task.specs.Meaning.{Values, term_value, with_value, begins, begins_if, called, statement_asks, first_asks, asks, rest_after, goes_on}
-use Rattle.lvish_task.specs.Pictures.{HasAt, Follows, ends, stands, code_of, body_of, Pictures, SameRequest, Means}
-use Rattle.lvish_task.specs.ProgramLaws.{both, list_all_get}
-use Rattle.lvish_task.proofs.Numbers.{place_map}
-use Rattle.lvish_task.proofs.Names.{taking, parameters_first, parameters_le, has_local, none_get}
-use Rattle.lvish_task.proofs.Stored.{bound_at, stored_at, value_at, values_at}
-use Rattle.lvish_task.proofs.Following.{follows_all}
+use Rattle.lvish_task.specs.declared.code.Code.{Code}
+use Rattle.lvish_task.specs.CodeOf.{IsCodeOf}
+use Rattle.lvish_task.specs.States.{events_below}
+use Rattle.lvish_task.specs.Meaning as m
+use Rattle.lvish_task.specs.Meaning.{Activation, State, Turn, Asked, turns, quiet, begins}
+use Rattle.lvish_task.specs.Run as f
+use Rattle.lvish_task.specs.Run.{FlatTurn, FlatAsked, placed, stepped, routine, instruction, instructions, instructions_in, jump_in, landing, landed, is_over, is_end, fits, functions}
+use Rattle.lvish_task.specs.Landing.{jump_is, landing_induction, landing_lands}
+use Rattle.lvish_task.specs.Running.{returned_left}
+use Rattle.lvish_task.specs.FitLaws.{IsFrame, of_frame, of_local, each_fits, and_true}
+use Rattle.lvish_task.specs.Pictures.{CallsAlike, PicturesFrame, PicturesAll, Pictures, SameRequest, Means}
+use Rattle.lvish_task.proofs.Inner.{rest_sound, first_sound}
+use Rattle.lvish_task.proofs.Alike as alike
 
-module _ (script : Script) (c : Code) (is_code : IsCodeOf script c) where
-  abbrev routine : Procedure → Routine
-  routine p = routine_of (variable_names script.declarations) (procedure_names script.procedures) p
+-- whether no statement follows
+abbrev none_follow : List Statement → Bool
+none_follow [] = true
+none_follow (s ∷ ks) = false
 
-  routine_at : (k : ℕ) (p : Procedure) → slice_get script.procedures k ≡ Some p → slice_get c.routines k ≡ Some (routine p)
-  routine_at k p e =
-      ap (λ rs. slice_get rs k) is_code.routines ∙ slice_get-map routine script.procedures k
-      ∙ ap (option_map routine) e
+some_left : (e : Event) (es : List Event) → (length (e ∷ es) == 0) ≡ false
+some_left e es = by (length (e ∷ es) == 0) refl
+  where
+    by : (b : Bool) → (length (e ∷ es) == 0) ≡ b → b ≡ false
+    by true is = let none : length (e ∷ es) ≡ 0 = (Decides-eqb _ _).0 is in absurd (omega arith)
+    by false is = refl
 
-  -- where a procedure begins
-  abbrev began : ℕ → Procedure → List ℤ → Local
-  began k p xs = record { top = record { procedure = k; place = 0; values = xs ++ replicate (length (local_names p) - length xs) (pos 0) } }
+module _ (script : Script) (c : flat.Code) (is_code : compile.IsCodeOf script c) where
+  abbrev Frames : Frame → Activation → Type 0
+  Frames g a = PicturesFrame script g a
 
-  begun_is : (k : ℕ) (p : Procedure) (xs : List ℤ) → slice_get script.procedures k ≡ Some p → length xs ≡ length p.parameters → began k p xs ≡ begun c k xs
-  begun_is k p xs e n =
-      ap (λ (b : Bool). if b then began k p xs else nowhere c) (sym ((Decides-eqb (length xs) (length p.parameters)).1 n))
-      ∙ ap (begun_in c k xs) (sym (routine_at k p e))
+  instructions_are : (g : Frame) (p : Procedure) → slice_get script.procedures g.procedure ≡ Some p → instructions c g ≡ (routine_of (names_of script p) p).instructions
+  instructions_are g p e = ap instructions_in (alike.routine_at script c is_code g.procedure p e)
 
-  began_pictures : (k : ℕ) (p : Procedure) (xs : List ℤ) → slice_get script.procedures k ≡ Some p → length xs ≡ length p.parameters → Pictures script (began k p xs) (begins xs p)
-  began_pictures k p xs e n =
-      let once = none_get (λ q. has_repeat q.parameters) script.procedures k p script.sound.parameters_differ e in
-      let first = parameters_first p once in
-      let room = parameters_le p once in
-      let zeros = length (local_names p) - length xs in
+  -- ---- past jumps, and out of frames
+
+  landed_pictures : (g : Frame) (a : Activation) → Frames g a → Frames (landed c g) a
+  landed_pictures g a pic =
+      let names = names_of script pic.procedure in
+      let code = (routine_of names pic.procedure).instructions in
+      let there : Follows names code (landing code g.place) a.following =
+      landing_induction code (λ q. Follows names code q a.following) (λ p n e h. does names code p a.following h (GoOn n) (jump_is _ n e)) g.place pic.follows in
+      let here = subst (λ is. Follows names code (landing is g.place) a.following) (sym (instructions_are g pic.procedure pic.is)) there in
+      record { procedure = pic.procedure; is = pic.is; long = pic.long; values = pic.values; events = pic.events; each = pic.each; follows = here; sound = pic.sound }
+
+  lands : (g : Frame) → jump_in (instruction c (landed c g)) ≡ None
+  lands g = landing_lands (instructions c g) g.place
+
+  pub returned_lands : (g : Frame) (below : List Frame) (left : ℕ) → jump_in (instruction c (f.returned c g below left).top) ≡ None
+  returned_lands g [] left = lands g
+  returned_lands g (h ∷ below) left = by (is_over c (landed c g)) (returned_lands h below left)
+    where
+      by : (b : Bool) → jump_in (instruction c (f.returned c h below left).top) ≡ None → jump_in (instruction c (if b then f.returned c h below left else record { left = left; top = landed c g; below = h ∷ below }).top) ≡ None
+      by true e = e
+      by false e = lands g
+
+  does_end : (g : Frame) (a : Activation) (pic : Frames g a) (i : Instruction) → jump_in (Some i) ≡ None → Does (names_of script pic.procedure) (routine_of (names_of script pic.procedure) pic.procedure).instructions g.place a.following i → is_end (Some i) ≡ none_follow a.following
+  does_end g a pic (Ask b) j d = sym (ap none_follow d.is)
+  does_end g a pic (Let x v) j d = sym (ap none_follow d.is)
+  does_end g a pic (Call k os) j d = sym (ap none_follow d.is)
+  does_end g a pic (SkipIfZero o n) j d = sym (ap none_follow d.is)
+  does_end g a pic (BackUnlessZero o n) j d = sym (ap none_follow d.0.is)
+  does_end g a pic (GoOn n) j d = absurd cc
+  does_end g a pic Return j d = sym (ap none_follow d)
+
+  -- nothing follows in a frame of the code exactly where nothing follows in that of the statements
+  over_is : (g : Frame) (a : Activation) → Frames g a → jump_in (instruction c g) ≡ None → is_over c g ≡ ((length a.events == 0) && none_follow a.following)
+  over_is g a pic lands_here =
+      let names = names_of script pic.procedure in
+      let code = (routine_of names pic.procedure).instructions in
+      let d = does_here names code g.place a.following pic.follows in
+      let is : instruction c g ≡ Some d.0 = ap (λ is. slice_get is g.place) (instructions_are g pic.procedure pic.is) ∙ d.1 in
+      ap (λ es. (length es == 0) && is_end (instruction c g)) pic.events
+      ∙ ap (λ o. (length a.events == 0) && is_end o) is
+      ∙ ap (λ b. (length a.events == 0) && b) (does_end g a pic d.0 (ap jump_in (sym is) ∙ lands_here) d.2)
+
+  last_is : (a : Activation) (left : ℕ) (es : List Event) (ks : List Statement) → m.returned script a [] left es ks ≡ record { top = a; below = []; left = left }
+  last_is a left (e ∷ es) ks = refl
+  last_is a left [] (s ∷ ks) = refl
+  last_is a left [] [] = refl
+
+  more_is : (a b : Activation) (acts : List Activation) (left : ℕ) (es : List Event) (ks : List Statement) → m.returned script a (b ∷ acts) left es ks ≡ (if (length es == 0) && none_follow ks then m.returned script b acts left b.events b.following else record { top = a; below = b ∷ acts; left = left })
+  more_is a b acts left (e ∷ es) ks =
+      ap (λ (t : Bool). if t && none_follow ks then m.returned script b acts left b.events b.following else record { top = a; below = b ∷ acts; left = left }) (sym (some_left e es))
+  more_is a b acts left [] (s ∷ ks) = refl
+  more_is a b acts left [] [] = refl
+
+  pub returned_alike : (g : Frame) (a : Activation) (below : List Frame) (acts : List Activation) (left : ℕ) → Frames g a → PicturesAll script below acts → length below ≤ 63 → left ≤ 1000 → Pictures script (f.returned c g below left) (m.returned script a acts left a.events a.following)
+  returned_alike g a [] [] left pic all few some =
+      subst (λ s. Pictures script (f.returned c g [] left) s) (sym (last_is a left a.events a.following))
+      (record { top = landed_pictures g a pic; below = tt; left = refl; few_below = few; few_left = some })
+  returned_alike g a [] (b ∷ acts) left pic all few some = absurd all
+  returned_alike g a (h ∷ below) [] left pic all few some = absurd all
+  returned_alike g a (h ∷ below) (b ∷ acts) left pic all few some =
+      let here = landed_pictures g a pic in
+      let over = over_is (landed c g) a here (lands g) in
+      let out = returned_alike h b below acts left all.0 all.1 (omega arith) some in
+      let stay : Pictures script (record { left = left; top = landed c g; below = h ∷ below }) (record { top = a; below = b ∷ acts; left = left }) = record { top = here; below = all; left = refl; few_below = few; few_left = some } in
+      let done = (length a.events == 0) && none_follow a.following in
+      subst (λ s. Pictures script (f.returned c g (h ∷ below) left) s) (sym (more_is a b acts left a.events a.following))
+      (subst (λ t. Pictures script (if t then f.returned c h below left else record { left = left; top = landed c g; below = h ∷ below }) (if done then m.returned script b acts left b.events b.following else record { top = a; below = b ∷ acts; left = left })) (sym over)
+      (by done (f.returned c h below left) (record { left = left; top = landed c g; below = h ∷ below }) (m.returned script b acts left b.events b.following) (record { top = a; below = b ∷ acts; left = left }) out stay))
+    where
+      by : (t : Bool) (l k : Local) (s r : State) → Pictures script l s → Pictures script k r → Pictures script (if t then l else k) (if t then s else r)
+      by true l k s r p q = p
+      by false l k s r p q = q
+
+  -- ---- up to the next request
+
+  pub record AskedAlike (a : FlatAsked) (b : Asked) : Type 0 where
+    pub request : SameRequest (Pictures script) a.request b.request
+    pub at : Pictures script a.at b.at
+
+  went_alike : (l : Local) (s : State) → Pictures script l s → (go : Frame → List Frame → FlatAsked) (on : Activation → List Activation → Asked) → ((g : Frame) (a : Activation) (below : List Frame) (acts : List Activation) → Frames g a → PicturesAll script below acts → length below ≤ 63 → AskedAlike (go g below) (on a acts)) → (t : FlatTurn) (u : Turn) → alike.TurnAlike script c is_code t u → AskedAlike (f.went c l go t) (m.went script s on u)
+  went_alike l s pic go on next (f.Goes g below) (m.Goes a acts) h = next g a below acts h.0 h.1 h.2
+  went_alike l s pic go on next (f.Goes g below) (m.Asks q) h = absurd h
+  went_alike l s pic go on next (f.Asks r) (m.Goes a acts) h = absurd h
+  went_alike l s pic go on next (f.Asks r) (m.Asks q) h = record { request = h; at = pic }
+
+  run_alike : (n : ℕ) (g : Frame) (a : Activation) (below : List Frame) (acts : List Activation) → Frames g a → PicturesAll script below acts → length below ≤ 63 → n ≤ 1000 → AskedAlike (f.run c n g below) (m.run script n a acts)
+  run_alike zero g a below acts pic all few some = record { request = tt; at = returned_alike g a below acts zero pic all few some }
+  run_alike (suc n) g a below acts pic all few some =
+      let l = f.returned c g below (suc n) in
+      let s = m.returned script a acts (suc n) a.events a.following in
+      let there = returned_alike g a below acts (suc n) pic all few some in
+      went_alike l s there (f.run c n) (m.run script n) (λ h b more bcts p q less. run_alike n h b more bcts p q less (omega arith))
+      (f.flat_turn c l) (m.turn script s)
+      (alike.turn_alike script c is_code l.top s.top l.below s.below there.top there.below there.few_below (returned_lands g below (suc n)))
+
+  -- ---- what stands for a state fits
+
+  each_there : (k : ℕ) (n : Word) (es : List Event) → CallsAlike script k n es → each_fits c k es ≡ true
+  each_there k n [] h = refl
+  each_there k n (e ∷ es) h =
+      let two : takes 2 (routine c k) ≡ true = ap (takes 2) (alike.routine_at script c is_code k h.0 h.1) ∙ (Decides-eqb _ _).1 h.2 in
+      ap (λ b. b || takes 2 (routine c k)) (some_left e es) ∙ two
+
+  frame_fits : (g : Frame) (a : Activation) → Frames g a → IsFrame c g
+  frame_fits g a pic =
+      let names = names_of script pic.procedure in
       record {
-        procedure = p;
-        is = e;
-        long = omega (arith, length-append xs (replicate zeros (pos 0)), length-replicate zeros (pos 0));
-        values = λ y. ap (λ names. slice_index_or (xs ++ replicate zeros (pos 0)) (number_of names y) (pos 0)) first.is ∙ bound_at p.parameters first.more xs zeros y n;
-        follows = follows_all (code_of script p) (statements p.body);
-        sound = list_all_get (is_procedure_sound script.declarations script.procedures) script.procedures k p script.sound.statements_sound e;
+        routine_of = routine_of names pic.procedure;
+        at = alike.routine_at script c is_code g.procedure pic.procedure pic.is;
+        within = place_within names (routine_of names pic.procedure).instructions g.place a.following pic.follows;
+        long = pic.long;
+        each = ap (each_fits c g.each) pic.events ∙ each_there g.each a.each a.events pic.each;
       }
 
-  begun_pictures : (k : ℕ) (p : Procedure) (xs : List ℤ) → slice_get script.procedures k ≡ Some p → length xs ≡ length p.parameters → Pictures script (begun c k xs) (begins xs p)
-  begun_pictures k p xs e n = subst (λ l. Pictures script l (begins xs p)) (begun_is k p xs e n) (began_pictures k p xs e n)
+  all_fit : (fs : List Frame) (acts : List Activation) → PicturesAll script fs acts → list_all (f.fits_frame c) fs ≡ true
+  all_fit [] [] h = refl
+  all_fit [] (a ∷ acts) h = absurd h
+  all_fit (g ∷ fs) [] h = absurd h
+  all_fit (g ∷ fs) (a ∷ acts) h = and_true _ _ (of_frame c g (frame_fits g a h.0)) (all_fit fs acts h.1)
 
-  called_pictures : (n : Word) (xs : List ℤ) → list_any (takes n (length xs)) script.procedures ≡ true → Pictures script (begun c (number_of (procedure_names script.procedures) n) xs) (called script.procedures n xs)
-  called_pictures n xs e =
-      let t = taking n (length xs) script.procedures script.sound.procedures_differ e in
-      let found : Some t.procedure ≡ find (λ p. bytes_eq p.name n) script.procedures =
-      sym (find_at (λ p. bytes_eq p.name n) script.procedures
-      ∙ ap (slice_get script.procedures) (sym (place_map (λ p. p.name) (λ y. bytes_eq y n) script.procedures)) ∙ t.at) in
-      subst (λ o. Pictures script (begun c (number_of (procedure_names script.procedures) n) xs) (begins_if xs o)) found
-      (begun_pictures (number_of (procedure_names script.procedures) n) t.procedure xs t.at (sym t.count))
+  pub pictures_fit : (l : Local) (s : State) → Pictures script l s → fits c l ≡ true
+  pictures_fit l s pic = of_local c l (record { top = frame_fits l.top s.top pic.top; below = all_fit l.below s.below pic.below; few = pic.few_below; left = pic.few_left })
 
-  -- the next instruction of a local state that stands for a state
-  next_is : (l : Local) (p : Procedure) → slice_get script.procedures l.top.procedure ≡ Some p → length l.top.values ≡ length (local_names p) → slice_get (body_of script p) l.top.place ≡ instruction_at c l
-  next_is l p e n =
-      ap (λ (b : Bool). if b then slice_get (body_of script p) l.top.place else None) (sym ((Decides-eqb _ _).1 n))
-      ∙ ap (instruction_in l) (sym (routine_at l.top.procedure p e))
+  asked_is : (l : Local) (s : State) → Pictures script l s → f.asked c l ≡ f.run c l.left l.top l.below
+  asked_is l s pic = ap (λ (b : Bool). if b then f.run c l.left l.top l.below else record { request = ask.End; at = l }) (pictures_fit l s pic)
 
-  module _ (l : Local) (p : Procedure) (f : Values) (is : slice_get script.procedures l.top.procedure ≡ Some p) (long : length l.top.values ≡ length (local_names p))
-      (values : (x : Word) → slice_index_or l.top.values (number_of (local_names p) x) (pos 0) ≡ f x) where
-    abbrev AllSound : List Statement → Type 0
-    AllSound ks = list_all (is_statement_sound script.declarations script.procedures (locals_of p)) ks ≡ true
+  pub asked_alike : (l : Local) (s : State) → Pictures script l s → AskedAlike (f.asked c l) (m.asked script s)
+  asked_alike l s pic =
+      subst (λ a. AskedAlike a (m.asked script s)) (sym (asked_is l s pic))
+      (subst (λ n. AskedAlike (f.run c l.left l.top l.below) (m.run script n s.top s.below)) pic.left
+      (run_alike l.left l.top s.top l.below s.below pic.top pic.below pic.few_below pic.few_left))
 
-    asks_by : (st : Statement) (ks : List Statement) (place : ℕ) → HasAt (body_of script p) place (code_of script p st) → is_statement_sound script.declarations script.procedures (locals_of p) st ≡ true → SameRequest (Pictures script) (asked_by c l (slice_get (body_of script p) place)) (statement_asks script.declarations script.procedures f st)
-    asks_by (s.Put v t) ks place has sound =
-        subst (λ o. SameRequest (Pictures script) (asked_by c l o) (statement_asks script.declarations script.procedures f (s.Put v t))) (sym has.0)
-        (refl, ap (λ x. Value x) (value_at (local_names p) l.top.values f values t))
-    asks_by (s.GetAny x v) ks place has sound =
-        subst (λ o. SameRequest (Pictures script) (asked_by c l o) (statement_asks script.declarations script.procedures f (s.GetAny x v))) (sym has.0) (refl, refl)
-    asks_by (s.Fork n ts) ks place has sound =
-        let xs = map (term_value f) ts in
-        let same : xs ≡ map (operand_value l.top.values) (map (operand_of (local_names p)) ts) = sym (values_at (local_names p) l.top.values f values ts) in
-        let known : list_any (takes n (length xs)) script.procedures ≡ true = ap (λ k. list_any (takes n k) script.procedures) (length-map ts (term_value f)) ∙ (both _ _ sound).0 in
-        subst (λ o. SameRequest (Pictures script) (asked_by c l o) (statement_asks script.declarations script.procedures f (s.Fork n ts))) (sym has.0)
-        (subst (λ ys. Pictures script (begun c (number_of (procedure_names script.procedures) n) ys) (called script.procedures n xs)) same (called_pictures n xs known))
+  -- ---- after a reply
 
-    asks_at : (ks : List Statement) (place : ℕ) → Follows (code_of script p) (body_of script p) place ks → AllSound ks → SameRequest (Pictures script) (asked_by c l (slice_get (body_of script p) place)) (first_asks script.declarations script.procedures f ks)
-    asks_at _ _ (ends place e) sound =
-        subst (λ o. SameRequest (Pictures script) (asked_by c l o) r.End) (sym (slice_get_past (body_of script p) place (omega arith))) tt
-    asks_at _ _ (stands place st ks has rest) sound = asks_by st ks place has (both _ _ sound).0
+  -- a local state with no local statement left, or one in which a request is made
+  abbrev Makes : FlatAsked → Type 0
+  Makes a = (a.at.left ≡ 0) ⊎ (f.flat_turn c a.at ≡ f.Asks a.request)
 
-    -- the local state after the instruction at its place
-    after : (place : ℕ) (i : Instruction) (reply : Reply (Flat ℤ) ℤ) (g : Values) (ks : List Statement) → l.top.place ≡ place → slice_get (body_of script p) place ≡ Some i
-        → length (answered l.top.values i reply) ≡ length (local_names p) → ((x : Word) → slice_index_or (answered l.top.values i reply) (number_of (local_names p) x) (pos 0) ≡ g x)
-        → Follows (code_of script p) (body_of script p) (place + 1) ks → AllSound ks → Pictures script (resumed_by l reply (slice_get (body_of script p) place)) (record { values = g; following = ks })
-    after place i reply g ks at e n h follows sound =
-        subst (λ o. Pictures script (resumed_by l reply o) (record { values = g; following = ks })) (sym e)
-        (record { procedure = p; is = is; long = n; values = h; follows = subst (λ k. Follows (code_of script p) (body_of script p) (k + 1) ks) (sym at) follows; sound = sound })
+  went_makes : (l : Local) (go : Frame → List Frame → FlatAsked) → ((g : Frame) (below : List Frame) → Makes (go g below)) → (t : FlatTurn) → f.flat_turn c l ≡ t → Makes (f.went c l go t)
+  went_makes l go on (f.Goes g below) e = on g below
+  went_makes l go on (f.Asks r) e = inr e
 
-    resumes_by : (st : Statement) (ks : List Statement) (place : ℕ) (reply : Reply (Flat ℤ) ℤ) → l.top.place ≡ place → HasAt (body_of script p) place (code_of script p st) → Follows (code_of script p) (body_of script p) (place + length (code_of script p st)) ks
-        → is_statement_sound script.declarations script.procedures (locals_of p) st ≡ true → AllSound ks → Pictures script (resumed_by l reply (slice_get (body_of script p) place)) (rest_after f (st ∷ ks) reply)
-    resumes_by (s.Put v t) ks place reply at has rest known sound = after place _ reply f ks at has.0 long values rest sound
-    resumes_by (s.GetAny x v) ks place (Answer a) at has rest known sound =
-        after place _ (Answer a) (with_value f x a) ks at has.0 (length-set l.top.values (number_of (local_names p) x) a ∙ long)
-        (stored_at (local_names p) l.top.values f x a long (has_local x p (both _ _ known).1) values) rest sound
-    resumes_by (s.GetAny x v) ks place Done at has rest known sound = after place _ Done f ks at has.0 long values rest sound
-    resumes_by (s.GetAny x v) ks place (Frozen d) at has rest known sound = after place _ (Frozen d) f ks at has.0 long values rest sound
-    resumes_by (s.Fork n ts) ks place reply at has rest known sound = after place _ reply f ks at has.0 long values rest sound
+  run_makes : (n : ℕ) (g : Frame) (below : List Frame) → Makes (f.run c n g below)
+  run_makes zero g below = inl (returned_left c g below zero)
+  run_makes (suc n) g below = let l = f.returned c g below (suc n) in went_makes l (f.run c n) (run_makes n) (f.flat_turn c l) refl
 
-    resumes_at : (ks : List Statement) (place : ℕ) (reply : Reply (Flat ℤ) ℤ) → l.top.place ≡ place → Follows (code_of script p) (body_of script p) place ks → AllSound ks → Pictures script (resumed_by l reply (slice_get (body_of script p) place)) (rest_after f ks reply)
-    resumes_at _ _ reply at (ends place e) sound =
-        subst (λ o. Pictures script (resumed_by l reply o) (record { values = f; following = [] })) (sym (slice_get_past (body_of script p) place (omega arith)))
-        (record { procedure = p; is = is; long = long; values = values; follows = ends l.top.place (at ∙ e); sound = refl })
-    resumes_at _ _ reply at (stands place st ks has rest) sound = resumes_by st ks place reply at has rest (both _ _ sound).0 (both _ _ sound).1
+  abbrev Ask' : Type 0
+  Ask' = Request Any AnyRead Local
 
-  pub code_meant : Means script (functions c)
-  code_meant = record {
-    start = subst (λ k. Pictures script (begun c k []) (called script.procedures (codes "main") [])) (sym is_code.main) (called_pictures (codes "main") [] script.sound.main_stands);
-    start_handler = λ k e p is two. begun_pictures k p (pos 0 ∷ e ∷ []) is (sym two);
-    request = λ l s pic. subst (λ o. SameRequest (Pictures script) (asked_by c l o) (asks script.declarations script.procedures s)) (next_is l pic.procedure pic.is pic.long)
-        (asks_at l pic.procedure s.values pic.is pic.long pic.values s.following l.top.place pic.follows pic.sound);
-    at = λ l s pic. pic;
-    resume = λ l s reply pic fits. subst (λ o. Pictures script (resumed_by l reply o) (goes_on s reply)) (next_is l pic.procedure pic.is pic.long)
-        (resumes_at l pic.procedure s.values pic.is pic.long pic.values s.following l.top.place reply refl pic.follows pic.sound);
-  }
+  not_replied : (q : Ask') (r : Reply Any ℤ) (k : ErrorKind) → ask.Fault k ≡ q → IsReplyTo q r → ⊥
+  not_replied q r k e h = subst (λ (x : Ask'). IsReplyTo x r) (sym e) h
+
+  not_ended : (q : Ask') (r : Reply Any ℤ) → ask.End ≡ q → IsReplyTo q r → ⊥
+  not_ended q r e h = subst (λ (x : Ask'). IsReplyTo x r) (sym e) h
+
+  -- no call is replied to
+  call_unanswered : (k : ℕ) (xs : List ℤ) (caller : Frame) (below : List Frame) (q : Ask') (r : Reply Any ℤ) → f.called c k xs caller below ≡ f.Asks q → IsReplyTo q r → ⊥
+  call_unanswered k xs caller below q r e h = by (nat_lt (length below) 63) e
+    where
+      into : (o : Option Frame) → f.entered c caller below o ≡ f.Asks q → ⊥
+      into None e = let same : ask.End ≡ q = cc in not_ended q r same h
+      into (Some g) e = absurd cc
+
+      by : (b : Bool) → (if b then f.entered c caller below (f.callee c k xs) else f.Asks (ask.Fault fault.Deep)) ≡ f.Asks q → ⊥
+      by true e = into (f.callee c k xs) e
+      by false e = let same : ask.Fault fault.Deep ≡ q = cc in not_replied q r fault.Deep same h
+
+  let_unanswered : (g : Frame) (below : List Frame) (x : ℕ) (o : Result ℤ ErrorKind) (q : Ask') (r : Reply Any ℤ) → f.assigned g below x o ≡ f.Asks q → IsReplyTo q r → ⊥
+  let_unanswered g below x (Ok n) q r e h = absurd cc
+  let_unanswered g below x (Err k) q r e h = let same : ask.Fault k ≡ q = cc in not_replied q r k same h
+
+  module _ (g : Frame) (a : Activation) (pic : Frames g a) (none : g.events ≡ []) (below : List Frame) (q : Ask') (r : Reply Any ℤ) (fit : IsReplyTo q r) where
+    abbrev here : compile.Names
+    here = names_of script pic.procedure
+
+    abbrev code : List Instruction
+    code = (routine_of here pic.procedure).instructions
+
+    abbrev SoundList : List Statement → Type 0
+    SoundList ks = are_sound script.declarations script.procedures (locals_of pic.procedure) ks ≡ true
+
+    module _ (rest : List Statement) (follows : Follows here code (g.place + 1) rest) (sound : SoundList rest) where
+      goes_on : Frames (stepped g g.values) (quiet a.values rest)
+      goes_on = alike.moved script c is_code g a pic none (g.place + 1) rest follows sound
+
+      has : (x : Word) (n : ℤ) → has_name x (locals_of pic.procedure) ≡ true → Frames (stepped g (slice_set g.values (number_of (local_names pic.procedure) x) n)) (m.quiet (m.with_value a.values x n) rest)
+      has x n known = alike.stored script c is_code g a pic none x n rest known follows sound
+
+      each_begins : (n : Word) (es : List Event) → list_any (takes_terms n 2) script.procedures ≡ true → CallsAlike script (m.procedure script n) n es
+      each_begins n [] e = tt
+      each_begins n (d ∷ ds) e = let t = taking n 2 script.procedures script.sound.procedures_differ e in (t.procedure, t.at, t.count, refl)
+
+      answered_alike : (d : Command) → is_command_sound script.declarations script.procedures (locals_of pic.procedure) d ≡ true → f.instruction_turn c g below (Some (command_code here d)) ≡ f.Asks q → Frames (f.after g r (Some (command_code here d))) (m.answered script a.values rest d r)
+      answered_alike (command.Let x v) s e = absurd (let_unanswered g below _ _ q r e fit)
+      answered_alike (command.Put v t) s e = goes_on
+      answered_alike (command.PutAt v k t) s e = goes_on
+      answered_alike (command.Get x v w) s e = by r
+        where
+          by : (r : Reply Any ℤ) → Frames (f.after g r (Some (command_code here (command.Get x v w)))) (m.answered script a.values rest (command.Get x v w) r)
+          by reply.Done = goes_on
+          by (reply.Answer n) = has x n (both _ _ (both _ _ s).0).0
+          by (reply.Frozen d) = goes_on
+      answered_alike (command.GetAt x v k w) s e = by r
+        where
+          by : (r : Reply Any ℤ) → Frames (f.after g r (Some (command_code here (command.GetAt x v k w)))) (m.answered script a.values rest (command.GetAt x v k w) r)
+          by reply.Done = goes_on
+          by (reply.Answer n) = has x n (both _ _ (both _ _ (both _ _ s).0).0).0
+          by (reply.Frozen d) = goes_on
+      answered_alike (command.Fork n ts) s e = goes_on
+      answered_alike (command.Call n ts) s e = absurd (call_unanswered _ _ _ _ q r e fit)
+      answered_alike (command.Handle p n) s e = goes_on
+      answered_alike (command.Freeze x v ps) s e = by r
+        where
+          by : (r : Reply Any ℤ) → Frames (f.after g r (Some (command_code here (command.Freeze x v ps)))) (m.answered script a.values rest (command.Freeze x v ps) r)
+          by reply.Done = goes_on
+          by (reply.Answer n) = goes_on
+          by (reply.Frozen d) = has x (pos (length (events_below d))) (both _ _ (both _ _ s).0).0
+      answered_alike (command.FreezeEach x v ps n) s e = by r
+        where
+          by : (r : Reply Any ℤ) → Frames (f.after g r (Some (command_code here (command.FreezeEach x v ps n)))) (m.answered script a.values rest (command.FreezeEach x v ps n) r)
+          by reply.Done = goes_on
+          by (reply.Answer n') = goes_on
+          by (reply.Frozen d) =
+              let frame = has x (pos (length (events_below d))) (both _ _ (both _ _ (both _ _ s).0).0).0 in
+              record {
+                procedure = frame.procedure;
+                is = frame.is;
+                long = frame.long;
+                values = frame.values;
+                events = refl;
+                each = each_begins n (events_below d) (both _ _ s).1;
+                follows = frame.follows;
+                sound = frame.sound;
+              }
+
+    command_answered : (i : Instruction) → DoesCommand here code g.place a.following i → f.instruction_turn c g below (Some i) ≡ f.Asks q → Frames (f.after g r (Some i)) (m.after script a.values r a.following)
+    command_answered i d e =
+        let own_list = subst SoundList d.is pic.sound in
+        let own = first_sound script.declarations script.procedures (locals_of pic.procedure) d.statement d.rest own_list in
+        let sound : is_command_sound script.declarations script.procedures (locals_of pic.procedure) d.command ≡ true = ap (is_own_sound script.declarations script.procedures (locals_of pic.procedure)) (sym d.out) ∙ own in
+        let rest = rest_sound script.declarations script.procedures (locals_of pic.procedure) d.statement d.rest own_list in
+        let asks : f.instruction_turn c g below (Some (command_code here d.command)) ≡ f.Asks q = ap (λ j. f.instruction_turn c g below (Some j)) d.code_is ∙ e in
+        let frame = answered_alike d.rest d.follows rest d.command sound asks in
+        let nested : m.after script a.values r a.following ≡ m.answered script a.values d.rest d.command r = ap (m.after script a.values r) d.is ∙ ap (m.after_statement script a.values d.rest r) d.out in
+        subst (λ b. Frames (f.after g r (Some i)) b) (sym nested)
+        (subst (λ j. Frames (f.after g r (Some j)) (m.answered script a.values d.rest d.command r)) d.code_is frame)
+
+    does_answered : (i : Instruction) → Does here code g.place a.following i → f.instruction_turn c g below (Some i) ≡ f.Asks q → Frames (f.after g r (Some i)) (m.after script a.values r a.following)
+    does_answered (Ask b) d e = command_answered (Ask b) d e
+    does_answered (Let x v) d e = command_answered (Let x v) d e
+    does_answered (Call k os) d e = command_answered (Call k os) d e
+    does_answered (SkipIfZero o n) d e = absurd cc
+    does_answered (BackUnlessZero o n) d e = absurd cc
+    does_answered (GoOn n) d e = let same : ask.End ≡ q = cc in absurd (not_ended q r same fit)
+    does_answered Return d e = let same : ask.End ≡ q = cc in absurd (not_ended q r same fit)
+
+    here_answered : f.instruction_turn c g below (instruction c g) ≡ f.Asks q → Frames (f.after g r (instruction c g)) (m.after script a.values r a.following)
+    here_answered e =
+        let d = does_here here code g.place a.following pic.follows in
+        let is : instruction c g ≡ Some d.0 = ap (λ is. slice_get is g.place) (instructions_are g pic.procedure pic.is) ∙ d.1 in
+        subst (λ o. Frames (f.after g r o) (m.after script a.values r a.following)) (sym is)
+        (does_answered d.0 d.2 (ap (f.instruction_turn c g below) (sym is) ∙ e))
+
+  frame_answered : (g : Frame) (a : Activation) (pic : Frames g a) (below : List Frame) (q : Ask') (r : Reply Any ℤ) → IsReplyTo q r → (es : List Event) → g.events ≡ es → f.frame_turn c g below es ≡ f.Asks q → Frames (f.after g r (instruction c g)) (m.after script a.values r a.following)
+  frame_answered g a pic below q r fit [] none e = here_answered g a pic none below q r fit e
+  frame_answered g a pic below q r fit (d ∷ ds) is e = absurd (call_unanswered g.each (d.key ∷ d.number ∷ []) (record g { events = ds }) below q r e fit)
+
+  top_answered : (g : Frame) (a : Activation) (pic : Frames g a) (below : List Frame) (q : Ask') (r : Reply Any ℤ) → IsReplyTo q r → (n : ℕ) → (n ≡ 0) ⊎ (f.frame_turn c g below g.events ≡ f.Asks q) → Frames (f.resumed_top c g r n) (m.resumed_top script a r n)
+  top_answered g a pic below q r fit zero makes = pic
+  top_answered g a pic below q r fit (suc n) (inl none) = absurd (omega arith)
+  top_answered g a pic below q r fit (suc n) (inr e) = frame_answered g a pic below q r fit g.events refl e
+
+  pub resumed_alike : (l : Local) (s : State) (q : Ask') (r : Reply Any ℤ) → Pictures script l s → IsReplyTo q r → (l.left ≡ 0) ⊎ (f.flat_turn c l ≡ f.Asks q) → Pictures script (f.resumed c l r) (m.resumed script s r)
+  resumed_alike l s q r pic fit makes =
+      let there : f.resumed c l r ≡ record { left = turns; top = f.resumed_top c l.top r l.left; below = l.below } =
+      ap (λ (b : Bool). if b then record { left = turns; top = f.resumed_top c l.top r l.left; below = l.below } else l) (pictures_fit l s pic) in
+      let top = top_answered l.top s.top pic.top l.below q r fit l.left makes in
+      subst (λ k. Pictures script k (m.resumed script s r)) (sym there)
+      (record {
+        top = subst (λ n. Frames (f.resumed_top c l.top r l.left) (m.resumed_top script s.top r n)) pic.left top;
+        below = pic.below;
+        left = refl;
+        few_below = pic.few_below;
+        few_left = omega arith;
+      })
+
+  asked_makes : (l : Local) (s : State) → Pictures script l s → Makes (f.asked c l)
+  asked_makes l s pic = subst Makes (sym (asked_is l s pic)) (run_makes l.left l.top l.below)
+
+  pub started_handler : (k : ℕ) (p : Procedure) (xs : List ℤ) → slice_get script.procedures k ≡ Some p → length xs ≡ length p.parameters → Pictures script (f.started c k xs) (m.alone (begins xs p))
+  started_handler k p xs e n =
+      subst (λ o. Pictures script (f.alone (unwrap_or o (f.nowhere c))) (m.alone (begins xs p))) (sym (alike.callee_is script c is_code k p xs e n))
+      (alike.alone_pictures script c is_code (f.begun k xs (routine_of (names_of script p) p)) (begins xs p) (alike.begun_pictures script c is_code k p xs e n))
+
+pub code_meant : (script : Script) (c : Code) → IsCodeOf script c → Means script (functions c)
+code_meant script c is_code = record {
+  start = subst (λ k. Pictures script (f.started c.flat k []) (m.started script [] (m.named script (codes "main")))) (sym is_code.main) (alike.started_pictures script c.flat is_code (codes "main") [] script.sound.main_stands);
+  start_handler = λ k e p is two. started_handler script c.flat is_code k p (e.key ∷ e.number ∷ []) is (sym two);
+  request = λ l s pic. (asked_alike script c.flat is_code l s pic).request;
+  at = λ l s pic. (asked_alike script c.flat is_code l s pic).at;
+  resume = λ l s r pic fit.
+      let a = f.asked c.flat l in
+      resumed_alike script c.flat is_code a.at (m.asked script s).at a.request r (asked_alike script c.flat is_code l s pic).at fit (asked_makes script c.flat is_code l s pic);
+}

@@ -1,19 +1,26 @@
 -- Values of locals by number and by name.
-use Rattle.std.proofs.Common.{◌≡◌, ◌≢◌, ℕ, ℤ, pos, zero, suc, ◌+◌, ◌<◌, Bool, true, false, not, cond, List, [], ◌∷◌, ◌++◌, length, map, refl, sym, ap, ◌∙◌, subst, arith}
+use Rattle.std.proofs.Common.{◌≡◌, ◌≢◌, ℕ, ℤ, pos, zero, suc, ◌+◌, ◌<◌, Bool, true, false, not, cond, List, [], ◌∷◌, ◌++◌, length, map, Ok, refl, sym, ap, ◌∙◌, subst, arith}
 use Rattle.std.specs.Prelude.{if◌then◌else◌, replicate}
 use Rattle.std.specs.Str.{bytes_eq}
 use Rattle.std.specs.List.{slice_index_or, slice_set}
+use Rattle.std.specs.Cmp.Lexicographic.{bytes_decides}
 use Rattle.std.proofs.lemmas.List.{get_or-set_same, get_or-set_other}
-use Rattle.lvish_script.specs.Text.{Word}
-use Rattle.lvish_script.specs.Name.{has_name}
-use Rattle.lvish_script.specs.declared.term.Term.{Term}
-use Rattle.lvish_script.specs.declared.term.Term.TheVariants.{Local, Number}
-use Rattle.lvish_task.specs.Numbering.{number_of}
-use Rattle.lvish_task.specs.Compile.{operand_of}
-use Rattle.lvish_task.specs.Run.{operand_value}
-use Rattle.lvish_task.specs.Meaning.{Values, term_value, with_value, bound}
-use Rattle.lvish_task.proofs.Numbers.{place_below}
-use Rattle.lvish_task.proofs.Names.{text_is}
+use Rattle.lvish_compound.specs.declared.number_test.Test.TheVariants as test
+use Rattle.lvish_syntax.specs.Words.{Word}
+use Rattle.lvish_syntax.specs.Name.{has_name}
+use Rattle.lvish_syntax.specs.declared.term.Term.{Term}
+use Rattle.lvish_syntax.specs.declared.term.Term.TheVariants.{Local, Number}
+use Rattle.lvish_syntax.specs.declared.value.Value.{Value}
+use Rattle.lvish_syntax.specs.declared.value.Value.TheVariants.{Same, Combined}
+use Rattle.lvish_syntax.specs.declared.threshold.Threshold.{Threshold}
+use Rattle.lvish_syntax.specs.declared.threshold.Threshold.TheVariants.{Any, In, Has, Least}
+use Rattle.lvish_code.specs.Numbering.{number_of}
+use Rattle.lvish_code.specs.Compile.{Names, operand_of, expression_of, wanted_of}
+use Rattle.lvish_code.proofs.Numbers.{place_below}
+use Rattle.lvish_code.proofs.Names.{text_is}
+use Rattle.lvish_task.specs.Arithmetic.{combined}
+use Rattle.lvish_task.specs.Run.{operand_value, expression_value, wanted_test}
+use Rattle.lvish_task.specs.Meaning.{Values, term_value, with_value, value_of, test_of, bound}
 
 zeros : (n k : ℕ) → slice_index_or (replicate n (pos 0)) k (pos 0) ≡ pos 0
 zeros zero k = refl
@@ -57,10 +64,10 @@ stored_at names vs f x a long has values y = go (bytes_eq y x) refl
         ap (λ z. slice_index_or (slice_set vs (number_of names x) a) (number_of names z) (pos 0)) (text_is y x is)
         ∙ get_or-set_same vs (number_of names x) a (pos 0) (subst (λ n. number_of names x < n) (sym long) within)
     go false is =
-        let other : number_of names y ≢ number_of names x = λ e. let s = same_number names x y within e in let t : bytes_eq y x ≡ true = ap (λ z. bytes_eq z x) s ∙ (Rattle.std.specs.Cmp.Lexicographic.bytes_decides x x).1 refl in absurd cc in
+        let other : number_of names y ≢ number_of names x = λ e. let s = same_number names x y within e in let t : bytes_eq y x ≡ true = ap (λ z. bytes_eq z x) s ∙ (bytes_decides x x).1 refl in absurd cc in
         get_or-set_other vs (number_of names x) (number_of names y) a (pos 0) other ∙ values y
 
-module _ (names : List Word) (vs : List ℤ) (f : Values) (values : (y : Word) → slice_index_or vs (number_of names y) (pos 0) ≡ f y) where
+module _ (names : Names) (vs : List ℤ) (f : Values) (values : (y : Word) → slice_index_or vs (number_of names.locals y) (pos 0) ≡ f y) where
   pub value_at : (t : Term) → operand_value vs (operand_of names t) ≡ term_value f t
   value_at (Local x) = values x
   value_at (Number n) = refl
@@ -68,3 +75,13 @@ module _ (names : List Word) (vs : List ℤ) (f : Values) (values : (y : Word) �
   pub values_at : (ts : List Term) → map (operand_value vs) (map (operand_of names) ts) ≡ map (term_value f) ts
   values_at [] = refl
   values_at (t ∷ ts) = let h = value_at t in let k = values_at ts in cc
+
+  pub given_at : (v : Value) → expression_value vs (expression_of names v) ≡ value_of f v
+  given_at (Same t) = ap (λ n. Ok n) (value_at t)
+  given_at (Combined a o b) = ap (λ n. combined o n (operand_value vs (operand_of names b))) (value_at a) ∙ ap (combined o (term_value f a)) (value_at b)
+
+  pub test_at : (r : Threshold) → wanted_test vs (wanted_of names r) ≡ test_of f r
+  test_at Any = refl
+  test_at (In ns) = refl
+  test_at (Has t) = ap test.At (value_at t)
+  test_at (Least t) = ap test.At (value_at t)

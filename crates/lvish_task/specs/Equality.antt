@@ -1,4 +1,4 @@
--- Equality of the values of locals.
+-- Equality of local states.
 use Rattle.std.specs.Prelude.{Bool, List, ℤ}
 use Rattle.std.specs.Cmp.{IsEquivalence}
 use Rattle.std.specs.Cmp.Lexicographic.{pointwise}

@@ -1,87 +1,305 @@
 -- What flat code does.
-use Rattle.std.specs.Prelude.{ℕ, ℤ, pos, Bool, false, ◌+◌, ◌-◌, ◌&&◌, ◌==◌, nat_le, List, [], ◌∷◌, ◌++◌, length, map, replicate, Option, Some, None, if◌then◌else◌}
-use Rattle.std.specs.List.{slice_get, slice_set, slice_index_or}
-use Rattle.lvish_lattice.specs.declared.flat.Flat.{Flat}
-use Rattle.lvish_lattice.specs.declared.flat.Flat.TheVariants.{Value}
-use Rattle.lvish_lattice.specs.declared.flat.FlatRead.{FlatRead}
-use Rattle.lvish_lattice.specs.declared.flat.FlatRead.TheVariants.{Any}
+use Rattle.std.specs.Prelude.{ℕ, zero, suc, ℤ, pos, ◌+◌, ◌-◌, Bool, true, false, ◌&&◌, ◌||◌, ◌==◌, nat_lt, nat_le, List, [], ◌∷◌, ◌++◌, length, map, replicate, Option, Some, None, Result, Ok, Err, unwrap_or, if◌then◌else◌}
+use Rattle.std.specs.List.{slice_get, slice_set, slice_index_or, list_all}
+use Rattle.lvish_compound.specs.declared.event.Event.{Event}
+use Rattle.lvish_calculus.specs.declared.request.ErrorKind.{ErrorKind}
+use Rattle.lvish_calculus.specs.declared.request.ErrorKind.TheVariants as fault
 use Rattle.lvish_calculus.specs.declared.request.Request.{Request}
-use Rattle.lvish_calculus.specs.declared.request.Request.TheVariants as r
+use Rattle.lvish_calculus.specs.declared.request.Request.TheVariants as ask
 use Rattle.lvish_calculus.specs.declared.request.Reply.{Reply}
-use Rattle.lvish_calculus.specs.declared.request.Reply.TheVariants.{Answer}
+use Rattle.lvish_calculus.specs.declared.request.Reply.TheVariants as reply
 use Rattle.lvish_calculus.specs.Program.{Functions}
-use Rattle.lvish_task.specs.declared.instruction.Operand.{Operand}
-use Rattle.lvish_task.specs.declared.instruction.Operand.TheVariants as o
-use Rattle.lvish_task.specs.declared.instruction.Instruction.{Instruction}
-use Rattle.lvish_task.specs.declared.instruction.Instruction.TheVariants.{Put, GetAny, Fork}
-use Rattle.lvish_task.specs.declared.routine.Routine.{Routine}
-use Rattle.lvish_task.specs.declared.code.Code.{Code}
+use Rattle.lvish_code.specs.declared.operand.Operand.{Operand}
+use Rattle.lvish_code.specs.declared.operand.Operand.TheVariants.{Local as InLocal, Number}
+use Rattle.lvish_code.specs.declared.expression.Expression.{Expression}
+use Rattle.lvish_code.specs.declared.expression.Expression.TheVariants.{Same, Combined}
+use Rattle.lvish_code.specs.declared.target.Target.{Target}
+use Rattle.lvish_code.specs.declared.target.Target.TheVariants as target
+use Rattle.lvish_code.specs.declared.target.Side.TheVariants.{First, Second}
+use Rattle.lvish_code.specs.declared.wanted.Wanted.{Wanted}
+use Rattle.lvish_code.specs.declared.wanted.Wanted.TheVariants as wanted
+use Rattle.lvish_code.specs.declared.instruction.Action.{Action}
+use Rattle.lvish_code.specs.declared.instruction.Action.TheVariants.{Put, Get, Fork, Handle, Freeze}
+use Rattle.lvish_code.specs.declared.instruction.Instruction.{Instruction}
+use Rattle.lvish_code.specs.declared.instruction.Instruction.TheVariants.{Ask, Let, Call, SkipIfZero, BackUnlessZero, GoOn, Return}
+use Rattle.lvish_code.specs.declared.routine.Routine.{Routine}
+use Rattle.lvish_code.specs.declared.code.Code as flat
+use Rattle.lvish_code.specs.Sound.{takes}
+use Rattle.lvish_task.specs.Arithmetic.{combined}
+use Rattle.lvish_task.specs.States.{put_at, read_at, events_below}
+use Rattle.lvish_compound.specs.declared.place.Place.{Place}
+use Rattle.lvish_compound.specs.declared.place.Place.TheVariants as place
+use Rattle.lvish_compound.specs.declared.number_test.Test.{Test}
+use Rattle.lvish_compound.specs.declared.number_test.Test.TheVariants as test
+use Rattle.lvish_compound.specs.declared.any.Any.{Any}
+use Rattle.lvish_compound.specs.declared.any_read.AnyRead.{AnyRead}
+use Rattle.lvish_task.specs.declared.frame.Frame.{Frame}
 use Rattle.lvish_task.specs.declared.local.Local.{Local}
+use Rattle.lvish_task.specs.declared.code.Code.{Code}
+use Rattle.lvish_task.specs.Meaning.{turns, taken, whole_place, side_kind}
 
--- the values of the locals, in the top frame
-abbrev pub values_of : Local → List ℤ
-values_of l = l.top.values
+-- ---- values
 
 abbrev pub operand_value : List ℤ → Operand → ℤ
-operand_value values (o.Local x) = slice_index_or values x (pos 0)
-operand_value values (o.Number n) = n
+operand_value values (InLocal x) = slice_index_or values x (pos 0)
+operand_value values (Number n) = n
 
--- a local state that doesn't fit the code
-abbrev pub nowhere : Code → Local
-nowhere c = record { top = record { procedure = length c.routines; place = 0; values = [] } }
+-- what a `let` gives, or how it fails
+abbrev pub expression_value : List ℤ → Expression → Result ℤ ErrorKind
+expression_value values (Same a) = Ok (operand_value values a)
+expression_value values (Combined a o b) = combined o (operand_value values a) (operand_value values b)
 
-abbrev pub begun_in : Code → ℕ → List ℤ → Option Routine → Local
-begun_in c k arguments None = nowhere c
-begun_in c k arguments (Some r) =
-    if length arguments == r.parameters
-    then record { top = record { procedure = k; place = 0; values = arguments ++ replicate (r.locals - length arguments) (pos 0) } }
-    else nowhere c
+-- where in its variable
+abbrev pub target_place : List ℤ → Target → Place
+target_place values (target.Whole k) = whole_place k
+target_place values (target.Entry a) = place.Key (operand_value values a)
+target_place values (target.Side First k) = place.Side 1 (side_kind k)
+target_place values (target.Side Second k) = place.Side 2 (side_kind k)
 
--- where a procedure begins on arguments, with all other locals 0; nowhere, if there is no procedure that takes them
-abbrev pub begun : Code → ℕ → List ℤ → Local
-begun c k arguments = begun_in c k arguments (slice_get c.routines k)
+-- what a get waits for
+abbrev pub wanted_test : List ℤ → Wanted → Test
+wanted_test values wanted.Any = test.Any
+wanted_test values (wanted.In ns) = test.In ns
+wanted_test values (wanted.At a) = test.At (operand_value values a)
 
--- the instruction at a place, where there are as many values as locals
-abbrev pub instruction_in : Local → Option Routine → Option Instruction
-instruction_in l None = None
-instruction_in l (Some r) = if length l.top.values == r.locals then slice_get r.instructions l.top.place else None
+-- ---- places
 
--- the next instruction, None at the end and where the local state doesn't fit
-abbrev pub instruction_at : Code → Local → Option Instruction
-instruction_at c l = instruction_in l (slice_get c.routines l.top.procedure)
+-- the jump at an instruction, if it is one that isn't counted
+abbrev pub jump_in : Option Instruction → Option ℕ
+jump_in (Some (GoOn n)) = Some n
+jump_in i = None
 
--- what an instruction asks for
-abbrev pub asked_by : Code → Local → Option Instruction → Request (Flat ℤ) (FlatRead ℤ) Local
-asked_by c l None = r.End
-asked_by c l (Some (Put v t)) = r.Put v (Value (operand_value l.top.values t))
-asked_by c l (Some (GetAny x v)) = r.Get v Any
-asked_by c l (Some (Fork k ts)) = r.Fork (begun c k (map (operand_value l.top.values) ts))
+-- past jumps, of a list that begins at this place: so many instructions are passed first, and the list begins at this place
+abbrev pub beyond : List Instruction → ℕ → ℕ → ℕ
+beyond [] k place = place + k
+beyond (i ∷ is) (suc k) place = beyond is k (place + 1)
+beyond (GoOn n ∷ is) zero place = beyond is n (place + 1)
+beyond (i ∷ is) zero place = place
 
--- the values after the reply to an instruction
-abbrev pub answered : List ℤ → Instruction → Reply (Flat ℤ) ℤ → List ℤ
-answered values (GetAny x v) (Answer a) = slice_set values x a
-answered values _ _ = values
+-- past the jumps that stand at a place
+abbrev pub landing : List Instruction → ℕ → ℕ
+landing is place = beyond is place 0
 
-abbrev pub resumed_by : Local → Reply (Flat ℤ) ℤ → Option Instruction → Local
-resumed_by l reply None = l
-resumed_by l reply (Some i) = record { top = record { procedure = l.top.procedure; place = l.top.place + 1; values = answered l.top.values i reply } }
+abbrev pub instructions_in : Option Routine → List Instruction
+instructions_in None = []
+instructions_in (Some r) = r.instructions
+
+-- the same frame, at another place
+abbrev pub placed : Frame → ℕ → Frame
+placed f place = record f { place = place }
+
+-- the same frame at the next place, with these values
+abbrev pub stepped : Frame → List ℤ → Frame
+stepped f values = record f { place = f.place + 1; values = values }
+
+-- ---- one turn
+
+-- one turn: a local statement, which leads to these frames, or a request
+pub data FlatTurn : Type 0 where
+  Goes : Frame → List Frame → FlatTurn
+  Asks : Request Any AnyRead Local → FlatTurn
+
+-- a request, and the local state in which it is made
+pub record FlatAsked : Type 0 where
+  pub request : Request Any AnyRead Local
+  pub at : Local
+
+-- a routine at its first instruction, the other locals 0
+abbrev pub begun : ℕ → List ℤ → Routine → Frame
+begun k arguments r = record { place = 0; procedure = k; values = arguments ++ replicate (r.locals - length arguments) (pos 0); each = 0; events = [] }
+
+-- a task in one frame
+abbrev pub alone : Frame → Local
+alone f = record { left = turns; top = f; below = [] }
+
+abbrev pub putting : ℕ → Option Any → FlatTurn
+putting v (Some d) = Asks (ask.Put v d)
+putting v None = Asks (ask.Fault fault.Range)
+
+abbrev pub getting : ℕ → Option AnyRead → FlatTurn
+getting v (Some r) = Asks (ask.Get v r)
+getting v None = Asks (ask.Fault fault.Range)
+
+-- a `let`, which fails or gives its local a value
+abbrev pub assigned : Frame → List Frame → ℕ → Result ℤ ErrorKind → FlatTurn
+assigned top below x (Ok n) = Goes (stepped top (slice_set top.values x n)) below
+assigned top below x (Err k) = Asks (ask.Fault k)
+
+-- ---- a turn, seen from the local state in which it is taken
+
+-- what it asks for, if it is a request
+abbrev pub requested : FlatTurn → Option (Request Any AnyRead Local)
+requested (Goes top below) = None
+requested (Asks r) = Some r
+
+-- the local state after it: the same, if it is a request
+abbrev pub moved : Local → FlatTurn → Local
+moved l (Goes top below) = record { left = l.left - 1; top = top; below = below }
+moved l (Asks r) = l
+
+-- the frame after the reply to an action
+abbrev pub answered : Frame → Action → Reply Any ℤ → Frame
+answered f (Get x v t w) (reply.Answer n) = stepped f (slice_set f.values x n)
+answered f (Freeze x v ps None) (reply.Frozen d) = stepped f (slice_set f.values x (pos (length (events_below d))))
+answered f (Freeze x v ps (Some k)) (reply.Frozen d) = record { place = f.place + 1; procedure = f.procedure; values = slice_set f.values x (pos (length (events_below d))); each = k; events = events_below d }
+answered f a _ = stepped f f.values
+
+-- the frame after the reply to the instruction at its place
+abbrev pub after : Frame → Reply Any ℤ → Option Instruction → Frame
+after f r (Some (Ask a)) = answered f a r
+after f r _ = f
+
+-- whether an instruction ends its procedure
+abbrev pub is_end : Option Instruction → Bool
+is_end None = true
+is_end (Some Return) = true
+is_end (Some i) = false
+
+-- ---- the turns of code
+
+module _ (c : flat.Code) where
+  abbrev pub routine : ℕ → Option Routine
+  routine k = slice_get c.routines k
+
+  abbrev pub instructions : Frame → List Instruction
+  instructions f = instructions_in (routine f.procedure)
+
+  -- the frame past the jumps that stand at its place
+  abbrev pub landed : Frame → Frame
+  landed f = placed f (landing (instructions f) f.place)
+
+  -- a local state that doesn't fit the code
+  abbrev pub nowhere : Frame
+  nowhere = record { place = 0; procedure = length c.routines; values = []; each = 0; events = [] }
+
+  abbrev pub callee_in : ℕ → List ℤ → Option Routine → Option Frame
+  callee_in k arguments None = None
+  callee_in k arguments (Some r) = if length arguments == r.parameters then Some (begun k arguments r) else None
+
+  -- the frame of a procedure that begins on arguments, if there is one that takes them
+  abbrev pub callee : ℕ → List ℤ → Option Frame
+  callee k arguments = callee_in k arguments (routine k)
+
+  -- a task that begins so; nowhere, if there is no procedure that takes the arguments
+  abbrev pub started : ℕ → List ℤ → Local
+  started k arguments = alone (unwrap_or (callee k arguments) nowhere)
+
+  abbrev pub entered : Frame → List Frame → Option Frame → FlatTurn
+  entered caller below None = Asks ask.End
+  entered caller below (Some f) = Goes f (caller ∷ below)
+
+  -- a call, which at 64 frames is too deep
+  abbrev pub called : ℕ → List ℤ → Frame → List Frame → FlatTurn
+  called k arguments caller below = if nat_lt (length below) 63 then entered caller below (callee k arguments) else Asks (ask.Fault fault.Deep)
+
+  -- what an action asks for
+  abbrev pub action_turn : List ℤ → Action → FlatTurn
+  action_turn values (Put v t a) = putting v (put_at (target_place values t) (operand_value values a))
+  action_turn values (Get x v t w) = getting v (read_at (target_place values t) (wanted_test values w))
+  action_turn values (Fork k os) = Asks (ask.Fork (started k (map (operand_value values) os)))
+  action_turn values (Handle p k) = Asks (ask.Add p k)
+  action_turn values (Freeze x v ps each) = Asks (ask.Freeze v ps)
+
+  -- one case per instruction
+  abbrev pub instruction_turn : Frame → List Frame → Option Instruction → FlatTurn
+  instruction_turn top below (Some (Ask a)) = action_turn top.values a
+  instruction_turn top below (Some (Let x e)) = assigned top below x (expression_value top.values e)
+  instruction_turn top below (Some (Call k os)) = called k (map (operand_value top.values) os) (placed top (top.place + 1)) below
+  instruction_turn top below (Some (SkipIfZero a n)) = Goes (placed top (taken (operand_value top.values a) (top.place + 1) (top.place + 1 + n))) below
+  instruction_turn top below (Some (BackUnlessZero a n)) = Goes (placed top (taken (operand_value top.values a) (top.place - n) (top.place + 1))) below
+  instruction_turn top below (Some (GoOn n)) = Asks ask.End
+  instruction_turn top below (Some Return) = Asks ask.End
+  instruction_turn top below None = Asks ask.End
+
+  -- the instruction at a frame's place
+  abbrev pub instruction : Frame → Option Instruction
+  instruction f = slice_get (instructions f) f.place
+
+  -- an `each` calls its procedure on the next event's key and number, before what follows
+  abbrev pub frame_turn : Frame → List Frame → List Event → FlatTurn
+  frame_turn top below [] = instruction_turn top below (instruction top)
+  frame_turn top below (e ∷ es) = called top.each (e.key ∷ e.number ∷ []) (record top { events = es }) below
+
+  abbrev pub flat_turn : Local → FlatTurn
+  flat_turn l = frame_turn l.top l.below l.top.events
+
+  -- ---- up to the next request
+
+  -- whether nothing follows in a frame
+  abbrev pub is_over : Frame → Bool
+  is_over f = (length f.events == 0) && is_end (instruction f)
+
+  -- out of each frame in which nothing follows, but the first, and past jumps
+  abbrev pub returned : Frame → List Frame → ℕ → Local
+  returned top [] left = record { left = left; top = landed top; below = [] }
+  returned top (f ∷ below) left = if is_over (landed top) then returned f below left else record { left = left; top = landed top; below = f ∷ below }
+
+  abbrev pub settled : Local → Local
+  settled l = returned l.top l.below l.left
+
+  abbrev pub went : Local → (Frame → List Frame → FlatAsked) → FlatTurn → FlatAsked
+  went l go (Goes top below) = go top below
+  went l go (Asks r) = record { request = r; at = l }
+
+  -- so many local statements at most, and then Pause, whatever follows
+  abbrev pub run : ℕ → Frame → List Frame → FlatAsked
+  run zero top below = record { request = ask.Pause; at = returned top below zero }
+  run (suc n) top below =
+      let l = returned top below (suc n) in
+      went l (run n) (flat_turn l)
+
+  -- the same from a settled local state
+  abbrev pub pending : ℕ → Local → FlatAsked
+  pending zero l = record { request = ask.Pause; at = l }
+  pending (suc n) l = went l (run n) (flat_turn l)
+
+  -- ---- local states that fit
+
+  -- whether the place lies within the procedure, there is a value for each local, and an `each` calls a procedure of two parameters
+  abbrev pub fits_in : Frame → Option Routine → Bool
+  fits_in f None = false
+  fits_in f (Some r) = nat_lt f.place (length r.instructions) && (length f.values == r.locals) && ((length f.events == 0) || takes 2 (routine f.each))
+
+  abbrev pub fits_frame : Frame → Bool
+  fits_frame f = fits_in f (routine f.procedure)
+
+  -- at most 64 frames that fit, and at most 1,000 local statements left
+  abbrev pub fits : Local → Bool
+  fits l = fits_frame l.top && list_all fits_frame l.below && nat_le (length l.below) 63 && nat_le l.left turns
+
+  -- the request that comes next, and the local state in which it is made; End at once where the local state doesn't fit
+  abbrev pub asked : Local → FlatAsked
+  asked l = if fits l then run l.left l.top l.below else record { request = ask.End; at = l }
+
+  -- ---- what follows a reply
+
+  -- after a Pause, which comes where no local statement is left, the same follows
+  abbrev pub resumed_top : Frame → Reply Any ℤ → ℕ → Frame
+  resumed_top f r zero = f
+  resumed_top f r (suc n) = after f r (instruction f)
+
+  -- the local state after the reply to the request that is made in this one; the same where it doesn't fit
+  abbrev pub resumed : Local → Reply Any ℤ → Local
+  resumed l r = if fits l then record { left = turns; top = resumed_top l.top r l.left; below = l.below } else l
+
+-- ---- code as a program
+
+-- the variable of a pool, if there is one
+abbrev pub pool_variable : flat.Code → ℕ → Option ℕ
+pool_variable c p = slice_get c.pools p
 
 -- the functions of the code
-abbrev pub functions : Code → Functions (Flat ℤ) ℤ (FlatRead ℤ) ℤ Local
+abbrev pub functions : Code → Functions Any Event AnyRead ℤ Local
 functions c = record {
-  variables = c.variables;
-  pool_variable = λ k. None;
-  start = begun c c.main [];
-  start_handler = λ k e. begun c k (pos 0 ∷ e ∷ []);
-  request = λ l. asked_by c l (instruction_at c l);
-  at = λ l. l;
-  resume = λ l reply. resumed_by l reply (instruction_at c l);
+  variables = length c.flat.kinds;
+  pool_variable = pool_variable c.flat;
+  start = started c.flat c.flat.main [];
+  start_handler = λ k e. started c.flat k (e.key ∷ e.number ∷ []);
+  request = λ l. (asked c.flat l).request;
+  at = λ l. (asked c.flat l).at;
+  resume = resumed c.flat;
 }
 
-abbrev pub fits_in : Local → Option Routine → Bool
-fits_in l None = false
-fits_in l (Some r) = nat_le l.top.place (length r.instructions) && (length l.top.values == r.locals)
-
--- whether the procedure is there, the place within it, and there is a value for each of its locals
-abbrev pub fits : Code → Local → Bool
-fits c l = fits_in l (slice_get c.routines l.top.procedure)
+-- whether a local state is one of the code
+abbrev pub is_fitting : Code → Local → Bool
+is_fitting c l = fits c.flat l

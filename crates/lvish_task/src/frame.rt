@@ -1,14 +1,18 @@
 ghost use Rattle.std.specs.Prelude.{◌≡◌, IfOk};
 
+use crate::remaining::Remaining;
 use crate::values::Values;
 use std::alloc::{AllocError, Global};
 
-/// Where a procedure is: its number, its next instruction, and the values of its locals.
+/// Where a procedure is: its next instruction, its number, the values of its locals, and the
+/// procedure that an `each` calls with the events that it hasn't handed it yet.
 #[derive(Debug, Drop, PartialEq, Eq)]
 pub struct Frame {
-    pub procedure: usize,
     pub place: usize,
+    pub procedure: usize,
     pub values: Values,
+    pub each: usize,
+    pub events: Remaining,
 }
 
 impl Frame {
@@ -17,9 +21,11 @@ impl Frame {
         ensures { IfOk result (λ f. f ≡ self.now) }
     {
         Ok(Frame {
-            procedure: self.procedure,
             place: self.place,
+            procedure: self.procedure,
             values: self.values.copy(alloc)?,
+            each: self.each,
+            events: self.events.copy()?,
         })
     }
 }

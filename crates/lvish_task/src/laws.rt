@@ -1,17 +1,19 @@
 //! What the code of each script promises, as contracts of functions with no code.
 
-ghost use Rattle.lvish_script.specs.declared.script.Script.{Script};
+ghost use Rattle.lvish_syntax.specs.declared.script.Script.{Script};
 ghost use Rattle.lvish_task.specs.declared.code.Code.{Code};
-ghost use Rattle.lvish_task.specs.Compile.{IsCodeOf};
+ghost use Rattle.lvish_task.specs.CodeOf.{IsCodeOf};
 ghost use Rattle.lvish_task.specs.Pictures.{Means};
-ghost use Rattle.lvish_task.specs.Laws.{KeepsFitting, AsksPlainly};
+ghost use Rattle.lvish_task.specs.Laws.{KeepsFitting};
 
 use crate::code::Code;
 use lvish_calculus::Program;
 
-/// The code of a script means what the nested statements of the script mean: it starts alike, and
-/// wherever a local state stands for a state of the nested statements, it asks for the same, and
-/// after each reply it stands for what follows there.
+/// The code of a script means what the nested statements of the script mean.
+///
+/// It starts alike. Wherever a local state stands for a state of the nested statements, it asks for
+/// the same, the local state in which it asks stands for the state in which they ask, and after each
+/// reply it stands for what follows there.
 pub fn code_means()
     ensures { (s : Script) (c : Code) → IsCodeOf s c → Means s (⟦<Code as Program>⟧.functions c) }
 {}
@@ -20,9 +22,4 @@ pub fn code_means()
 /// that doesn't fit asks End, and stays.
 pub fn keeps_fitting()
     ensures { (c : Code) → KeepsFitting c }
-{}
-
-/// No local state asks to add a handler or to freeze.
-pub fn asks_plainly()
-    ensures { (c : Code) → AsksPlainly (⟦<Code as Program>⟧.functions c) }
 {}

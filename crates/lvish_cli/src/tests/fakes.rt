@@ -50,18 +50,18 @@ pub enum Refusal {
 /// Keeps what it is given, at most 3 bytes a write, and refuses its write number `refuses`.
 #[derive(Drop)]
 pub struct ShortWriter {
-    pub kept: [u8; 256],
+    pub kept: [u8; 512],
     pub len: usize,
     pub writes: usize,
     pub refuses: usize,
     pub refusal: Refusal,
-    ghost within: { len ≤ 256 },
+    ghost within: { len ≤ 512 },
 }
 
 impl ShortWriter {
     pub fn new(refuses: usize, refusal: Refusal) -> Self {
         ShortWriter {
-            kept: [0; 256],
+            kept: [0; 512],
             len: 0,
             writes: 0,
             refuses,
@@ -83,7 +83,7 @@ impl Write for ShortWriter {
                 Refusal::TakesNothing => Ok(0),
             };
         }
-        let count = buf.len().min(3).min(256 - self.len);
+        let count = buf.len().min(3).min(512 - self.len);
         let end = self.len + count;
         self.kept[self.len..end].copy_from_slice(&buf[..count]);
         self.len = end;

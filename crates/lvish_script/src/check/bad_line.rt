@@ -12,12 +12,12 @@ fn stands_badly(begun: bool, line: &Line) -> bool
 {
     match line {
         Line::Bad => true,
-        Line::Cell(_) => begun,
+        Line::Declare(_) => begun,
         _ => false,
     }
 }
 
-/// The first line that has none of the forms, or declares a variable below a procedure.
+/// The first line that has none of the forms, or declares a variable or a pool below a procedure.
 pub fn first_bad_line(lines: &[Line]) -> Option<usize>
     ensures { IsFirstOn (on_line (line_fails BadLine lines.now) lines.now) result }
 {

@@ -1,7 +1,7 @@
-ghost use Rattle.std.specs.Prelude.{◌≡◌, map};
+ghost use Rattle.std.specs.Prelude.{◌≡◌, map, None, Some, if◌then◌else◌};
 ghost use Rattle.std.specs.List.{list_any};
+ghost use Rattle.std.specs.Option.{option_or};
 ghost use Rattle.lvish_script.specs.Form.{is_bad_number};
-ghost use Rattle.lvish_script.specs.Checks.{on_line, IsFirstOn};
 
 use crate::word::is_bad_number;
 
@@ -16,14 +16,14 @@ fn has_bad_number(words: &[&[u8]]) -> bool
     false
 }
 
-/// The first line with a number word that is no number.
-pub fn first_bad_number(lines: &[Vec<&[u8]>]) -> Option<usize>
-    ensures { IsFirstOn (on_line (λ k words. list_any is_bad_number words) (map (λ ws. map (λ w. w.now) ws.items) lines.now)) result }
+/// The line that was found before, or else this one, where its words have a number word that is no
+/// number.
+pub fn first_bad_number(found: Option<usize>, words: &[&[u8]], line: usize) -> Option<usize>
+    ensures { result ≡ option_or found (if list_any is_bad_number (map (λ w. w.now) words.now) then Some line else None) }
 {
-    for k in 0..lines.len() {
-        if has_bad_number(&lines[k]) {
-            return Some(k + 1);
-        }
+    if found.is_none() && has_bad_number(words) {
+        Some(line)
+    } else {
+        found
     }
-    None
 }

@@ -8,7 +8,9 @@ fn is_main(line: &Line) -> bool
     ensures { result ≡ is_main line.now }
 {
     match line {
-        Line::Proc(name, parameters) => name.as_str() == "main" && parameters.as_slice().is_empty(),
+        Line::Proc(name, parameters) => {
+            name.get().as_str() == "main" && parameters.get().as_slice().is_empty()
+        }
         _ => false,
     }
 }

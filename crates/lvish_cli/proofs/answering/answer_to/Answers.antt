@@ -1,6 +1,6 @@
-use Rattle.lvish_run.specs.contracts.scripts.ScriptRuns.TheImpl.{ghosts}
-use Rattle.lvish_cli.proofs.Orders.{by_order}
+use Rattle.std.proofs.Common.{inl}
+use Rattle.std.proofs.lemmas.Result.{IfOk-weaker}
 use Rattle.lvish_cli.proofs.answering.answer_to.Goals as goal
 
-pub returns : goal.returns
-returns c = by_order ghosts.is_picked_run c.args.order.now c.args.input.now c.budget.result c.reports_all.result c.text_answer.result c.budget.ensures c.reports_all.ensures c.text_answer.ensures
+pub returns-in-Ok : goal.returns-in-Ok
+returns-in-Ok c = IfOk-weaker c.script_answer.result _ _ (λ answer h. inl (c.in-Ok.script, c.in-Ok.ensures, h)) c.script_answer.ensures

@@ -2,7 +2,7 @@ use Rattle.std.proofs.Common.{rules}
 use borrow.Author.Tests.{tests}
 use Rattle.std.proofs.lemmas.Iterator.{YieldsList-from_slice}
 use Rattle.std.proofs.lemmas.Iterator.Search.{all_from_yields_List}
-use Rattle.lvish_script.specs.Form.{is_name_byte}
+use Rattle.lvish_syntax.specs.Words.{is_name_byte}
 use Rattle.lvish_script.proofs.word.has_name_bytes.Goals as goal
 
 pub returns : goal.returns

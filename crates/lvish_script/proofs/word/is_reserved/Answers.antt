@@ -3,7 +3,7 @@ use Rattle.std.specs.Str.{bytes_eq}
 use borrow.Author.Tests.{tests}
 use Rattle.std.proofs.lemmas.Iterator.Splits.{YieldsList-from_slice_split}
 use Rattle.std.proofs.lemmas.Iterator.Search.{any_from_yields_List}
-use Rattle.lvish_script.specs.Form.{reserved}
+use Rattle.lvish_syntax.specs.Words.{reserved}
 use Rattle.lvish_script.proofs.word.is_reserved.Goals as goal
 
 pub returns : goal.returns

@@ -1,11 +1,12 @@
 use Rattle.std.specs.Prelude.{refl}
 use Rattle.lvish_compound.specs.declared.part.Part.TheVariants.{Empty, Set, Max}
-use Rattle.lvish_compound.specs.HeldCalls.{held_merge}
+use Rattle.lvish_compound.specs.Carried.{carried_merge}
+use Rattle.lvish_compound.specs.HeldCalls.{held_carried}
 use Rattle.lvish_compound.specs.Parts.{joined}
 use Rattle.lvish_compound.proofs.part.PartLattice.merge.Goals as goal
 
 pub returns-in-Set-put-clause-merged : goal.returns-in-Set-put-clause-merged
-returns-in-Set-put-clause-merged c = held_merge Set Empty joined (λ x z. refl) c.merge.result _ _ _ _ _ c.in-Set.is c.in-Set-put.is c.merge.ensures.merged
+returns-in-Set-put-clause-merged c = carried_merge (held_carried Set Empty joined (λ x z. refl)) c.merge.result _ _ _ _ _ c.in-Set.is c.in-Set-put.is c.merge.ensures.merged
 
 pub returns-in-Max-put-clause-merged : goal.returns-in-Max-put-clause-merged
-returns-in-Max-put-clause-merged c = held_merge Max Empty joined (λ x z. refl) c.merge-in-Max-put.result _ _ _ _ _ c.in-Max.is c.in-Max-put.is c.merge-in-Max-put.ensures.merged
+returns-in-Max-put-clause-merged c = carried_merge (held_carried Max Empty joined (λ x z. refl)) c.merge-in-Max-put.result _ _ _ _ _ c.in-Max.is c.in-Max-put.is c.merge-in-Max-put.ensures.merged

@@ -1,11 +1,19 @@
-use Rattle.std.proofs.Common.{◌≡◌, ◌++◌}
+use Rattle.std.proofs.Common.{◌≡◌, Some}
+use Rattle.std.specs.List.{AllByRecursion}
 use Rattle.lvish_calculus.specs.Program.{machine_of}
 use Rattle.lvish_core.specs.Core.{state}
+use Rattle.lvish_core.specs.Places.{place_at}
 use Rattle.lvish_core.specs.Tasks.{standings}
-use Rattle.lvish_core.proofs.Listing.{ready_labels}
+use Rattle.lvish_core.proofs.Listing.{TasksListed, HandsListed}
 use Rattle.lvish_core.proofs.machine.Core.labels.Given as goal
 
-abbrev pub invariant-loop-name : goal.invariant-loop-name
-invariant-loop-name g l =
+abbrev pub invariant-loop-task : goal.invariant-loop-task
+invariant-loop-task g l =
     let M = machine_of g.P.Lat.PartialEq.eq g.P.Lat.Event.PartialEq.eq g.P.Lat.Event.Ord.cmp g.P.Lat.Lattice.least g.P.Lat.Lattice.joined g.P.Lat.Lattice.events_of g.P.Lat.Reads.answer_of (g.P.Program.functions l.self.program) in
-    l.labels.items ++ ready_labels M (state M l.self) (standings l.name-iterator) ≡ ready_labels M (state M l.self) l.self.tasks
+    TasksListed M (state M l.self) l.self.table.tasks (standings l.task-iterator) l.labels.items
+
+abbrev pub invariant-loop-handler : goal.invariant-loop-handler
+invariant-loop-handler g l = record {
+  each : AllByRecursion (λ x. place_at g.P.Lat.Event.PartialEq.eq l.self-inside.places x.0 ≡ Some x.1) l.handler-iterator;
+  listed : HandsListed g.P.Lat.Event.PartialEq.eq l.self.table l.self-inside.places l.handler-iterator l.initial.labels.items l.labels.items;
+}

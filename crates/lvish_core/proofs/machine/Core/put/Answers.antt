@@ -1,17 +1,28 @@
-use Rattle.std.proofs.Common.{true, drop, length}
-use Rattle.lvish_core.proofs.Joins.{written_back}
-use Rattle.lvish_core.proofs.Requests.{put}
+use Rattle.std.proofs.Common.{inl, inr}
+use Rattle.lvish_core.proofs.Errors.{refused}
+use Rattle.lvish_core.proofs.Puts.{putting}
+use Rattle.lvish_core.proofs.Written.{put_written}
 use Rattle.lvish_core.proofs.machine.Core.put.Goals as goal
+use Rattle.lvish_core.proofs.machine.Core.put.Goals.{in-Conflict, in-Frozen}
+
+pub fail-requires : goal.fail-requires
+fail-requires g c =
+    let acts = rw (← c.self.view_is) at c.requires in
+    refused _ _ c.args.name.now _ _ _ _ c.args.variable c.args.state.now acts c.deref_mut.result.now c.put_at.new.variables c.self.inside.variables.len c.deref_mut.ensures.value c.self.inside.variables.ok.0 c.in-Err.ensures.refused
+    c.in-Err.refused c.in-Err.ensures.why c.match-refused.kind (elim c.match-refused.branch [
+      | in-Conflict w ↦ inl (w.in-Conflict.is, w.kind-is)
+      | in-Frozen w ↦ inr (w.in-Frozen.is, w.kind-is)
+    ])
 
 pub invariant_of-self-2 : goal.invariant_of-self-2
 invariant_of-self-2 g c =
-    let asks = rw (← c.self.view_is) at c.requires in
-    let joins = written_back g.P.Lat.Lattice.joined c.self.inside.contents.items c.deref_mut.result.now c.join_at.new.contents (drop (length c.join_at.new.contents) c.self.inside.contents.items) c.args.variable c.self.inside.contents.len c.args.state.now c.in_ok-join_at.field-0 true c.deref_mut.ensures.value c.self.inside.contents.ok.0 c.if-not-branch.false c.in_ok-join_at.ensures in
-    (put _ (c.lawful.ensures c.self.inside.program.now) _ _ _ c.self.invariant c.args.name.now _ _ _ _ _ _ asks _ _ joins _ c.in_ok-local.ensures c.replace.ensures).1
+    let acts = rw (← c.self.view_is) at c.requires in
+    let w = put_written g.P.Lat.Lattice.joined g.P.Lat.Event.PartialEq.eq g.P.Lat.Lattice.events_of c.args.name.now _ c.args.state.now c.args.variable c.deref_mut.result.now c.self.inside.variables.items c.put_at.new.variables c.self.inside.variables.len c.deref_mut.ensures.value c.self.inside.variables.ok.0 c.in_default.ensures.ok in
+    (putting _ (c.lawful.ensures c.self.inside.program.now) (c.put_kept.ensures c.self.inside.program.now) (c.counts_kept.ensures.put c.self.inside.program.now) _ _ _ _ c.self.invariant c.args.name.now _ _ _ _ _ _ acts _ w _ _ c.in_ok-local.ensures c.replace.ensures _ c.in_ok-own.ensures).1
 
 pub returns : goal.returns
 returns g c =
-    let asks = rw (← c.self.view_is) at c.requires in
-    let joins = written_back g.P.Lat.Lattice.joined c.self.inside.contents.items c.deref_mut.result.now c.join_at.new.contents (drop (length c.join_at.new.contents) c.self.inside.contents.items) c.args.variable c.self.inside.contents.len c.args.state.now c.in_ok-join_at.field-0 true c.deref_mut.ensures.value c.self.inside.contents.ok.0 c.if-not-branch.false c.in_ok-join_at.ensures in
-    rw (← c.self.view_is)
-    (put _ (c.lawful.ensures c.self.inside.program.now) _ _ _ c.self.invariant c.args.name.now _ _ _ _ _ _ asks _ _ joins _ c.in_ok-local.ensures c.replace.ensures).0
+    let acts = rw (← c.self.view_is) at c.requires in
+    let w = put_written g.P.Lat.Lattice.joined g.P.Lat.Event.PartialEq.eq g.P.Lat.Lattice.events_of c.args.name.now _ c.args.state.now c.args.variable c.deref_mut.result.now c.self.inside.variables.items c.put_at.new.variables c.self.inside.variables.len c.deref_mut.ensures.value c.self.inside.variables.ok.0 c.in_default.ensures.ok in
+    rw (← c.self.view_is, c.own.ensures)
+    (putting _ (c.lawful.ensures c.self.inside.program.now) (c.put_kept.ensures c.self.inside.program.now) (c.counts_kept.ensures.put c.self.inside.program.now) _ _ _ _ c.self.invariant c.args.name.now _ _ _ _ _ _ acts _ w _ _ c.in_ok-local.ensures c.replace.ensures _ c.in_ok-own.ensures).0

@@ -1,4 +1,3 @@
-use Rattle.std.proofs.Common.{sym, ap, ◌∙◌}
 use Rattle.lvish_names.specs.OrderLaws.{name_ties, name_equiv}
 use Rattle.lvish_core.proofs.Table.{sets_by}
 use Rattle.lvish_core.proofs.tasks.Tasks.insert.Goals as goal

@@ -1,7 +1,3 @@
-use Rattle.std.proofs.Common.{◌≡◌, sym, ap, ◌∙◌, subst, List}
-use Rattle.std.specs.List.Sorted.{IsStrictlySortedBy}
-use Rattle.lvish_names.specs.NameOrder.{name_cmp}
-use Rattle.lvish_calculus.specs.Calculus.{Name}
 use Rattle.lvish_core.proofs.Table.{names-standings}
 use Rattle.lvish_core.proofs.tasks.Tasks.iter.Goals as goal
 

@@ -1,5 +1,5 @@
-use Rattle.std.proofs.Common.{◌≡◌, ◌∙◌, sym, ap, subst, take, take_all, true, false, not}
-use Rattle.lvish_script.specs.Name.{has_name, has_repeat}
+use Rattle.std.proofs.Common.{◌≡◌, ◌∙◌, sym, ap, subst, take, take_all, false}
+use Rattle.lvish_syntax.specs.Name.{has_repeat}
 use Rattle.lvish_script.specs.Known.{HaveSameNames}
 use Rattle.lvish_script.proofs.Lines.{taken_with}
 use Rattle.lvish_script.proofs.Scans.{repeat_at, no_repeat_more, names_more, not_true, not_false}

@@ -1,5 +1,5 @@
 use Rattle.std.proofs.Common.{◌≡◌, false, take}
-use Rattle.lvish_script.specs.Name.{has_repeat}
+use Rattle.lvish_syntax.specs.Name.{has_repeat}
 use Rattle.lvish_script.specs.Known.{HaveSameNames}
 use Rattle.lvish_script.proofs.check.double_name.has_repeat.Given as goal
 

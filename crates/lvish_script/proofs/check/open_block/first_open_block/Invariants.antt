@@ -1,11 +1,10 @@
-use Rattle.std.proofs.Common.{◌≡◌, ◌≤◌, ℕ, false, take, length, []}
+use Rattle.std.proofs.Common.{◌≡◌, ◌≤◌, ℕ, false, take, []}
 use Rattle.lvish_script.specs.declared.fault.Fault.TheVariants.{OpenBlock}
 use Rattle.lvish_script.specs.Checks.{on_line, line_fails, open_after}
 use Rattle.lvish_script.proofs.check.open_block.first_open_block.Given as goal
 
 abbrev pub invariant-loop-k : goal.invariant-loop-k
 invariant-loop-k l = record {
-  few : l.depth ≤ l.k;
-  depth : l.depth ≡ length (open_after [] (take l.k l.lines));
+  opened : l.opened ≡ open_after [] (take l.k l.lines);
   passed : (m : ℕ) → m ≤ l.k → on_line (line_fails OpenBlock l.lines) l.lines m ≡ false;
 }

@@ -1,7 +1,6 @@
 use Rattle.std.proofs.Common.{◌∙◌, sym, ap, take_all}
 use Rattle.std.specs.List.{list_all}
-use Rattle.std.proofs.lemmas.List.Folds.{list_all-map}
-use Rattle.lvish_script.specs.Name.{is_known}
+use Rattle.lvish_syntax.specs.Name.{is_known}
 use Rattle.lvish_script.proofs.Loops.{fails_item, all_items}
 use Rattle.lvish_script.proofs.check.unknown_name.are_known.Goals as goal
 

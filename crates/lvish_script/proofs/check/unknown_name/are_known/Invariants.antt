@@ -1,7 +1,7 @@
 use Rattle.std.proofs.Common.{◌≡◌, true, take, List}
 use Rattle.std.specs.List.{list_all}
-use Rattle.lvish_script.specs.Text.{Word}
-use Rattle.lvish_script.specs.Name.{is_known}
+use Rattle.lvish_syntax.specs.Words.{Word}
+use Rattle.lvish_syntax.specs.Name.{is_known}
 use Rattle.lvish_script.specs.Known.{HaveSameNames}
 use Rattle.lvish_script.proofs.check.unknown_name.are_known.Given as goal
 

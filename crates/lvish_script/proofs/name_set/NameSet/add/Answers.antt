@@ -1,6 +1,4 @@
 use Rattle.std.proofs.Common.{refl}
-use Rattle.std.specs.Str.{bytes_eq}
-use Rattle.lvish_script.specs.Name.{has_name}
 use Rattle.lvish_script.proofs.Seen.{found_by_name, names_added}
 use Rattle.lvish_script.proofs.name_set.NameSet.add.Goals as goal
 

@@ -1,5 +1,4 @@
 use Rattle.std.proofs.Common.{refl}
-use Rattle.lvish_script.specs.Name.{has_name}
 use Rattle.lvish_script.proofs.Seen.{found_by_name}
 use Rattle.lvish_script.proofs.name_set.NameSet.contains.Goals as goal
 

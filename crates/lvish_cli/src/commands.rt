@@ -1,0 +1,144 @@
+//! The words that the program knows, with their help.
+
+use clap::builder::ValueParser;
+use clap::{Arg, ArgAction, Command, value_parser};
+use std::alloc::{AllocError, Global};
+
+pub const USUAL_STEPS: u64 = 100_000;
+
+pub const USUAL_WORKERS: usize = 2;
+
+/// The program with its three commands.
+pub fn program<'a>(alloc: Global) -> Result<Command<'a>, AllocError> {
+    Command::new(alloc, "lvish")
+        .bin_name("lvish")?
+        .no_binary_name(true)
+        .about("Runs scripts whose tasks share variables that only grow")
+        .override_usage(PROGRAM_USAGE)
+        .after_help(PROGRAM_HELP)
+        .subcommand_required(true)
+        .disable_help_subcommand(true)
+        .subcommand(check(alloc)?)?
+        .subcommand(run(alloc)?)?
+        .subcommand(pick(alloc)?)
+}
+
+const PROGRAM_USAGE: &str = "lvish
+       lvish check FILE
+       lvish run FILE [--workers N] [--steps N] [--all]
+       lvish pick FILE [--steps N] [--all] [N]...";
+
+const PROGRAM_HELP: &str = "\
+With no words, standard input is run as by `lvish run --all`.
+
+Example:
+  lvish run first.lvish --all
+
+Statuses:
+  0  the text is a script; the run ended and no task is blocked; or help was asked for
+  1  the run ended with blocked tasks
+  2  the words are refused
+  3  the script can't be opened or read
+  4  the script is refused: a line says which fault it has, and where
+  5  the run is in error: a line says which error, on which variable, in which task
+  6  the run was stopped by its budget
+  7  memory was refused
+  8  another fault, as a full disk at standard output";
+
+/// The words of a check.
+fn check<'a>(alloc: Global) -> Result<Command<'a>, AllocError> {
+    Command::new(alloc, "check")
+        .about("Says whether a text is a script")
+        .after_help(CHECK_HELP)
+        .arg(file(alloc))
+}
+
+const CHECK_HELP: &str = "\
+Prints `ok`, or `refused NUMBER NAME line L`: the first fault, and the line that has it.
+
+Example:
+  lvish check first.lvish
+
+Statuses: 0 a script, 3 unreadable, 4 refused, 7 memory, 8 another fault";
+
+/// The words of a run.
+fn run<'a>(alloc: Global) -> Result<Command<'a>, AllocError> {
+    let workers = Arg::new(alloc, "workers")
+        .long("workers")
+        .value_name("N")
+        .help("How many workers run the script, 1 to 8")
+        .value_parser(value_parser!(u64).range(1..=8))
+        .default_value("2");
+    Command::new(alloc, "run")
+        .about("Runs a script and prints its report")
+        .after_help(RUN_HELP)
+        .arg(file(alloc))?
+        .arg(workers)?
+        .arg(steps(alloc))?
+        .arg(all(alloc))
+}
+
+const RUN_HELP: &str = "\
+The report has a line for each frozen variable, or for each with --all, and then
+`steps N` and `blocked N`.
+
+Example:
+  lvish run first.lvish --steps 500 --all
+
+Statuses: 0 ended, 1 ended with blocked tasks, 3 unreadable, 4 script refused,
+5 run in error, 6 stopped by its budget, 7 memory, 8 another fault";
+
+/// The words of a run by picks.
+fn pick<'a>(alloc: Global) -> Result<Command<'a>, AllocError> {
+    let picks = Arg::new(alloc, "picks")
+        .value_name("N")
+        .help("Which of the enabled steps is made, in turn, 0 to 1000000")
+        .value_parser(value_parser!(u64).range(0..=1_000_000))
+        .num_args(0..)
+        .action(ArgAction::Append);
+    Command::new(alloc, "pick")
+        .about("Runs a script by picks and prints its trace and its report")
+        .after_help(PICK_HELP)
+        .arg(file(alloc))?
+        .arg(picks)?
+        .arg(steps(alloc))?
+        .arg(all(alloc))
+}
+
+const PICK_HELP: &str = "\
+At each step the tasks and handlers that can go on are counted from 0, in the order of their
+names with tasks first, and the one whose number is N modulo their count makes the step.
+After the last N each step takes number 0.
+
+The trace has a line for each step: `run TASK`, or `hand TASK` with the task that a handler
+starts. The report comes after it.
+
+Example:
+  lvish pick first.lvish --all 0 1 1
+
+Statuses: 0 ended, 1 ended with blocked tasks, 3 unreadable, 4 script refused,
+5 run in error, 6 stopped by its budget, 7 memory, 8 another fault";
+
+fn file<'a>(alloc: Global) -> Arg<'a> {
+    Arg::new(alloc, "file")
+        .value_name("FILE")
+        .help("The script")
+        .value_parser(ValueParser::NonEmptyString)
+        .required(true)
+}
+
+fn steps<'a>(alloc: Global) -> Arg<'a> {
+    Arg::new(alloc, "steps")
+        .long("steps")
+        .value_name("N")
+        .help("Stop the run after N steps, 0 to 1000000")
+        .value_parser(value_parser!(u64).range(0..=1_000_000))
+        .default_value("100000")
+}
+
+fn all<'a>(alloc: Global) -> Arg<'a> {
+    Arg::new(alloc, "all")
+        .long("all")
+        .help("Report every variable, not frozen ones alone")
+        .action(ArgAction::SetTrue)
+}

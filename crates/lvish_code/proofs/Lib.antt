@@ -1,0 +1,9 @@
+pub mod Bools
+pub mod Numbers
+pub mod Kept
+pub mod Trees
+pub mod Patch
+pub mod Following
+pub mod Names
+pub mod Landing
+pub mod CodeSound

@@ -1,0 +1,5 @@
+use Rattle.lvish_code.proofs.Following.{follows_start}
+use Rattle.lvish_code.proofs.laws.code_follows.Goals as goal
+
+pub returns : goal.returns
+returns c = follows_start

@@ -1,0 +1,69 @@
+ghost use Rattle.std.specs.Prelude.{◌≡◌};
+ghost use Rattle.lvish_code.specs.Sound.{IsCodeSound};
+
+use crate::compile::routines_of;
+use crate::indices::Indices;
+use crate::kinds::Kinds;
+use crate::routine::{Routine, Routines};
+use crate::tables::{Tables, pool_variables};
+use lvish_syntax::{Script, VariableKind};
+use std::alloc::{AllocError, Global};
+
+/// The flat code of a script.
+///
+/// Variables, pools and procedures are numbers, from 0, each in the order of their lines. All that an
+/// instruction names is there, and each jump stays within its routine, by this type: `IsCodeSound`.
+#[derive(Debug, Drop)]
+pub struct Code {
+    kinds: Kinds,
+    pools: Indices,
+    main: usize,
+    routines: Routines,
+    pub ghost sound: { IsCodeSound kinds pools main routines },
+}
+
+impl Code {
+    ghost use Rattle.std.specs.Prelude.{IfOk};
+    ghost use Rattle.lvish_code.specs.Compile.{IsCodeOf};
+
+    /// The code of the script.
+    pub fn new(alloc: Global, script: &Script) -> Result<Code, AllocError>
+        ensures { IfOk result (λ c. IsCodeOf script.now c) }
+    {
+        let tables = Tables::new(alloc, script.declarations(), script.procedures())?;
+        Ok(Code {
+            pools: pool_variables(alloc, &tables.variables, script.declarations())?,
+            main: tables.procedures.number_of("main"),
+            routines: routines_of(alloc, &tables, script.procedures())?,
+            kinds: tables.kinds,
+        })
+    }
+
+    /// The kinds of the variables.
+    pub fn kinds(&self) -> &[VariableKind]
+        ensures { result.now ≡ self.now.kinds }
+    {
+        self.kinds.as_slice()
+    }
+
+    /// The variable of each pool.
+    pub fn pools(&self) -> &[usize]
+        ensures { result.now ≡ self.now.pools }
+    {
+        self.pools.as_slice()
+    }
+
+    /// The number of the procedure `main`.
+    pub fn main(&self) -> usize
+        ensures { result ≡ self.now.main }
+    {
+        self.main
+    }
+
+    /// The routines of the procedures.
+    pub fn routines(&self) -> &[Routine]
+        ensures { result.now ≡ self.now.routines }
+    {
+        self.routines.as_slice()
+    }
+}

@@ -1,0 +1,75 @@
+ghost use Rattle.std.specs.Prelude.{◌≡◌};
+
+use crate::expression::Expression;
+use crate::indices::Indices;
+use crate::operand::{Operand, Operands};
+use crate::target::Target;
+use crate::wanted::Wanted;
+use std::marker::Model;
+
+/// What a task asks the others for. Variables, pools, procedures and locals are numbers, from 0.
+#[derive(Debug, Drop)]
+pub enum Action {
+    /// Puts the operand's value: the variable, what of it, the operand.
+    Put(usize, Target, Operand),
+    /// Waits until the variable passes, and the local takes the answer: the local, the variable,
+    /// what of it, what is waited for.
+    Get(usize, usize, Target, Wanted),
+    /// Starts a task that runs the procedure on the values of the operands.
+    Fork(usize, Operands),
+    /// Adds a handler that runs the procedure to the pool: the pool, the procedure.
+    Handle(usize, usize),
+    /// Freezes the variable after the tasks of the pools. The local takes the number of events below
+    /// its state, and the procedure, if there is one, is called on each of these: the local, the
+    /// variable, the pools, the procedure.
+    Freeze(usize, usize, Indices, Option<usize>),
+}
+
+/// One instruction of flat code. A jump says how many instructions it passes.
+#[derive(Debug, Drop)]
+pub enum Instruction {
+    /// Asks for an action, and goes on with the next instruction after the reply.
+    Ask(Action),
+    /// The local takes the expression's value.
+    Let(usize, Expression),
+    /// Runs the procedure on the values of the operands in a frame of its own.
+    Call(usize, Operands),
+    /// A counted test: where the operand is 0, passes so many instructions forward.
+    SkipIfZero(Operand, usize),
+    /// A counted test: where the operand isn't 0, goes to the instruction that stands so many before.
+    BackUnlessZero(Operand, usize),
+    /// Passes so many instructions forward.
+    GoOn(usize),
+    /// The end of the procedure.
+    Return,
+}
+
+/// Instructions in order.
+#[derive(Debug, Drop)]
+pub struct Instructions {
+    items: Vec<Instruction>,
+}
+
+impl Model for Instructions {
+    ghost use Rattle.std.specs.Prelude.{List};
+    ghost use Rattle.lvish_code.specs.declared.instruction.Instruction.{Instruction};
+
+    ghost Value = { List Instruction };
+
+    ghost view = { λ i. i.items.items };
+}
+
+impl Instructions {
+    pub(crate) fn new(items: Vec<Instruction>) -> Instructions
+        ensures { result ≡ items.items }
+    {
+        Instructions { items }
+    }
+
+    /// The instructions as a slice.
+    pub fn as_slice(&self) -> &[Instruction]
+        ensures { result.now ≡ self.now }
+    {
+        &self.items
+    }
+}

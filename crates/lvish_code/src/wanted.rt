@@ -1,0 +1,13 @@
+use crate::operand::Operand;
+use lvish_syntax::Numbers;
+
+/// What a get waits for at its target.
+#[derive(Debug, Drop)]
+pub enum Wanted {
+    /// A number in a cell.
+    Any,
+    /// One of the numbers, each as a state of the target's kind.
+    In(Numbers),
+    /// The operand's value: as an element of a set, or as what a counter has reached.
+    At(Operand),
+}

@@ -1,0 +1,6 @@
+use Rattle.std.proofs.Common.{◌≡◌, map, take}
+use Rattle.lvish_compound.specs.EventNames.{side_event}
+use Rattle.lvish_compound.proofs.any_events.side_events.Given as goal
+
+abbrev pub invariant-loop-event : goal.invariant-loop-event
+invariant-loop-event l = l.named.items ≡ map (side_event) (take l.event-index l.events)

@@ -1,0 +1,51 @@
+-- Which numbers a read waits for, and which of them a cell, a set or a counter answers.
+use Rattle.std.specs.Prelude.{◌≡◌, ℤ, Bool, true, cond, int_le, Option, Some, None, Contains, find, is_some}
+use Rattle.std.specs.List.{list_any, list_all}
+use Rattle.std.specs.Ordering.{int_eq}
+use Rattle.lvish_lattice.specs.declared.flat.Flat.{Flat}
+use Rattle.lvish_lattice.specs.declared.flat.Flat.TheVariants.{Bottom, Value}
+use Rattle.lvish_compound.specs.declared.number_test.Test.{Test}
+use Rattle.lvish_compound.specs.declared.number_test.Test.TheVariants.{Any, In, At}
+use Rattle.lvish_compound.specs.Counters.{max_of}
+
+-- whether a test waits for a number
+abbrev pub Waits : Test → ℤ → Type 0
+Waits Any n = Unit {0}
+Waits (In xs) n = Contains xs n
+Waits (At m) n = m ≡ n
+
+abbrev pub is_level : ℤ → Bool
+is_level n = is_some (max_of n)
+
+-- whether a counter can hold each of the numbers
+abbrev pub are_levels : Test → Bool
+are_levels Any = true
+are_levels (In xs) = list_all is_level xs
+are_levels (At n) = is_level n
+
+-- the value of a cell, where it is waited for
+abbrev pub cell_answer : Test → Flat ℤ → Option ℤ
+cell_answer t Bottom = None
+cell_answer Any (Value n) = Some n
+cell_answer (In xs) (Value n) = cond (list_any (int_eq n) xs) (Some n) None
+cell_answer (At m) (Value n) = cond (int_eq m n) (Some n) None
+
+-- the first of the listed numbers that passes
+abbrev pub first_that : (ℤ → Bool) → Test → Option ℤ
+first_that passes Any = None
+first_that passes (In xs) = find passes xs
+first_that passes (At n) = cond (passes n) (Some n) None
+
+-- whether a counter at this level has reached a number
+abbrev pub is_reached : ℤ → ℤ → Bool
+is_reached level n = int_le n level
+
+-- whether at most one number is waited for
+abbrev pub HasOne : Test → Type 0
+HasOne Any = ⊥
+HasOne (In xs) = (m n : ℤ) → Contains xs m → Contains xs n → m ≡ n
+HasOne (At n) = Unit {0}
+
+-- the members are the states of the numbers that are waited for, each of which answers its number
+abbrev pub ByNumber : {S : Type 0} → Test → (ℤ → Option S) → S → ℤ → Type 0
+ByNumber t state s n = Waits t n × (state n ≡ Some s)

@@ -1,0 +1,150 @@
+-- What comparing, merging and fresh events are on states of a script's variables.
+use Rattle.std.specs.Prelude.{◌≡◌, ◌↔◌, ℤ, pos, Bool, false, not, cond, IsTrue, List, [], map, filter, None, refl}
+use Rattle.std.proofs.Common.{sym, ◌∙◌, ap}
+use Rattle.std.specs.Set.{is_member}
+use Rattle.lvish_lattice.specs.Lattice.{IsBelow, events_beyond, fresh_of}
+use Rattle.lvish_compound.specs.declared.any.Any.{Any}
+use Rattle.lvish_compound.specs.declared.any.Any.TheVariants.{Part, Map, Sides}
+use Rattle.lvish_compound.specs.declared.event.Event.{Event}
+use Rattle.lvish_compound.specs.declared.pair.Pair.{Pair}
+use Rattle.lvish_compound.specs.declared.part.Part as part
+use Rattle.lvish_compound.specs.declared.part.Part.TheVariants.{Empty, Cell, Set, Max}
+use Rattle.lvish_compound.specs.declared.sides.Sides as sides
+use Rattle.lvish_compound.specs.declared.side_of.SideOf.{SideOf}
+use Rattle.lvish_compound.specs.declared.side_of.SideOf.TheVariants.{One, Two}
+use Rattle.lvish_compound.specs.Carried.{IsCarried, carried_leq, carried_fresh}
+use Rattle.lvish_compound.specs.EventNames.{PartEvent, part_event, entry_event, side_event, apart}
+use Rattle.lvish_compound.specs.Held.{Held, held_by, state_in}
+use Rattle.lvish_compound.specs.HeldCalls.{held_carried, none_beyond, all_beyond}
+use Rattle.lvish_compound.specs.MapOf as map_of
+use Rattle.lvish_compound.specs.Pair as pair
+use Rattle.lvish_compound.specs.Parts as parts
+use Rattle.lvish_compound.specs.PartCalls.{IsByKind}
+use Rattle.lvish_compound.specs.Renamed.{names_beyond}
+use Rattle.lvish_compound.specs.Sides.{same_sides, same_none}
+use Rattle.lvish_compound.specs.StateEvents.{IsByName, part_eq, part_same, part_itself, entry_eq, entry_same, entry_itself, side_eq, side_same, side_itself}
+use Rattle.lvish_compound.specs.StateLaws.{view, view_map, view_pair, pair_by, same_map, of_sides_above, any_is_join}
+use Rattle.lvish_compound.specs.States.{nothing, of_part, of_map, of_pair, unless_part, joined, events_of}
+
+abbrev pub pair_of : sides.Sides → Pair part.Part part.Part
+pair_of z = z.pair
+
+abbrev itself : part.Part → part.Part
+itself s = s
+
+pub parts_carried : IsCarried Part itself of_part joined parts.joined
+parts_carried = record { back = λ s. refl; same = λ s t e. e; inside = λ s t. refl }
+
+pub maps_carried : IsCarried Map (state_in Map) of_map joined map_of.joined
+maps_carried = held_carried Map nothing joined (λ x z. refl)
+
+pub pairs_carried : IsCarried Sides pair_of of_pair joined parts.pairs_joined
+pairs_carried = record { back = of_sides_above; same = same_sides; inside = λ x z. refl }
+
+pub maps_leq : (t : Bool) (s r : Any) (x z : _) (p q : Held Map) → s ≡ Map x → r ≡ Map z → p ≡ x.state → q ≡ z.state → IsTrue t ↔ IsBelow map_of.joined p q → IsTrue t ↔ IsBelow joined s r
+maps_leq = carried_leq maps_carried (λ s. (view s).two.one) (λ m. ap (λ v. v.two.one) (view_map m))
+
+pub pairs_leq : (t : Bool) (s r : Any) (x z : sides.Sides) (p q : Pair part.Part part.Part) → s ≡ Sides x → r ≡ Sides z → p ≡ x.pair → q ≡ z.pair → IsTrue t ↔ IsBelow parts.pairs_joined p q → IsTrue t ↔ IsBelow joined s r
+pairs_leq = carried_leq pairs_carried (λ s. (view s).two.two) (λ p. ap (λ v. v.two.two) (view_pair p))
+
+module _ (en : Event → Event → Bool) (by : IsByName en) where
+  parts_beyond : (os zs : List PartEvent) → filter (λ n. not (is_member en (map (part_event (pos 0)) os) n)) (map (part_event (pos 0)) zs) ≡ map (part_event (pos 0)) (filter (λ e. not (is_member part_eq os e)) zs)
+  parts_beyond = names_beyond part_same part_itself by.same_name by.its_name (part_event (pos 0)) (λ d e h. first_side d e (apart (One d) (One e) h))
+    where
+      first_side : (d e : PartEvent) → ◌≡◌ {A = SideOf PartEvent (SideOf (ℤ × ℤ) (SideOf PartEvent PartEvent))} (One d) (One e) → d ≡ e
+      first_side d e h = cc
+
+  entries_beyond : (os zs : List (ℤ × ℤ)) → filter (λ n. not (is_member en (map entry_event os) n)) (map entry_event zs) ≡ map entry_event (filter (λ e. not (is_member entry_eq os e)) zs)
+  entries_beyond = names_beyond entry_same entry_itself by.same_name by.its_name entry_event (λ d e h. second_side d e (apart (Two (One d)) (Two (One e)) h))
+    where
+      second_side : (d e : ℤ × ℤ) → ◌≡◌ {A = SideOf PartEvent (SideOf (ℤ × ℤ) (SideOf PartEvent PartEvent))} (Two (One d)) (Two (One e)) → d ≡ e
+      second_side d e h = cc
+
+  sides_beyond : (os zs : List (SideOf PartEvent PartEvent)) → filter (λ n. not (is_member en (map side_event os) n)) (map side_event zs) ≡ map side_event (filter (λ e. not (is_member side_eq os e)) zs)
+  sides_beyond = names_beyond side_same side_itself by.same_name by.its_name side_event (λ d e h. third_side d e (apart (Two (Two d)) (Two (Two e)) h))
+    where
+      third_side : (d e : SideOf PartEvent PartEvent) → ◌≡◌ {A = SideOf PartEvent (SideOf (ℤ × ℤ) (SideOf PartEvent PartEvent))} (Two (Two d)) (Two (Two e)) → d ≡ e
+      third_side d e h = cc
+
+  map_wraps : (m : Held Map) → events_of (of_map m) ≡ map entry_event (map_of.map_events_of m)
+  map_wraps m = held_by Map nothing (λ s. events_of s ≡ map entry_event (map_of.map_events_of m)) m (λ e. ap (λ (v : Held Map). map entry_event (map_of.map_events_of v)) (sym (same_map m e))) (λ x e. ap (λ (v : Held Map). map entry_event (map_of.map_events_of v)) e)
+
+  abbrev pair_events : Pair part.Part part.Part → List (SideOf PartEvent PartEvent)
+  pair_events = pair.events_of parts.events_of parts.events_of
+
+  pair_wraps : (p : Pair part.Part part.Part) → events_of (of_pair p) ≡ map side_event (pair_events p)
+  pair_wraps p = pair_by (λ s. events_of s ≡ map side_event (pair_events p)) p (λ e. ap (λ (v : Pair part.Part part.Part). map side_event (pair_events v)) (sym (same_none p e))) (λ z e. ap (λ (v : Pair part.Part part.Part). map side_event (pair_events v)) e)
+
+  parts_fresh : (xs : List PartEvent) (s r : Any) (p q : part.Part) → s ≡ Part p → r ≡ Part q → xs ≡ fresh_of parts.joined part_eq parts.events_of p q → map (part_event (pos 0)) xs ≡ fresh_of joined en events_of s r
+  parts_fresh xs s r p q es er e = carried_fresh parts_carried part_eq parts.events_of en events_of (map (part_event (pos 0))) refl parts_beyond (λ s. refl) xs s r p q p q es er refl refl e
+
+  pub maps_fresh : (xs : List (ℤ × ℤ)) (s r : Any) (x z : _) (p q : Held Map) → s ≡ Map x → r ≡ Map z → p ≡ x.state → q ≡ z.state → xs ≡ fresh_of map_of.joined entry_eq map_of.map_events_of p q → map entry_event xs ≡ fresh_of joined en events_of s r
+  maps_fresh = carried_fresh maps_carried entry_eq map_of.map_events_of en events_of (map entry_event) refl entries_beyond map_wraps
+
+  pairs_fresh : (xs : List (SideOf PartEvent PartEvent)) (s r : Any) (x z : sides.Sides) (p q : Pair part.Part part.Part) → s ≡ Sides x → r ≡ Sides z → p ≡ x.pair → q ≡ z.pair → xs ≡ fresh_of parts.pairs_joined side_eq pair_events p q → map side_event xs ≡ fresh_of joined en events_of s r
+  pairs_fresh = carried_fresh pairs_carried side_eq pair_events en events_of (map side_event) refl sides_beyond pair_wraps
+
+  -- to nothing a put brings all its events
+  pub all_fresh : (s r : Any) → s ≡ Part Empty → events_of r ≡ fresh_of joined en events_of s r
+  all_fresh s r e = all_beyond en (events_of r) ∙ ap (events_beyond en events_of nothing) (sym (any_is_join.unit r)) ∙ ap (λ (v : Any). fresh_of joined en events_of v r) (sym e)
+
+  -- a join that is there already, or top, brings nothing
+  unless_fresh : (s r : Any) (q : part.Part) → joined s r ≡ unless_part q s → [] ≡ fresh_of joined en events_of s r
+  unless_fresh s r Empty e = none_beyond en by.its_name events_of s (joined s r) e
+  unless_fresh s r (Cell n) e = ap (events_beyond en events_of s) (sym e)
+  unless_fresh s r (Set x) e = ap (events_beyond en events_of s) (sym e)
+  unless_fresh s r (Max x) e = ap (events_beyond en events_of s) (sym e)
+
+  top_fresh : (s r : Any) → joined s r ≡ None → [] ≡ fresh_of joined en events_of s r
+  top_fresh s r e = ap (events_beyond en events_of s) (sym e)
+
+  pub part_to_map : (s r : Any) (x : _) (q : part.Part) → s ≡ Map x → r ≡ Part q → [] ≡ fresh_of joined en events_of s r
+  part_to_map s r x q es er = unless_fresh (Map x) (Part q) q refl ∙ (λ i. fresh_of joined en events_of (sym es i) (sym er i))
+
+  pub part_to_pair : (s r : Any) (z : sides.Sides) (q : part.Part) → s ≡ Sides z → r ≡ Part q → [] ≡ fresh_of joined en events_of s r
+  part_to_pair s r z q es er = unless_fresh (Sides z) (Part q) q refl ∙ (λ i. fresh_of joined en events_of (sym es i) (sym er i))
+
+  to_part : (p : part.Part) (t : Any) → joined (Part p) t ≡ unless_part p t → cond (parts.is_empty p) (events_of t) [] ≡ fresh_of joined en events_of (Part p) t
+  to_part Empty t e = all_fresh (Part Empty) t refl
+  to_part (Cell n) t e = top_fresh (Part (Cell n)) t e
+  to_part (Set x) t e = top_fresh (Part (Set x)) t e
+  to_part (Max x) t e = top_fresh (Part (Max x)) t e
+
+  along_fresh : (xs : List Event) (s r u v : Any) → u ≡ s → v ≡ r → xs ≡ fresh_of joined en events_of s r → xs ≡ fresh_of joined en events_of u v
+  along_fresh xs s r u v e f h = h ∙ (λ i. fresh_of joined en events_of (sym e i) (sym f i))
+
+  pub map_to_part : (s r : Any) (p : part.Part) (x : _) → s ≡ Part p → r ≡ Map x → cond (parts.is_empty p) (events_of r) [] ≡ fresh_of joined en events_of s r
+  map_to_part s r p x es er = along_fresh _ (Part p) (Map x) s r es er (ap (λ (v : Any). cond (parts.is_empty p) (events_of v) []) er ∙ to_part p (Map x) refl)
+
+  pub pair_to_part : (s r : Any) (p : part.Part) (z : sides.Sides) → s ≡ Part p → r ≡ Sides z → cond (parts.is_empty p) (events_of r) [] ≡ fresh_of joined en events_of s r
+  pair_to_part s r p z es er = along_fresh _ (Part p) (Sides z) s r es er (ap (λ (v : Any). cond (parts.is_empty p) (events_of v) []) er ∙ to_part p (Sides z) refl)
+
+same_part_test : (pe : PartEvent → PartEvent → Bool) → IsByKind pe → (d e : PartEvent) → pe d e ≡ part_eq d e
+same_part_test pe k (One m) (One n) = k.cells m n
+same_part_test pe k (One m) (Two e) = k.one_two m e
+same_part_test pe k (Two d) (One n) = k.two_one n d
+same_part_test pe k (Two (One m)) (Two (One n)) = k.sets m n
+same_part_test pe k (Two (One m)) (Two (Two n)) = k.set_max m n
+same_part_test pe k (Two (Two m)) (Two (One n)) = k.max_set n m
+same_part_test pe k (Two (Two m)) (Two (Two n)) = k.maxes m n
+
+-- a test of the events of two parts, by the side and the part's event
+pub record IsBySide (pe : PartEvent → PartEvent → Bool) (se : SideOf PartEvent PartEvent → SideOf PartEvent PartEvent → Bool) : Type 0 where
+  pub ones : (d e : PartEvent) → se (One d) (One e) ≡ pe d e
+  pub twos : (d e : PartEvent) → se (Two d) (Two e) ≡ pe d e
+  pub one_two : (d e : PartEvent) → se (One d) (Two e) ≡ false
+  pub two_one : (d e : PartEvent) → se (Two d) (One e) ≡ false
+
+same_side_test : (pe : PartEvent → PartEvent → Bool) (se : SideOf PartEvent PartEvent → SideOf PartEvent PartEvent → Bool) → IsByKind pe → IsBySide pe se → (d e : SideOf PartEvent PartEvent) → se d e ≡ side_eq d e
+same_side_test pe se k s (One d) (One e) = s.ones d e ∙ same_part_test pe k d e
+same_side_test pe se k s (One d) (Two e) = s.one_two d e
+same_side_test pe se k s (Two d) (One e) = s.two_one d e
+same_side_test pe se k s (Two d) (Two e) = s.twos d e ∙ same_part_test pe k d e
+
+-- the same by tests that a part's and a pair's events have
+pub parts_fresh_by : (pe : PartEvent → PartEvent → Bool) (en : Event → Event → Bool) (xs : List PartEvent) (s r : Any) (p q : part.Part) → s ≡ Part p → r ≡ Part q → xs ≡ fresh_of parts.joined pe parts.events_of p q → IsByKind pe → IsByName en → map (part_event (pos 0)) xs ≡ fresh_of joined en events_of s r
+parts_fresh_by pe en xs s r p q es er e k by = parts_fresh en by xs s r p q es er (e ∙ ap (λ (t : PartEvent → PartEvent → Bool). fresh_of parts.joined t parts.events_of p q) (λ i d e. same_part_test pe k d e i))
+
+pub pairs_fresh_by : (pe : PartEvent → PartEvent → Bool) (se : SideOf PartEvent PartEvent → SideOf PartEvent PartEvent → Bool) (en : Event → Event → Bool) (xs : List (SideOf PartEvent PartEvent)) (s r : Any) (x z : sides.Sides) (p q : Pair part.Part part.Part) → s ≡ Sides x → r ≡ Sides z → p ≡ x.pair → q ≡ z.pair
+    → xs ≡ fresh_of parts.pairs_joined se (pair.events_of parts.events_of parts.events_of) p q → IsByKind pe → IsBySide pe se → IsByName en → map side_event xs ≡ fresh_of joined en events_of s r
+pairs_fresh_by pe se en xs s r x z p q es er ep eq e k t by = pairs_fresh en by xs s r x z p q es er ep eq (e ∙ ap (λ (t : SideOf PartEvent PartEvent → SideOf PartEvent PartEvent → Bool). fresh_of parts.pairs_joined t (pair.events_of parts.events_of parts.events_of) p q) (λ i d e. same_side_test pe se k t d e i))

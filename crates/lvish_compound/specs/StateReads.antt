@@ -1,0 +1,77 @@
+-- Reads of a script's variables: the members and the answers.
+use Rattle.std.specs.Prelude.{ℕ, ℤ, cond, nat_eq, Option, Some, None, option_and_then}
+use Rattle.std.specs.Set.{is_member}
+use Rattle.std.specs.Ordering.{int_eq}
+use Rattle.lvish_lattice.specs.declared.flat.Flat.{Flat}
+use Rattle.lvish_lattice.specs.declared.max_counter.MaxCounter.{MaxCounter}
+use Rattle.lvish_lattice.specs.GrowSet as grow_set
+use Rattle.lvish_lattice.specs.MaxCounter.{number_of}
+use Rattle.lvish_compound.specs.declared.any.Any.{Any}
+use Rattle.lvish_compound.specs.declared.any.Any.TheVariants as variant
+use Rattle.lvish_compound.specs.declared.kind.Kind.{Kind}
+use Rattle.lvish_compound.specs.declared.kind.Kind.TheVariants as kind
+use Rattle.lvish_compound.specs.declared.number_test.Test.{Test}
+use Rattle.lvish_compound.specs.declared.part.Part.{Part}
+use Rattle.lvish_compound.specs.declared.part.Part.TheVariants as part
+use Rattle.lvish_compound.specs.declared.place.Place.{Place}
+use Rattle.lvish_compound.specs.declared.place.Place.TheVariants as place
+use Rattle.lvish_compound.specs.Held.{Held}
+use Rattle.lvish_compound.specs.MapOf as map_of
+use Rattle.lvish_compound.specs.Numbers.{ByNumber, cell_answer, first_that, is_reached}
+use Rattle.lvish_compound.specs.PartLaws as part_laws
+use Rattle.lvish_compound.specs.StateLaws.{view}
+use Rattle.lvish_compound.specs.States.{cell, set, counter, entry, side}
+
+-- the state that a number stands for, of a kind that a side can have
+abbrev pub state_of : Kind → ℤ → Option Any
+state_of kind.Cell n = Some (cell n)
+state_of kind.Set n = Some (set n)
+state_of kind.Max n = counter n
+state_of kind.Map n = None
+
+-- the state that a number stands for at a place
+abbrev pub state_at : Place → ℤ → Option Any
+state_at place.Cell n = state_of kind.Cell n
+state_at place.Set n = state_of kind.Set n
+state_at place.Max n = state_of kind.Max n
+state_at (place.Key k) n = Some (entry k n)
+state_at (place.Side i l) n = option_and_then (side i) (state_of l n)
+
+-- the members are the states of the numbers that are waited for, each of which answers its number
+abbrev pub MemberAt : Place → Test → Any → ℤ → Type 0
+MemberAt p t s n = ByNumber t (state_at p) s n
+
+-- the cell, the set and the counter of a part, bottom where it is of another kind
+abbrev pub cell_in : Part → Flat ℤ
+cell_in s = (part_laws.view s).one
+
+abbrev pub set_in : Part → Held part.Set
+set_in s = (part_laws.view s).two.one
+
+abbrev pub max_in : Part → MaxCounter
+max_in s = (part_laws.view s).two.two
+
+-- the answer in a part
+abbrev pub part_answer : Kind → Test → Part → Option ℤ
+part_answer kind.Cell t s = cell_answer t (cell_in s)
+part_answer kind.Set t s = first_that (is_member int_eq (grow_set.items_of (set_in s))) t
+part_answer kind.Max t s = first_that (is_reached (number_of (max_in s))) t
+part_answer kind.Map t s = None
+
+-- the part, the map and the two sides of a state, bottom where it is of another kind
+abbrev pub part_in : Any → Part
+part_in s = (view s).one
+
+abbrev pub map_in : Any → Held variant.Map
+map_in s = (view s).two.one
+
+abbrev pub side_in : ℕ → Any → Part
+side_in i s = cond (nat_eq i 1) (view s).two.two.one (view s).two.two.two
+
+-- the answer at a place
+abbrev pub answer_at : Place → Test → Any → Option ℤ
+answer_at place.Cell t s = part_answer kind.Cell t (part_in s)
+answer_at place.Set t s = part_answer kind.Set t (part_in s)
+answer_at place.Max t s = part_answer kind.Max t (part_in s)
+answer_at (place.Key k) t s = cell_answer t (map_of.at (map_in s) k)
+answer_at (place.Side i l) t s = part_answer l t (side_in i s)

@@ -1,0 +1,142 @@
+ghost use Rattle.std.specs.Prelude.{◌≡◌, ◌↔◌, Some, None, cond, Contains, find, IsTrue};
+ghost use Rattle.std.specs.List.{list_all, list_any};
+ghost use Rattle.std.specs.Ordering.{int_eq};
+ghost use Rattle.std.specs.Set.{is_member};
+ghost use Rattle.lvish_lattice.specs.declared.flat.Flat.TheVariants.{Value};
+ghost use Rattle.lvish_lattice.specs.GrowSet.{items_of};
+ghost use Rattle.lvish_compound.specs.Numbers.{is_level, are_levels, cell_answer, first_that, is_reached, HasOne};
+
+use lvish_lattice::{GrowSet, Items, Plain};
+
+/// Which numbers are waited for: any, those of a list, or one.
+///
+/// The one is a value of a cell, an element that a set has, or a level that a counter has reached.
+#[derive(Debug, Drop)]
+pub enum Test {
+    Any,
+    In(Items<i64>),
+    At(i64),
+}
+
+/// Whether a counter can hold the number.
+fn is_level(number: i64) -> bool
+    ensures { result ≡ is_level number }
+{
+    0 <= number && number <= 1000
+}
+
+/// Whether a counter at this level has reached the number.
+fn is_reached(level: i64, number: i64) -> bool
+    ensures { result ≡ is_reached level number }
+{
+    number <= level
+}
+
+/// Whether the set has the element.
+fn has<V: Plain>(set: &GrowSet<V>, element: V) -> bool
+    ensures { result ≡ is_member V.eq (items_of set.now) element }
+{
+    set.items().binary_search(&element).is_ok()
+}
+
+fn are_levels(numbers: &[i64]) -> bool
+    ensures { result ≡ list_all is_level numbers.now }
+{
+    numbers.iter().all(|number| is_level(*number))
+}
+
+/// Whether the list has at most one value, however often.
+fn has_one_value<V: Plain>(xs: &[V]) -> bool
+    ensures { IsTrue result ↔ ((x y : V) → Contains xs.now x → Contains xs.now y → x ≡ y) }
+{
+    match xs.first() {
+        None => true,
+        Some(first) => xs.iter().all(|x| *first == *x),
+    }
+}
+
+/// Whether a list has a value.
+fn is_listed<V: Plain>(xs: &[V], x: V) -> bool
+    ensures { result ≡ list_any (V.eq x) xs.now }
+{
+    xs.iter().any(|y| x == *y)
+}
+
+fn first_held(numbers: &[i64], set: &GrowSet<i64>) -> Option<i64>
+    ensures { result ≡ find (is_member int_eq (items_of set.now)) numbers.now }
+{
+    numbers.iter().copied().find(|number| has(set, *number))
+}
+
+fn first_reached(numbers: &[i64], level: i64) -> Option<i64>
+    ensures { result ≡ find (is_reached level) numbers.now }
+{
+    numbers
+        .iter()
+        .copied()
+        .find(|number| is_reached(level, *number))
+}
+
+/// The value, if it passes.
+fn only_if(passes: bool, value: i64) -> Option<i64>
+    ensures { result ≡ cond passes (Some value) None }
+{
+    if passes { Some(value) } else { None }
+}
+
+impl Test {
+    /// Whether a counter can hold each of the numbers.
+    pub(crate) fn are_levels(&self) -> bool
+        ensures { result ≡ are_levels self.now }
+    {
+        match self {
+            Test::Any => true,
+            Test::In(numbers) => are_levels(numbers.as_slice()),
+            Test::At(number) => is_level(*number),
+        }
+    }
+
+    /// Whether at most one number is waited for.
+    pub(crate) fn has_one(&self) -> bool
+        ensures { IsTrue result ↔ HasOne self.now }
+    {
+        match self {
+            Test::Any => false,
+            Test::In(numbers) => has_one_value(numbers.as_slice()),
+            Test::At(_) => true,
+        }
+    }
+
+    /// The value of a cell, where it is waited for.
+    pub(crate) fn in_cell(&self, value: i64) -> Option<i64>
+        ensures { result ≡ cell_answer self.now (Value value) }
+    {
+        match self {
+            Test::Any => Some(value),
+            Test::In(numbers) => only_if(is_listed(numbers.as_slice(), value), value),
+            Test::At(number) => only_if(*number == value, value),
+        }
+    }
+
+    /// The first of the listed numbers that the set has.
+    pub(crate) fn in_set(&self, set: &GrowSet<i64>) -> Option<i64>
+        ensures { result ≡ first_that (is_member int_eq (items_of set.now)) self.now }
+    {
+        match self {
+            Test::Any => None,
+            Test::In(numbers) => first_held(numbers.as_slice(), set),
+            Test::At(number) => only_if(has(set, *number), *number),
+        }
+    }
+
+    /// The first of the listed numbers that a counter at this level has reached.
+    pub(crate) fn in_max(&self, level: i64) -> Option<i64>
+        ensures { result ≡ first_that (is_reached level) self.now }
+    {
+        match self {
+            Test::Any => None,
+            Test::In(numbers) => first_reached(numbers.as_slice(), level),
+            Test::At(number) => only_if(is_reached(level, *number), *number),
+        }
+    }
+}

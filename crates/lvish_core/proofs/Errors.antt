@@ -1,0 +1,161 @@
+-- A step that is an error, over any machine.
+use Rattle.std.proofs.Common.{◌≡◌, ◌⊎◌, inl, inr, take, drop, ◌+◌, ◌≤◌, ◌<◌, ◌++◌, ℕ, List, [], ◌∷◌, length, Option, Some, append_assoc, refl, sym, ap, subst, ◌∙◌, arith, length-append}
+use Rattle.lvish_calculus.specs.declared.request.ErrorKind.{ErrorKind}
+use Rattle.lvish_calculus.specs.declared.request.ErrorKind.TheVariants.{Conflict, Frozen}
+use Rattle.lvish_calculus.specs.declared.request.Request.TheVariants.{Put}
+use Rattle.lvish_calculus.specs.declared.label.Label.{Label}
+use Rattle.lvish_calculus.specs.declared.label.Label.TheVariants.{Task as Act}
+use Rattle.lvish_calculus.specs.Machine.{Machine, IsLawful}
+use Rattle.lvish_calculus.specs.Calculus.{Name, Handler, State, Configuration, Running, Error, Changes, Fails, Nothing, Outcome, IsEnabled, CanStep, IsRun, after, next, outcome, start, step}
+use Rattle.lvish_calculus.specs.Laws.{Reaches}
+use Rattle.lvish_calculus.specs.Handing.{IsNoLater, IsCoreRun}
+use Rattle.lvish_variable.specs.Variable.{View as Variable, logged}
+use Rattle.lvish_variable.specs.declared.put_fault.PutFault.{PutFault}
+use Rattle.lvish_variable.specs.declared.put_fault.PutFault.TheVariants.{Conflict as PutConflict, Frozen as PutFrozen}
+use Rattle.lvish_picture.specs.Logs.{IsInOrder}
+use Rattle.lvish_picture.specs.Picture.{IsPictured}
+use Rattle.lvish_picture.specs.Laws.{ErrorsAreSteps}
+use Rattle.lvish_picture.proofs.Lists.{whole, within, cut}
+use Rattle.lvish_core.specs.declared.place.Place.{Place}
+use Rattle.lvish_core.specs.declared.touched.Touched.TheVariants.{Other}
+use Rattle.lvish_core.specs.declared.fault.Stepped.TheVariants.{Error as ErrorStep}
+use Rattle.lvish_core.specs.Core.{View, state, IsRunTo, IsStep}
+use Rattle.lvish_core.specs.Changes.{nothing_moved, moved_in, task_touches, brings}
+use Rattle.lvish_core.specs.Beside.{RefusedAt}
+use Rattle.lvish_core.specs.Acts.{IsActing, IsFailing, IsMoving}
+use Rattle.lvish_core.specs.Kept.{IsKept}
+use Rattle.lvish_core.proofs.Gets.{some_same, rewritten}
+use Rattle.lvish_core.proofs.Goes.{at_state, pictured_by}
+use Rattle.lvish_core.proofs.Acting.{no_more}
+
+module _ {S E R A L : Type 0} (M : Machine S E R A L) where
+  -- a run doesn't lead to an error and to a configuration without one
+  no_both : (d : Configuration S E L) (xs : List (Label E)) (c : State S E L) (kind : ErrorKind) (v : Option ℕ) (t : Name E) → IsRun M d xs (Running c) → IsRun M d xs (Error kind v t) → ⊥
+  no_both d [] c kind v t r e = absurd (cc (r, e))
+  no_both (Running s) (l ∷ xs) c kind v t r e = no_both (step M s l) xs c kind v t r.1 e.1
+  no_both (Error k w u) (l ∷ xs) c kind v t r e = r
+
+  -- a last step that is an error brings no event earlier or later
+  module _ (xs : List (Label E)) (l : Label E) (kind : ErrorKind) (w : Option ℕ) (t : Name E) (errs : IsRun M (Running (start M)) (xs ++ l ∷ []) (Error kind w t)) where
+    later_too : (v : ℕ) (e x : E) → IsNoLater M xs v e x → IsNoLater M (xs ++ l ∷ []) v e x
+    later_too v e x h q r c cuts rc below = elim (cut xs l q r cuts) [
+      | whole all ↦ absurd (no_both (Running (start M)) (xs ++ l ∷ []) c kind w t (subst (λ ys. Reaches M ys c) all rc) errs)
+      | within s part ↦ h q s c part rc below
+    ]
+
+    before_too : (v : ℕ) (e x : E) → IsNoLater M (xs ++ l ∷ []) v e x → IsNoLater M xs v e x
+    before_too v e x h q r c cuts rc below = h q (r ++ l ∷ []) c (ap (λ ys. ys ++ l ∷ []) cuts ∙ append_assoc q r (l ∷ [])) rc below
+
+    pub order_kept : (c : State S E L) (v : ℕ) (events : List E) → IsInOrder M xs c v events → IsInOrder M (xs ++ l ∷ []) c v events
+    order_kept c v events o = record {
+      all = o.all;
+      order = λ i j d lt len. let b = o.order i j d lt len in record {
+        other = b.other;
+        no_later = later_too v _ _ b.no_later;
+        lesser = λ h. b.lesser (before_too v _ _ h);
+      };
+    }
+
+  -- what an error is told by
+  fails_does : (c : State S E L) (o : Outcome S E L) (kind : ErrorKind) (v : Option ℕ) (t : Name E) → after M c o ≡ Error kind v t → o ≡ Fails kind v t
+  fails_does c (Changes ch) kind v t e = absurd (cc e)
+  fails_does c (Fails k w u) kind v t e = ap (λ d. of d) e
+    where
+      of : Configuration S E L → Outcome S E L
+      of (Running s) = Nothing
+      of (Error k w u) = Fails k w u
+  fails_does c Nothing kind v t e = absurd (cc e)
+
+module _ {P S E R A L : Type 0} (M : Machine S E R A L) (ok : IsLawful M) (law : ErrorsAreSteps M) (variables n : ℕ) (places : List (Handler E × Place)) (old : View P S E L)
+    (kept : IsKept M variables n places old) (t : Name E) (kind : ErrorKind) (v : Option ℕ) (h : IsFailing M old t kind v) where
+  abbrev later : Name E → View P S E L
+  later u = record { program = old.program; table = old.table; steps = old.steps + 1; fault = Some (record { kind = kind; variable = v; task = u }); touched = Some Other }
+
+  abbrev said : (xs : List (Label E)) → IsPictured M old.table xs → IsEnabled M (state M old) (Act t) × (step M (state M old) (Act t) ≡ Error kind v t)
+      × IsRun M (Running (start M)) (xs ++ Act t ∷ []) (Error kind v t) × IsCoreRun M (xs ++ Act t ∷ [])
+  said xs k = law xs old.table t h.acting.local h.forks h.adds h.puts h.request kind v k h.acting.asking h.errs
+
+  does : outcome M (state M old) (Act t) ≡ Fails kind v t
+  does = fails_does M (state M old) (outcome M (state M old) (Act t)) kind v t (said kept.standing.run kept.standing.pictured).1
+
+  leads : (xs : List (Label E)) → IsRunTo M old xs → IsRunTo M (later t) (xs ++ Act t ∷ [])
+  leads xs r = let s = said xs (pictured_by M old xs h.acting.no_fault r) in record {
+    reached = s.2;
+    core = s.3;
+    logs = λ u x at. order_kept M xs (Act t) kind v t s.2 (state M old) u (logged x.log) (r.logs u x at);
+    table = r.table;
+  }
+
+  failed_step : IsStep M old (Act t) (later t) (ErrorStep kind)
+  failed_step =
+      let s = said kept.standing.run kept.standing.pictured in
+      let room : old.steps < 1000000 = h.acting.room in
+      record {
+        enabled = (subst (λ (q : Configuration S E L). CanStep M q (Act t)) (sym (at_state M old h.acting.no_fault)) s.0, tt);
+        program = refl;
+        steps = refl;
+        small = omega arith;
+        stepped = sym (ap (λ (q : Configuration S E L). next M q (Act t)) (at_state M old h.acting.no_fault) ∙ s.1);
+        answer = refl;
+        leads = leads;
+        logs = λ u x y a b. ap (λ (z : Variable S E). z.log) (some_same (sym b ∙ a)) ∙ no_more x.log ∙ ap (λ o. x.log ++ brings M (state M old) u o) (sym does);
+        touched = ap Some (sym (ap (λ o. task_touches M (state M old) o) does));
+      }
+
+  failed_kept : IsKept M variables n places (later t)
+  failed_kept =
+      let room : old.steps < 1000000 = h.acting.room in
+      record {
+        reached = record {
+          labels = kept.reached.labels ++ Act t ∷ [];
+          count = length-append kept.reached.labels (Act t ∷ []) ∙ ap (λ i. i + 1) kept.reached.count;
+          leads = leads kept.reached.labels kept.reached.leads;
+        };
+        standing = record { run = kept.standing.run; few = let short : length kept.standing.run ≤ old.steps = kept.standing.few in omega arith; pictured = kept.standing.pictured };
+        there = kept.there;
+        counted = kept.counted;
+        live = kept.live;
+        index = kept.index;
+        steps = omega arith;
+        few = let was : n ≤ old.steps + 1 = kept.few in omega arith;
+        numbers = λ u l f a p e. let w = kept.numbers u l f a p e in (omega (arith, w.0), omega (arith, w.1), omega (arith, w.2));
+      }
+
+  pub failed : (u : Name E) → u ≡ t → IsMoving M old (Act t) (later u) (ErrorStep kind) nothing_moved × IsKept M variables n places (later u)
+  failed u is = subst (λ z. IsMoving M old (Act t) (later z) (ErrorStep kind) nothing_moved × IsKept M variables n places (later z)) (sym is)
+      (record { step = failed_step; change = sym (ap moved_in does) }, failed_kept)
+
+-- a put that the variable refuses
+module _ {P S E R A L : Type 0} (M : Machine S E R A L) (old : View P S E L) (t : Name E) (at : L) (f a p v : ℕ) (d : S) (acts : IsActing M old t at f a p (Put v d)) where
+  conflict_fails : (o : PutFault) (w : RefusedAt M.join d v old.table.variables o) (kind : ErrorKind) → o ≡ PutConflict → kind ≡ Conflict → IsFailing M old t kind (Some v)
+  conflict_fails o w kind oo kk = subst (λ k. IsFailing M old t k (Some v)) (sym kk) (record {
+    at = at;
+    forks = f;
+    adds = a;
+    puts = p;
+    request = Put v d;
+    acting = acts;
+    errs = let z = subst (λ q. RefusedAt M.join d v old.table.variables q) oo w in (z.from, z.was, z.refused, refl);
+  })
+
+  frozen_fails : (o : PutFault) (w : RefusedAt M.join d v old.table.variables o) (kind : ErrorKind) → o ≡ PutFrozen → kind ≡ Frozen → IsFailing M old t kind (Some v)
+  frozen_fails o w kind oo kk = subst (λ k. IsFailing M old t k (Some v)) (sym kk) (record {
+    at = at;
+    forks = f;
+    adds = a;
+    puts = p;
+    request = Put v d;
+    acting = acts;
+    errs = let z = subst (λ q. RefusedAt M.join d v old.table.variables q) oo w in (z.from, z.was, z.refused, refl);
+  })
+
+  -- as the core stands after its slice was handed out
+  pub refused : (slice new : List (Variable S E)) (n : ℕ) → slice ≡ old.table.variables → n ≡ length old.table.variables → new ≡ slice → (o : PutFault) → RefusedAt M.join d v slice o → (kind : ErrorKind) → ((o ≡ PutConflict) × (kind ≡ Conflict)) ⊎ ((o ≡ PutFrozen) × (kind ≡ Frozen))
+      → IsFailing M (record { program = old.program; table = record { variables = take n (new ++ drop (length new) old.table.variables); handlers = old.table.handlers; tasks = old.table.tasks }; steps = old.steps; fault = old.fault; touched = old.touched }) t kind (Some v)
+  refused slice new n is len same o w kind by =
+      subst (λ l. IsFailing M (record { program = old.program; table = record { variables = l; handlers = old.table.handlers; tasks = old.table.tasks }; steps = old.steps; fault = old.fault; touched = old.touched }) t kind (Some v))
+      (sym (same ∙ is) ∙ rewritten old.table.variables new n len (ap length (same ∙ is)))
+      (let z = subst (λ l. RefusedAt M.join d v l o) is w in elim by [
+        | inl e ↦ conflict_fails o z kind e.0 e.1
+        | inr e ↦ frozen_fails o z kind e.0 e.1
+      ])

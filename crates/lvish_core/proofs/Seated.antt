@@ -1,0 +1,165 @@
+-- Where a handler is, and what comes next for it.
+use Rattle.std.proofs.Common.{◌≡◌, ◌↔◌, inl, inr, ◌<◌, ℕ, suc, Bool, true, false, List, [], ◌∷◌, Option, Some, None, refl, sym, ap, subst, ◌∙◌, is_some, option_map, option_and_then, if◌then◌else◌, arith}
+use Rattle.std.specs.Option.{MatchOption}
+use Rattle.std.specs.Bool.{IsTrue}
+use Rattle.std.specs.List.{Contains, slice_get}
+use Rattle.std.proofs.lemmas.Bool.{cases_Bool}
+use Rattle.lvish_calculus.specs.Machine.{Machine, IsLawful}
+use Rattle.lvish_calculus.specs.declared.label.Label.TheVariants.{Hand}
+use Rattle.lvish_calculus.specs.Calculus.{Handler, Post, IsEnabled, same_handler}
+use Rattle.lvish_calculus.proofs.Names.{same_handler-true}
+use Rattle.lvish_variable.specs.Variable.{View as Variable, logged}
+use Rattle.lvish_handlers.specs.declared.held.Held.{Held}
+use Rattle.lvish_handlers.specs.Handlers.{View as Handlers, held_as, next_of}
+use Rattle.lvish_picture.specs.Laws.{IsSeated, PostsAreHeld, HandsTheNext}
+use Rattle.lvish_core.specs.declared.place.Place.{Place}
+use Rattle.lvish_picture.proofs.Cursors.{seat_with}
+use Rattle.lvish_core.specs.Reads.{AreHandlers}
+use Rattle.lvish_core.proofs.Shown.{can_step}
+use Rattle.lvish_core.specs.Core.{View, IsNext, CanTake, state}
+use Rattle.lvish_core.specs.Places.{place_at, post_of}
+use Rattle.lvish_core.specs.Kept.{IsKept}
+
+same : {X : Type 0} {a b : X} → Some a ≡ Some b → a ≡ b
+same e = cc e
+
+-- where something is found there was something to look through
+and_then_some : {X Y : Type 0} (f : X → Option Y) (o : Option X) (y : Y) → option_and_then f o ≡ Some y → (x : X) × (o ≡ Some x) × (f x ≡ Some y)
+and_then_some f None y e = absurd (cc e)
+and_then_some f (Some x) y e = (x, refl, e)
+
+map_some : {X Y : Type 0} (f : X → Y) (o : Option X) (y : Y) → option_map f o ≡ Some y → (x : X) × (o ≡ Some x) × (f x ≡ y)
+map_some f None y e = absurd (cc e)
+map_some f (Some x) y e = (x, refl, cc e)
+
+later : {X : Type 0} (x y : X) (ys : List X) → Contains ys x → Contains (y ∷ ys) x
+later x y ys z = (suc z.0, omega (arith, z.1), z.2)
+
+-- the handler that is found under a name has it
+pub found : {E : Type 0} (eq : E → E → Bool) → ((a b : E) → (eq a b ≡ true) ↔ (a ≡ b)) → (held : List (Held E)) (name : Handler E) (h : Held E) → held_as eq held name ≡ Some h → Contains held h × (h.name ≡ name)
+found eq is [] name h e = absurd (cc e)
+found {E} eq is (y ∷ ys) name h e = elim (cases_Bool (same_handler eq name y.name)) [
+  | inl b ↦
+      let here : y ≡ h = same (sym (ap (λ q. if q then Some y else held_as eq ys name) b) ∙ e) in
+      ((0, omega arith, here), ap (λ (x : Held E). x.name) (sym here) ∙ sym (same_handler-true eq is name y.name b))
+  | inr b ↦
+      let z = found eq is ys name h (sym (ap (λ q. if q then Some y else held_as eq ys name) b) ∙ e) in
+      (later h y ys z.0, z.1)
+]
+
+module _ {P S E R A L : Type 0} (M : Machine S E R A L) (n running : ℕ) (places : List (Handler E × Place)) (c : View P S E L) (k : IsKept M n running places c) where
+  -- a place is on a variable of the program
+  pub placed : ((q v : ℕ) → M.pool_variable q ≡ Some v → v < n) → (name : Handler E) (p : Place) → place_at M.event_same places name ≡ Some p → p.variable < n
+  placed known name p at = known p.pool p.variable (k.index.own name p at)
+
+  module _ (ok : IsLawful M) (posts : PostsAreHeld M) where
+    -- where a handler of the table is
+    pub record IsIndexed (v : ℕ) (h : Held E) : Type 0 where
+      pub place : Place
+      pub at : place_at M.event_same places h.name ≡ Some place
+      pub variable : place.variable ≡ v
+      pub pool : place.pool ≡ h.pool
+      pub procedure : place.procedure ≡ h.procedure
+
+    pub indexed : (v : ℕ) (x : Variable S E) (hs : Handlers E) (h : Held E) → IsSeated c.table v x hs h → IsIndexed v h
+    indexed v x hs h s =
+        let post = posts k.standing.run c.table v x hs h k.standing.pictured s in
+        let there = map_some post_of (place_at M.event_same places h.name) (record { pool = h.pool; procedure = h.procedure }) (k.index.posts h.name ∙ post.0) in
+        let own : M.pool_variable (there.0).pool ≡ Some (there.0).variable = k.index.own h.name there.0 there.1 in
+        let pool : (there.0).pool ≡ h.pool = ap (λ (q : Post). q.pool) there.2 in
+        record {
+          place = there.0;
+          at = there.1;
+          variable = same (sym own ∙ ap M.pool_variable pool ∙ post.1);
+          pool = pool;
+          procedure = ap (λ (q : Post). q.procedure) there.2;
+        }
+
+    -- what comes next for a handler comes next at its place
+    pub next_place : (name : Handler E) (e : E) (z : IsNext M.event_same c.table name e) → (p : Place) × (place_at M.event_same places name ≡ Some p) × (p.variable ≡ z.variable)
+    next_place name e z =
+        let one = and_then_some (λ (h : Held E). slice_get (logged (z.at).log) h.handed) (held_as M.event_same (z.beside).held name) e z.next in
+        let there = found M.event_same ok.event_same_is (z.beside).held name one.0 one.1 in
+        let i : IsIndexed z.variable one.0 = indexed z.variable z.at z.beside one.0 (record { at = z.at_is; beside = z.beside_is; held = there.0 }) in
+        (i.place, ap (λ h. place_at M.event_same places h) (sym there.1) ∙ i.at, i.variable)
+
+    -- what comes next at the place of a handler comes next for it, and nothing else
+    pub next_there : (name : Handler E) (p : Place) → place_at M.event_same places name ≡ Some p → (x : Variable S E) → slice_get c.table.variables p.variable ≡ Some x → (hs : Handlers E) → slice_get c.table.handlers p.variable ≡ Some hs
+        → (r : Option E) → r ≡ next_of M.event_same x.log hs.held name → MatchOption r ((e : E) → IsNext M.event_same c.table name e → ⊥) (λ e. IsNext M.event_same c.table name e)
+    next_there name p at x there hs beside (Some e) is = record { variable = p.variable; at = x; at_is = there; beside = hs; beside_is = beside; next = sym is }
+    next_there name p at x there hs beside None is = λ e z.
+        let q = next_place name e z in
+        let v : p.variable ≡ z.variable = ap (λ (q : Place). q.variable) (same (sym at ∙ q.1)) ∙ q.2 in
+        let xx : x ≡ z.at = same (sym there ∙ ap (λ u. slice_get c.table.variables u) v ∙ z.at_is) in
+        let hh : hs ≡ z.beside = same (sym beside ∙ ap (λ u. slice_get c.table.handlers u) v ∙ z.beside_is) in
+        let none : None ≡ Some e = is ∙ ap (λ (y : Variable S E). next_of M.event_same y.log hs.held name) xx ∙ ap (λ (y : Handlers E). next_of M.event_same (z.at).log y.held name) hh ∙ z.next in
+        cc none
+
+    -- and where it has no place nothing comes next
+    pub none_next : (name : Handler E) → place_at M.event_same places name ≡ None → (e : E) → IsNext M.event_same c.table name e → ⊥
+    none_next name at e z = let q = next_place name e z in let none : None ≡ Some q.0 = sym at ∙ q.1 in cc none
+
+    -- only one event comes next
+    pub next_one : (name : Handler E) (e f : E) → IsNext M.event_same c.table name e → IsNext M.event_same c.table name f → e ≡ f
+    next_one name e f y z =
+        let p = next_place name e y in
+        let q = next_place name f z in
+        let v : y.variable ≡ z.variable = sym p.2 ∙ ap (λ (r : Place). r.variable) (same (sym p.1 ∙ q.1)) ∙ q.2 in
+        let xx : y.at ≡ z.at = same (sym y.at_is ∙ ap (λ u. slice_get c.table.variables u) v ∙ z.at_is) in
+        let hh : y.beside ≡ z.beside = same (sym y.beside_is ∙ ap (λ u. slice_get c.table.handlers u) v ∙ z.beside_is) in
+        same (sym y.next ∙ ap (λ (x : Variable S E). next_of M.event_same x.log (y.beside).held name) xx ∙ ap (λ (hs : Handlers E). next_of M.event_same (z.at).log hs.held name) hh ∙ z.next)
+
+    -- what comes next can be handed
+    pub next_enabled : HandsTheNext M → (name : Handler E) (e : E) → IsNext M.event_same c.table name e → IsEnabled M (state M c) (Hand name e)
+    next_enabled hands name e z =
+        let one = and_then_some (λ (h : Held E). slice_get (logged (z.at).log) h.handed) (held_as M.event_same (z.beside).held name) e z.next in
+        let there = found M.event_same ok.event_same_is (z.beside).held name one.0 one.1 in
+        let next : next_of M.event_same (z.at).log (z.beside).held (one.0).name ≡ Some e = ap (λ h. next_of M.event_same (z.at).log (z.beside).held h) there.1 ∙ z.next in
+        let both = (hands k.standing.run c.table z.variable z.at z.beside one.0 k.standing.pictured (record { at = z.at_is; beside = z.beside_is; held = there.0 }) e).0 next in
+        subst (λ h. IsEnabled M (state M c) (Hand h e)) there.1 both.0
+
+    -- the core hands what comes next, where there is no error
+    pub next_can : HandsTheNext M → is_some c.fault ≡ false → (name : Handler E) (e : E) → IsNext M.event_same c.table name e → CanTake M c (Hand name e)
+    next_can hands no_error name e z = ((can_step M n running places c k no_error (Hand name e)).1 (next_enabled hands name e z), z)
+
+    -- and of a handler's events just that one
+    pub hand_can : HandsTheNext M → is_some c.fault ≡ false → (name : Handler E) (e f : E) → IsNext M.event_same c.table name e → (b : Bool) → b ≡ M.event_same e f → IsTrue b ↔ CanTake M c (Hand name f)
+    hand_can hands no_error name e f next b is = (
+      λ z. subst (λ x. CanTake M c (Hand name x)) ((ok.event_same_is e f).0 (sym is ∙ z)) (next_can hands no_error name e next),
+      λ z. is ∙ (ok.event_same_is e f).1 (next_one name e f next z.1),
+    )
+
+    -- what the list beside a variable holds are the picture's handlers on it
+    pub are_handlers : (v : ℕ) (x : Variable S E) → slice_get c.table.variables v ≡ Some x → (hs : Handlers E) → slice_get c.table.handlers v ≡ Some hs → (held : List (Held E)) → held ≡ hs.held → AreHandlers M c v held
+    are_handlers v x at hs beside held is = record {
+      beside = hs;
+      at = beside;
+      are = is;
+      just = λ name post. (
+        λ z.
+            let there : Contains hs.held z.handler = subst (λ (ys : List (Held E)). Contains ys z.handler) is z.there in
+            let post_of = posts k.standing.run c.table v x hs z.handler k.standing.pictured (record { at = at; beside = beside; held = there }) in
+            (ap (λ h. (state M c).handlers h) (sym z.named) ∙ post_of.0 ∙ ap (λ q. Some q) (same_post {p = record { pool = (z.handler).pool; procedure = (z.handler).procedure }} z.pool z.procedure), ap M.pool_variable (sym z.pool) ∙ post_of.1),
+        λ z.
+            let s = seat_with M ok c.table k.standing.run k.standing.pictured name post z.0 in
+            let seated : IsSeated c.table s.0 s.1 s.2 s.3 = s.4 in
+            let other = posts k.standing.run c.table s.0 s.1 s.2 s.3 k.standing.pictured seated in
+            let post_is : post_at s.3 ≡ post = same (sym other.0 ∙ ap (λ h. (state M c).handlers h) s.5 ∙ z.0) in
+            let pool : (s.3).pool ≡ post.pool = ap (λ (q : Post). q.pool) post_is in
+            let v_is : s.0 ≡ v = same (sym other.1 ∙ ap M.pool_variable pool ∙ z.1) in
+            let hs_is : s.2 ≡ hs = same (sym seated.beside ∙ ap (λ u. slice_get c.table.handlers u) v_is ∙ beside) in
+            record {
+              handler = s.3;
+              there = subst (λ (ys : List (Held E)). Contains ys (s.3)) (ap (λ (y : Handlers E). y.held) hs_is ∙ sym is) seated.held;
+              named = s.5;
+              pool = pool;
+              procedure = ap (λ (q : Post). q.procedure) post_is;
+            },
+      );
+    }
+      where
+        same_post : {p q : Post} → p.pool ≡ q.pool → p.procedure ≡ q.procedure → p ≡ q
+        same_post e d = λ i. record { pool = e i; procedure = d i }
+
+        post_at : Held E → Post
+        post_at h = record { pool = h.pool; procedure = h.procedure }

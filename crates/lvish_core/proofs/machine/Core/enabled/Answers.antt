@@ -1,0 +1,20 @@
+use Rattle.std.proofs.Common.{sym, ap, ◌∙◌}
+use Rattle.std.specs.Option.{option_copied}
+use Rattle.lvish_core.specs.Tasks.{standing_at}
+use Rattle.lvish_core.proofs.Shown.{task_can_ok}
+use Rattle.lvish_core.proofs.Seated.{hand_can}
+use Rattle.lvish_core.proofs.machine.Core.enabled.Goals as goal
+
+pub returns-in-Some : goal.returns-in-Some
+returns-in-Some g c =
+    let there = c.get.ensures ∙ ap (λ o. standing_at (option_copied o)) c.in-Some.is in
+    let ready = rw (← c.self.view_is) at c.is_at_ready.ensures in
+    rw (← c.self.view_is, c.in-Task.is)
+    (task_can_ok _ _ _ _ _ c.self.invariant (sym c.is_some.ensures ∙ c.if-is_some.false) c.in-Task.name _ there c.is_at_ready.result ready)
+
+pub returns-in-Some-next : goal.returns-in-Some-next
+returns-in-Some-next g c =
+    let next = rw (← c.self.view_is, c.in-Some-next.is) at c.next.ensures in
+    rw (← c.self.view_is, c.in-Hand.is)
+    (hand_can _ _ _ _ _ c.self.invariant (c.lawful.ensures c.self.inside.program.now) (c.handlers_are_held.ensures.posts c.self.inside.program.now) (c.handed_next.ensures.next c.self.inside.program.now)
+    (sym c.is_some.ensures ∙ c.if-is_some.false) c.in-Hand.name c.in-Some-next.next c.in-Hand.event next c.eq.result c.eq.ensures)

@@ -1,0 +1,5 @@
+use Rattle.lvish_core.proofs.Shown.{are_states}
+use Rattle.lvish_core.proofs.machine.Core.states.Goals as goal
+
+pub returns : goal.returns
+returns g c = rw (← c.self.view_is) (are_states _ _ _ _ _ c.self.invariant c.deref.result.now c.deref.ensures.value)

@@ -1,0 +1,17 @@
+-- What a core's labels are to its runs.
+use Rattle.std.specs.Prelude.{◌↔◌, List, [], ◌∷◌, ◌++◌}
+use Rattle.lvish_calculus.specs.declared.label.Label.{Label}
+use Rattle.lvish_calculus.specs.Machine.{Machine}
+use Rattle.lvish_calculus.specs.Calculus.{CanStep}
+use Rattle.lvish_calculus.specs.Handing.{IsCoreRun}
+use Rattle.lvish_core.specs.Core.{View, picture, IsRunTo, CanTake}
+
+-- a core that a run leads to can take just the labels that are enabled, and with which the run is a core run
+abbrev pub TakesCoreRuns : {S E R A L : Type 0} → Type 0 → Machine S E R A L → Type 0
+TakesCoreRuns {S} {E} {R} {A} {L} P M = (c : View P S E L) (xs : List (Label E)) → IsRunTo M c xs
+    → (l : Label E) → CanTake M c l ↔ (CanStep M (picture M c) l × IsCoreRun M (xs ++ l ∷ []))
+
+-- where a label is enabled, the core can take one
+abbrev pub TakesSomething : {S E R A L : Type 0} → Type 0 → Machine S E R A L → Type 0
+TakesSomething {S} {E} {R} {A} {L} P M = (c : View P S E L) (xs : List (Label E)) → IsRunTo M c xs
+    → (l : Label E) → CanStep M (picture M c) l → (k : Label E) × CanTake M c k

@@ -1,0 +1,42 @@
+//! A task's action, by its request.
+
+ghost use Rattle.lvish_core.specs.Acts.{IsActing, Acts};
+
+use super::Core;
+use crate::fault::{StepFault, Stepped};
+use crate::moved::Moved;
+use crate::stage::Numbers;
+use lvish_calculus::{Meaning, Program, Reply, Request};
+use lvish_lattice::{Lattice, Reads};
+use lvish_names::TaskName;
+use std::alloc::Global;
+
+impl<'p, P: Program> Core<'p, P> {
+    /// Makes the request of a task, which is ready.
+    pub(super) fn act(
+        &mut self,
+        alloc: Global,
+        name: &TaskName<<P::Lat as Lattice>::Event>,
+        at: &P::Local,
+        numbers: Numbers,
+        request: &Request<P::Lat, <P::Lat as Reads>::Read, P::Local>,
+    ) -> Result<(Stepped, Moved<<P::Lat as Lattice>::Event, P::Local>), StepFault>
+        requires { IsActing (⟦<P as Meaning>⟧.machine self.old.program) self.old name.now at.now numbers.forks numbers.adds numbers.puts request.now }
+        ensures { Acts (⟦<P as Meaning>⟧.machine self.old.program) self.old name.now self.new result }
+    {
+        match request {
+            Request::Put(variable, state) => {
+                self.put(alloc, name, at, numbers, *variable, state)
+            }
+            Request::Get(variable, read) => self.get(alloc, name, at, numbers, *variable, read),
+            Request::Fork(child) => self.fork(alloc, name, at, numbers, child),
+            Request::Add(pool, procedure) => {
+                self.add(alloc, name, at, numbers, *pool, *procedure)
+            }
+            Request::Freeze(variable, _) => self.freeze(alloc, name, at, numbers, *variable),
+            Request::Pause => self.go_on(alloc, name, at, numbers, Reply::Done),
+            Request::End => self.end(alloc, name, at, numbers),
+            Request::Fault(kind) => self.fail(alloc, name, *kind, None),
+        }
+    }
+}

@@ -1,0 +1,60 @@
+//! A task's step.
+
+ghost use Rattle.std.specs.Prelude.{◌≡◌, MatchResult, IfOk, IfErr};
+ghost use Rattle.lvish_calculus.specs.declared.label.Label.TheVariants.{Task as Act};
+
+use super::Core;
+use crate::fault::{StepFault, Stepped};
+use crate::moved::Moved;
+use crate::runs::Runs;
+use crate::stage::{Numbers, Stage};
+use lvish_calculus::{Asks, Meaning, Program};
+use lvish_lattice::{Lattice, Reads};
+use lvish_names::TaskName;
+use std::alloc::Global;
+
+impl<'p, P: Program> Core<'p, P> {
+    /// Makes the task's step, with its request already computed.
+    ///
+    /// # Errors
+    ///
+    /// As `step` with the task's label.
+    pub fn step_asked(
+        &mut self,
+        alloc: Global,
+        name: &TaskName<<P::Lat as Lattice>::Event>,
+        asks: &Asks<P::Lat, <P::Lat as Reads>::Read, P::Local>,
+    ) -> Result<(Stepped, Moved<<P::Lat as Lattice>::Event, P::Local>), StepFault>
+        requires request { ⟦<P as Runs>⟧.is_its_request self.old name.now asks.now.request }
+        requires at { ⟦<P as Runs>⟧.is_its_place self.old name.now asks.now.at }
+        ensures stepped { MatchResult result (λ s. ⟦<P as Runs>⟧.is_step self.old (Act name.now) self.new s.0) (λ e. ⟦<P as Runs>⟧.is_refused self.old (Act name.now) e × (self.new ≡ self.old)) }
+        ensures moved { IfOk result (λ s. ⟦<P as Runs>⟧.is_moved self.old (Act name.now) s.1) }
+    {
+        if self.fault.is_some() {
+            return Err(StepFault::NotEnabled);
+        }
+        let Some(
+            Stage::Live {
+                forks,
+                adds,
+                puts,
+                ..
+            },
+        ) = self.tasks.get(name)
+        else {
+            return Err(StepFault::NotEnabled);
+        };
+        let numbers = Numbers {
+            forks: *forks,
+            adds: *adds,
+            puts: *puts,
+        };
+        if !self.is_ready(&asks.request) {
+            return Err(StepFault::NotEnabled);
+        }
+        if self.is_full() {
+            return Err(StepFault::Full);
+        }
+        self.act(alloc, name, &asks.at, numbers, &asks.request)
+    }
+}

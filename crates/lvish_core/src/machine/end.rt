@@ -1,0 +1,45 @@
+//! The end of a task.
+
+ghost use Rattle.std.specs.Prelude.{◌≡◌};
+ghost use Rattle.lvish_calculus.specs.declared.request.Request.TheVariants.{End};
+ghost use Rattle.lvish_core.specs.Acts.{IsActing, Acts};
+
+use super::Core;
+use crate::beside::end_at;
+use crate::fault::{StepFault, Stepped};
+use crate::moved::Moved;
+use crate::stage::{Numbers, Stage};
+use crate::touched::Touched;
+use lvish_calculus::laws::lawful;
+use lvish_calculus::{Meaning, Program};
+use lvish_lattice::Lattice;
+use lvish_names::TaskName;
+use lvish_picture::laws::{counts_follow, counts_kept, plain_kept, running_counts};
+use std::alloc::Global;
+
+impl<'p, P: Program> Core<'p, P> {
+    /// Ends the task.
+    pub(super) fn end(
+        &mut self,
+        alloc: Global,
+        name: &TaskName<<P::Lat as Lattice>::Event>,
+        at: &P::Local,
+        numbers: Numbers,
+    ) -> Result<(Stepped, Moved<<P::Lat as Lattice>::Event, P::Local>), StepFault>
+        requires { IsActing (⟦<P as Meaning>⟧.machine self.old.program) self.old name.now at.now numbers.forks numbers.adds numbers.puts End }
+        ensures { Acts (⟦<P as Meaning>⟧.machine self.old.program) self.old name.now self.new result }
+    {
+        lawful::<P>();
+        plain_kept::<P>();
+        counts_kept::<P>();
+        counts_follow::<P>();
+        running_counts::<P>();
+        let place = self.place_of(alloc, name)?;
+        self.tasks.replace(name, Stage::Ended);
+        end_at(&mut self.handlers, place);
+        self.running -= 1;
+        self.steps += 1;
+        self.touched = Some(Touched::ended_in(place));
+        Ok((Stepped::Done, Moved::nothing()))
+    }
+}

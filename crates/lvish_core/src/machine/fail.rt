@@ -1,0 +1,40 @@
+//! A step that is an error.
+
+ghost use Rattle.lvish_core.specs.Acts.{IsFailing, Acts};
+
+use super::Core;
+use crate::fault::{Fault, StepFault, Stepped};
+use crate::moved::Moved;
+use crate::touched::Touched;
+use lvish_calculus::laws::lawful;
+use lvish_calculus::{ErrorKind, Meaning, Program};
+use lvish_lattice::Lattice;
+use lvish_names::TaskName;
+use lvish_picture::laws::errors_are_steps;
+use std::alloc::Global;
+
+impl<'p, P: Program> Core<'p, P> {
+    /// Makes the step that gives an error.
+    pub(super) fn fail(
+        &mut self,
+        alloc: Global,
+        name: &TaskName<<P::Lat as Lattice>::Event>,
+        kind: ErrorKind,
+        variable: Option<usize>,
+    ) -> Result<(Stepped, Moved<<P::Lat as Lattice>::Event, P::Local>), StepFault>
+        requires { IsFailing (⟦<P as Meaning>⟧.machine self.old.program) self.old name.now kind variable }
+        ensures { Acts (⟦<P as Meaning>⟧.machine self.old.program) self.old name.now self.new result }
+    {
+        lawful::<P>();
+        errors_are_steps::<P>();
+        let task = name.copy(alloc)?;
+        self.fault = Some(Fault {
+            kind,
+            variable,
+            task,
+        });
+        self.steps += 1;
+        self.touched = Some(Touched::Other);
+        Ok((Stepped::Error(kind), Moved::nothing()))
+    }
+}

@@ -1,0 +1,71 @@
+//! A fork.
+
+ghost use Rattle.lvish_calculus.specs.declared.request.Request.TheVariants.{Fork};
+ghost use Rattle.lvish_core.specs.Acts.{IsActing, Acts};
+
+use super::Core;
+use crate::beside::start_at;
+use crate::fault::{StepFault, Stepped};
+use crate::moved::{Made, Moved};
+use crate::stage::{Numbers, Stage};
+use crate::touched::Touched;
+use lvish_calculus::laws::lawful;
+use lvish_calculus::{ErrorKind, Meaning, Program, Reply};
+use lvish_lattice::Lattice;
+use lvish_names::{NameFault, TaskName};
+use lvish_picture::laws::{counts_follow, counts_kept, names_are_new, plain_kept, running_counts};
+use std::alloc::Global;
+
+impl<'p, P: Program> Core<'p, P> {
+    /// Adds the task's next child, in its pool, or fails where its name would be too long.
+    pub(super) fn fork(
+        &mut self,
+        alloc: Global,
+        name: &TaskName<<P::Lat as Lattice>::Event>,
+        at: &P::Local,
+        numbers: Numbers,
+        child: &P::Local,
+    ) -> Result<(Stepped, Moved<<P::Lat as Lattice>::Event, P::Local>), StepFault>
+        requires { IsActing (⟦<P as Meaning>⟧.machine self.old.program) self.old name.now at.now numbers.forks numbers.adds numbers.puts (Fork child.now) }
+        ensures { Acts (⟦<P as Meaning>⟧.machine self.old.program) self.old name.now self.new result }
+    {
+        lawful::<P>();
+        plain_kept::<P>();
+        counts_kept::<P>();
+        counts_follow::<P>();
+        names_are_new::<P>();
+        running_counts::<P>();
+        let local = self.program.resume(alloc, at, Reply::Done)?;
+        let own = self.program.copy_local(alloc, &local)?;
+        let forks = numbers.forks + 1;
+        let task = match name.child(alloc, forks) {
+            Ok(task) => task,
+            Err(NameFault::Deep) => return self.fail(alloc, name, ErrorKind::Deep, None),
+            Err(NameFault::Memory) => return Err(StepFault::Memory),
+        };
+        let made = Made {
+            name: task.copy(alloc)?,
+            local: self.program.copy_local(alloc, child)?,
+        };
+        let started = Stage::started(self.program.copy_local(alloc, child)?);
+        let place = self.place_of(alloc, name)?;
+        self.tasks.insert(task, started)?;
+        let stage = Stage::Live {
+            local,
+            forks,
+            adds: numbers.adds,
+            puts: numbers.puts,
+        };
+        self.tasks.replace(name, stage);
+        start_at(&mut self.handlers, place);
+        self.running += 1;
+        self.steps += 1;
+        self.touched = Some(Touched::Other);
+        let moved = Moved {
+            own: Some(own),
+            made: Some(made),
+            added: None,
+        };
+        Ok((Stepped::Done, moved))
+    }
+}

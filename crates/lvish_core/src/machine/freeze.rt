@@ -1,0 +1,51 @@
+//! A freeze.
+
+ghost use Rattle.std.specs.Prelude.{ℕ, List};
+ghost use Rattle.lvish_calculus.specs.declared.request.Request.TheVariants.{Freeze};
+ghost use Rattle.lvish_core.specs.Acts.{IsActing, Acts};
+
+use super::Core;
+use crate::beside::freeze_at;
+use crate::fault::{StepFault, Stepped};
+use crate::moved::Moved;
+use crate::stage::{Numbers, Stage};
+use crate::touched::Touched;
+use lvish_calculus::laws::lawful;
+use lvish_calculus::{Meaning, Program, Reply};
+use lvish_lattice::Lattice;
+use lvish_names::TaskName;
+use lvish_picture::laws::{counts_kept, freeze_kept};
+use std::alloc::Global;
+
+impl<'p, P: Program> Core<'p, P> {
+    /// Marks the variable, and tells its state.
+    pub(super) fn freeze(
+        &mut self,
+        alloc: Global,
+        name: &TaskName<<P::Lat as Lattice>::Event>,
+        at: &P::Local,
+        numbers: Numbers,
+        variable: usize,
+    ) -> Result<(Stepped, Moved<<P::Lat as Lattice>::Event, P::Local>), StepFault>
+        requires { (pools : List ℕ) × IsActing (⟦<P as Meaning>⟧.machine self.old.program) self.old name.now at.now numbers.forks numbers.adds numbers.puts (Freeze variable pools) }
+        ensures { Acts (⟦<P as Meaning>⟧.machine self.old.program) self.old name.now self.new result }
+    {
+        lawful::<P>();
+        freeze_kept::<P>();
+        counts_kept::<P>();
+        let state = self.variables[variable].state().copy(alloc)?;
+        let local = self.program.resume(alloc, at, Reply::Frozen(state))?;
+        let own = self.program.copy_local(alloc, &local)?;
+        freeze_at(&mut self.variables, alloc, variable)?;
+        let stage = Stage::Live {
+            local,
+            forks: numbers.forks,
+            adds: numbers.adds,
+            puts: numbers.puts,
+        };
+        self.tasks.replace(name, stage);
+        self.steps += 1;
+        self.touched = Some(Touched::Other);
+        Ok((Stepped::Done, Moved::own(own)))
+    }
+}

@@ -1,0 +1,34 @@
+//! A get.
+
+ghost use Rattle.lvish_calculus.specs.declared.request.Request.TheVariants.{Get};
+ghost use Rattle.lvish_core.specs.Acts.{IsActing, Acts};
+
+use super::Core;
+use crate::fault::{StepFault, Stepped};
+use crate::moved::Moved;
+use crate::stage::Numbers;
+use lvish_calculus::{Meaning, Program, Reply};
+use lvish_lattice::{Lattice, Reads};
+use lvish_names::TaskName;
+use std::alloc::Global;
+
+impl<'p, P: Program> Core<'p, P> {
+    /// Tells the answer of the read, which there is.
+    pub(super) fn get(
+        &mut self,
+        alloc: Global,
+        name: &TaskName<<P::Lat as Lattice>::Event>,
+        at: &P::Local,
+        numbers: Numbers,
+        variable: usize,
+        read: &<P::Lat as Reads>::Read,
+    ) -> Result<(Stepped, Moved<<P::Lat as Lattice>::Event, P::Local>), StepFault>
+        requires { IsActing (⟦<P as Meaning>⟧.machine self.old.program) self.old name.now at.now numbers.forks numbers.adds numbers.puts (Get variable read.now) }
+        ensures { Acts (⟦<P as Meaning>⟧.machine self.old.program) self.old name.now self.new result }
+    {
+        match self.variables[variable].read(read) {
+            Some(answer) => self.go_on(alloc, name, at, numbers, Reply::Answer(answer)),
+            None => unreachable!("the read has an answer"),
+        }
+    }
+}

@@ -1,0 +1,29 @@
+//! The pool of a task.
+
+ghost use Rattle.std.specs.Prelude.{◌≡◌, IfOk, option_and_then, option_map};
+ghost use Rattle.lvish_calculus.specs.Calculus.{IsLive};
+ghost use Rattle.lvish_core.specs.Core.{state};
+ghost use Rattle.lvish_core.specs.Places.{IsPlaceOf};
+
+use super::Core;
+use crate::place::Place;
+use lvish_calculus::{Meaning, Program};
+use lvish_lattice::Lattice;
+use lvish_names::TaskName;
+use std::alloc::{AllocError, Global};
+
+impl<'p, P: Program> Core<'p, P> {
+    /// Where the handler is in whose pool the task runs, if it runs in one.
+    pub(super) fn place_of(
+        &self,
+        alloc: Global,
+        name: &TaskName<<P::Lat as Lattice>::Event>,
+    ) -> Result<Option<Place>, AllocError>
+        ensures { IfOk result (λ o. IsPlaceOf (⟦<P as Meaning>⟧.machine self.now.program) (state (⟦<P as Meaning>⟧.machine self.now.program) self.now) name.now o) }
+    {
+        match name.pool_of(alloc)? {
+            Some(handler) => Ok(self.places.get(&handler)),
+            None => Ok(None),
+        }
+    }
+}

@@ -1,0 +1,121 @@
+//! What a core tells of itself.
+
+ghost use Rattle.std.specs.Prelude.{◌≡◌, ◌↔◌, IsTrue, IfOk};
+ghost use Rattle.lvish_calculus.specs.declared.label.Label.TheVariants.{Task as Act};
+
+use super::Core;
+use crate::runs::Runs;
+use crate::stage::Stage;
+use lvish_calculus::laws::lawful;
+use lvish_calculus::{Label, Meaning, Program, Request};
+use lvish_lattice::{Lattice, Reads};
+use lvish_names::TaskName;
+use lvish_picture::laws::{ends_by_cursors, handed_next, handlers_are_held};
+use std::alloc::{AllocError, Global};
+
+impl<'p, P: Program> Core<'p, P> {
+    /// Whether a step with the label can be made: it is enabled, and hands no event but the log's
+    /// next.
+    pub fn enabled(
+        &self,
+        alloc: Global,
+        label: &Label<<P::Lat as Lattice>::Event>,
+    ) -> Result<bool, AllocError>
+        ensures { IfOk result (λ b. IsTrue b ↔ ⟦<P as Runs>⟧.can_take self.now label.now) }
+    {
+        lawful::<P>();
+        handed_next::<P>();
+        handlers_are_held::<P>();
+        if self.fault.is_some() {
+            return Ok(false);
+        }
+        match label {
+            Label::Task(name) => match self.tasks.get(name) {
+                Some(stage) => self.is_at_ready(alloc, stage),
+                None => Ok(false),
+            },
+            Label::Hand(name, event) => match self.next(name) {
+                Some(next) => Ok(next == *event),
+                None => Ok(false),
+            },
+        }
+    }
+
+    /// The labels that a step can be made with: tasks by name, then handlers by name, each with
+    /// the next event of its variable's log.
+    pub fn labels(
+        &self,
+        alloc: Global,
+    ) -> Result<Vec<Label<<P::Lat as Lattice>::Event>>, AllocError>
+        ensures { IfOk result (λ ls. ⟦<P as Runs>⟧.are_labels self.now ls.items) }
+    {
+        lawful::<P>();
+        handed_next::<P>();
+        handlers_are_held::<P>();
+        let mut labels = Vec::new(alloc);
+        if self.fault.is_some() {
+            return Ok(labels);
+        }
+        for (task, stage) in self.tasks.iter() {
+            if self.is_at_ready(alloc, stage)? {
+                labels.push(Label::Task(task.copy(alloc)?))?;
+            }
+        }
+        for (handler, place) in self.places.iter() {
+            let variable = &self.variables[place.variable];
+            if let Some(event) = self.handlers[place.variable].next(variable, handler) {
+                labels.push(Label::Hand(handler.copy(alloc)?, event))?;
+            }
+        }
+        Ok(labels)
+    }
+
+    /// Whether a step of the task can be made, whose request this is.
+    pub fn can(
+        &self,
+        name: &TaskName<<P::Lat as Lattice>::Event>,
+        request: &Request<P::Lat, <P::Lat as Reads>::Read, P::Local>,
+    ) -> bool
+        requires { ⟦<P as Runs>⟧.is_its_request self.now name.now request.now }
+        ensures { IsTrue result ↔ ⟦<P as Runs>⟧.can_take self.now (Act name.now) }
+    {
+        if self.fault.is_some() {
+            return false;
+        }
+        match self.tasks.get(name) {
+            Some(Stage::Live { .. }) => self.is_ready(request),
+            _ => false,
+        }
+    }
+
+    /// What the task asks for; `None` where it has ended or isn't there.
+    pub fn request_of(
+        &self,
+        alloc: Global,
+        name: &TaskName<<P::Lat as Lattice>::Event>,
+    ) -> Result<Option<Request<P::Lat, <P::Lat as Reads>::Read, P::Local>>, AllocError>
+        ensures { IfOk result (λ r. r ≡ ⟦<P as Runs>⟧.request_in self.now name.now) }
+    {
+        match self.local_of(name) {
+            Some(local) => Ok(Some(self.program.ask(alloc, local)?.request)),
+            None => Ok(None),
+        }
+    }
+
+    /// Whether this is an end: no label is enabled, and no step gave an error.
+    pub fn is_ended(&self, alloc: Global) -> Result<bool, AllocError>
+        ensures { IfOk result (λ b. IsTrue b ↔ ⟦<P as Runs>⟧.is_ended self.now) }
+    {
+        lawful::<P>();
+        ends_by_cursors::<P>();
+        if self.fault.is_some() || !self.is_drained() {
+            return Ok(false);
+        }
+        for (_task, stage) in self.tasks.iter() {
+            if self.is_at_ready(alloc, stage)? {
+                return Ok(false);
+            }
+        }
+        Ok(true)
+    }
+}

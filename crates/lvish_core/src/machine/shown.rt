@@ -1,0 +1,92 @@
+//! What a core shows by reference or number.
+
+ghost use Rattle.std.specs.Prelude.{◌≡◌, ◌<◌, MatchOption, option_copied};
+ghost use Rattle.lvish_handlers.specs.Handlers.{IsByName};
+
+use super::Core;
+use crate::fault::Fault;
+use crate::runs::Runs;
+use crate::stage::Stage;
+use crate::touched::Touched;
+use lvish_calculus::laws::lawful;
+use lvish_calculus::{Meaning, Program};
+use lvish_handlers::Held;
+use lvish_lattice::Lattice;
+use lvish_names::{HandlerName, TaskName};
+use lvish_picture::laws::handlers_are_held;
+use lvish_variable::Variable;
+
+impl<'p, P: Program> Core<'p, P> {
+    /// The task's local state; `None` where it has ended or isn't there.
+    pub fn local_of(&self, name: &TaskName<<P::Lat as Lattice>::Event>) -> Option<&P::Local>
+        ensures { option_copied result ≡ ⟦<P as Runs>⟧.local_in self.now name.now }
+    {
+        match self.tasks.get(name) {
+            Some(Stage::Live { local, .. }) => Some(local),
+            _ => None,
+        }
+    }
+
+    /// The event that the handler is handed next; `None` where it was handed the whole log or
+    /// isn't there.
+    pub fn next(
+        &self,
+        name: &HandlerName<<P::Lat as Lattice>::Event>,
+    ) -> Option<<P::Lat as Lattice>::Event>
+        ensures { MatchOption result ((e : P.Lat.Event) → ⟦<P as Runs>⟧.is_next self.now name.now e → ⊥) (λ e. ⟦<P as Runs>⟧.is_next self.now name.now e) }
+    {
+        lawful::<P>();
+        handlers_are_held::<P>();
+        let Some(place) = self.places.get(name) else {
+            return None;
+        };
+        self.handlers[place.variable].next(&self.variables[place.variable], name)
+    }
+
+    /// The variable's handlers, by name.
+    pub fn handlers(&self, variable: usize) -> &[Held<<P::Lat as Lattice>::Event>]
+        requires { variable < (P.functions self.now.program).variables }
+        ensures are { ⟦<P as Runs>⟧.are_handlers self.now variable result.now }
+        ensures by_name { IsByName P.Lat.Event.cmp result.now }
+    {
+        lawful::<P>();
+        handlers_are_held::<P>();
+        self.handlers[variable].held()
+    }
+
+    /// The number of tasks that haven't ended; where there is an error, of those before it.
+    pub fn running(&self) -> usize
+        ensures { ⟦<P as Runs>⟧.has_running self.now result }
+    {
+        self.running
+    }
+
+    /// The variables; where there is an error, as they were before it.
+    pub fn states(&self) -> &[Variable<P::Lat>]
+        ensures { ⟦<P as Runs>⟧.are_states self.now result.now }
+    {
+        &self.variables
+    }
+
+    /// The number of steps made.
+    pub fn steps(&self) -> u64
+        ensures count { result ≡ self.now.steps }
+        ensures reached { ⟦<P as Runs>⟧.is_reached self.now }
+    {
+        self.steps
+    }
+
+    /// The error that a step gave.
+    pub fn fault(&self) -> Option<&Fault<<P::Lat as Lattice>::Event>>
+        ensures { option_copied result ≡ self.now.fault }
+    {
+        self.fault.as_ref()
+    }
+
+    /// What the last step concerned; `None` before any step.
+    pub fn last_touched(&self) -> Option<Touched>
+        ensures { result ≡ self.now.touched }
+    {
+        self.touched
+    }
+}

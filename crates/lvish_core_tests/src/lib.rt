@@ -1,0 +1,5 @@
+//! Tests of `lvish_core`, proved over the built crate: cores of small programs.
+#![tactic(auto)]
+
+#[cfg(test)]
+mod tests;

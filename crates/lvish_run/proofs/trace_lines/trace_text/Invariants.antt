@@ -1,0 +1,8 @@
+-- The text so far is that of the steps so far.
+use Rattle.std.proofs.Common.{◌≡◌, take, string_bytes}
+use Rattle.lvish_run.specs.Honest.{labels_of}
+use Rattle.lvish_run.specs.TraceText.{trace_lines}
+use Rattle.lvish_run.proofs.trace_lines.trace_text.Given as goal
+
+abbrev pub invariant-loop-entry : goal.invariant-loop-entry
+invariant-loop-entry g l = string_bytes l.text ≡ trace_lines g.E.Numbered.key_of g.E.Numbered.number_of (labels_of (take l.entry-index l.entry-items))

@@ -1,0 +1,27 @@
+-- What a report says of all other runs of the program.
+use Rattle.std.specs.Prelude.{◌≡◌, ℕ, List, length}
+use Rattle.lvish_calculus.specs.declared.label.Label.{Label}
+use Rattle.lvish_calculus.specs.Machine.{Machine}
+use Rattle.lvish_calculus.specs.Calculus.{Name, State, Running, IsEnd, start}
+use Rattle.lvish_calculus.specs.Laws.{Reaches, IsCrossed, FreezesAllBy, NeverErrs}
+use Rattle.lvish_calculus.specs.Live.{HasLive}
+use Rattle.lvish_run.specs.declared.report.Report.{Report}
+use Rattle.lvish_run.specs.declared.outcome.Outcome.TheVariants.{Ended}
+use Rattle.lvish_run.specs.Honest.{labels_of, AreStates}
+
+-- each run that ends without an error, and for which this holds of the report's trace and it, has the report's states, steps and blocked tasks
+abbrev pub EndsAlikeIf : {S E R A L : Type 0} → Machine S E R A L → ℕ → Report S E → (List (Label E) → List (Label E) → Type 0) → Type 0
+EndsAlikeIf {S} {E} {R} {A} {L} M variables r P = (ys : List (Label E)) (b : State S E L) → Reaches M ys b → IsEnd M b → P (labels_of r.trace) ys
+    → AreStates variables b r.states × HasLive b r.blocked × (length ys ≡ r.steps)
+
+pub record EndsAlike {S E R A L : Type 0} (M : Machine S E R A L) (variables : ℕ) (r : Report S E) : Type 0 where
+  -- the runs don't cross
+  pub uncrossed : EndsAlikeIf M variables r (λ xs ys. IsCrossed M xs ys → ⊥)
+  -- one task asks all freezes of both
+  pub one_asks : EndsAlikeIf M variables r (λ xs ys. (t : Name E) × FreezesAllBy M t (Running (start M)) xs × FreezesAllBy M t (Running (start M)) ys)
+  -- no run of the program is in error
+  pub no_error : EndsAlikeIf M variables r (λ xs ys. NeverErrs M)
+
+-- what a report of an end says of all other ends
+abbrev pub IsAlike : {S E R A L : Type 0} → Machine S E R A L → ℕ → Report S E → Type 0
+IsAlike M variables r = r.outcome ≡ Ended → EndsAlike M variables r

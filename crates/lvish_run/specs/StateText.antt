@@ -1,0 +1,55 @@
+-- How the states of variables are printed.
+use Rattle.std.specs.Prelude.{ℕ, ℤ, codes, List, ◌++◌}
+use Rattle.std.specs.List.{join_by}
+use Rattle.std.specs.Fmt.{signed_decimal}
+use Rattle.lvish_lattice.specs.declared.flat.Flat.{Flat}
+use Rattle.lvish_lattice.specs.declared.flat.Flat.TheVariants.{Bottom, Value}
+use Rattle.lvish_lattice.specs.GrowSet.{items_of}
+use Rattle.lvish_lattice.specs.MaxCounter.{number_of}
+use Rattle.lvish_compound.specs.declared.any.Any.{Any}
+use Rattle.lvish_compound.specs.declared.any.Any.TheVariants as any
+use Rattle.lvish_compound.specs.declared.part.Part.{Part}
+use Rattle.lvish_compound.specs.declared.part.Part.TheVariants as part
+use Rattle.lvish_compound.specs.MapOf.{entries_of}
+use Rattle.lvish_syntax.specs.declared.kind.SimpleKind.{SimpleKind}
+use Rattle.lvish_syntax.specs.declared.kind.SimpleKind.TheVariants.{Cell, Set, Max}
+use Rattle.lvish_syntax.specs.declared.kind.VariableKind.{VariableKind}
+use Rattle.lvish_syntax.specs.declared.kind.VariableKind.TheVariants.{Simple, Map, Pair}
+
+-- the texts of elements in braces, with one space between any two
+abbrev pub braced : {X : Type 0} → (X → List ℕ) → List X → List ℕ
+braced text xs = codes "{" ++ (join_by text (codes " ") xs ++ codes "}")
+
+-- the elements of a set
+abbrev pub set_text : List ℤ → List ℕ
+set_text ns = braced signed_decimal ns
+
+-- a key, and what a map holds there
+abbrev pub entry_text : ℤ → Flat ℤ → List ℕ
+entry_text k (Value n) = signed_decimal k ++ (codes ":" ++ signed_decimal n)
+entry_text k Bottom = signed_decimal k ++ codes ":empty"
+
+abbrev pub map_text : List (ℤ × Flat ℤ) → List ℕ
+map_text entries = braced (λ e. entry_text e.0 e.1) entries
+
+-- a cell, a set or a counter; a state of another kind is printed as bottom
+abbrev pub simple_text : SimpleKind → Part → List ℕ
+simple_text Cell (part.Cell n) = signed_decimal n
+simple_text Cell p = codes "empty"
+simple_text Set (part.Set s) = set_text (items_of s.state)
+simple_text Set p = codes "{}"
+simple_text Max (part.Max c) = signed_decimal (number_of c.state)
+simple_text Max p = codes "0"
+
+-- two sides
+abbrev pub pair_text : SimpleKind → SimpleKind → Part → Part → List ℕ
+pair_text a b one two = codes "(" ++ (simple_text a one ++ (codes ", " ++ (simple_text b two ++ codes ")")))
+
+-- a state by the kind of its variable; one of another kind is printed as bottom
+abbrev pub state_text : VariableKind → Any → List ℕ
+state_text (Simple k) (any.Part p) = simple_text k p
+state_text (Simple k) s = simple_text k part.Empty
+state_text Map (any.Map m) = map_text (entries_of m.state)
+state_text Map s = codes "{}"
+state_text (Pair a b) (any.Sides z) = pair_text a b z.pair.one z.pair.two
+state_text (Pair a b) s = pair_text a b part.Empty part.Empty

@@ -1,0 +1,16 @@
+-- The text of a trace.
+use Rattle.std.specs.Prelude.{ℕ, ℤ, codes, List, [], ◌∷◌, ◌++◌, flat_map}
+use Rattle.lvish_names.specs.Names.{handed}
+use Rattle.lvish_names.specs.NameText.{name_text}
+use Rattle.lvish_calculus.specs.declared.label.Label.{Label}
+use Rattle.lvish_calculus.specs.declared.label.Label.TheVariants.{Task as Act, Hand}
+
+module _ {E : Type 0} (key number : E → ℤ) where
+  -- the task that acts, or the one that a handing starts
+  abbrev pub label_line : Label E → List ℕ
+  label_line (Act t) = codes "run " ++ (name_text key number t ++ 10 ∷ [])
+  label_line (Hand h e) = codes "hand " ++ (name_text key number (handed h.adder h.number e) ++ 10 ∷ [])
+
+  -- a line for each step, in their order
+  abbrev pub trace_lines : List (Label E) → List ℕ
+  trace_lines labels = flat_map (label_line) labels

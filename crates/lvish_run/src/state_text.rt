@@ -1,0 +1,97 @@
+//! The texts of states, by the kinds of their variables.
+
+ghost use Rattle.std.specs.Prelude.{◌≡◌, IfOk, string_bytes};
+ghost use Rattle.lvish_compound.specs.MapOf.{entries_of};
+ghost use Rattle.lvish_run.specs.StateText.{braced, set_text, entry_text, map_text, simple_text, pair_text, state_text};
+
+use lvish_compound::{Any, MapOf, Part};
+use lvish_lattice::Flat;
+use lvish_syntax::{SimpleKind, VariableKind};
+use std::alloc::{AllocError, Global};
+
+/// The pieces in braces, with one space between any two.
+fn braced(alloc: Global, pieces: &[String]) -> Result<String, AllocError>
+    ensures { IfOk result (λ t. string_bytes t ≡ braced string_bytes pieces.now) }
+{
+    let joined = pieces.join(alloc, " ")?;
+    format!(in alloc; "{{{joined}}}")
+}
+
+/// The elements of a set in braces.
+fn set_text(alloc: Global, elements: &[i64]) -> Result<String, AllocError>
+    ensures { IfOk result (λ t. string_bytes t ≡ set_text elements.now) }
+{
+    let mut pieces = Vec::with_capacity(alloc, elements.len())?;
+    for element in elements {
+        pieces.push(format!(in alloc; "{element}")?)?;
+    }
+    braced(alloc, &pieces)
+}
+
+/// A key and what it holds.
+fn entry_text(alloc: Global, key: i64, value: &Flat<i64>) -> Result<String, AllocError>
+    ensures { IfOk result (λ t. string_bytes t ≡ entry_text key value.now) }
+{
+    match value {
+        Flat::Bottom => format!(in alloc; "{key}:empty"),
+        Flat::Value(number) => format!(in alloc; "{key}:{number}"),
+    }
+}
+
+/// The entries of a map in braces.
+fn map_text(alloc: Global, map: &MapOf<i64, Flat<i64>>) -> Result<String, AllocError>
+    ensures { IfOk result (λ t. string_bytes t ≡ map_text (entries_of map.now)) }
+{
+    let mut pieces = Vec::new(alloc);
+    for (key, value) in map.entries() {
+        pieces.push(entry_text(alloc, *key, value)?)?;
+    }
+    braced(alloc, &pieces)
+}
+
+/// The text of a cell, a set or a counter; of another state, that of bottom.
+fn simple_text(alloc: Global, kind: SimpleKind, part: &Part) -> Result<String, AllocError>
+    ensures { IfOk result (λ t. string_bytes t ≡ simple_text kind part.now) }
+{
+    match (kind, part) {
+        (SimpleKind::Cell, Part::Cell(number)) => format!(in alloc; "{number}"),
+        (SimpleKind::Cell, _) => String::from_str(alloc, "empty"),
+        (SimpleKind::Set, Part::Set(set)) => set_text(alloc, set.state().items()),
+        (SimpleKind::Set, _) => String::from_str(alloc, "{}"),
+        (SimpleKind::Max, Part::Max(counter)) => {
+            let level = counter.state().get();
+            format!(in alloc; "{level}")
+        }
+        (SimpleKind::Max, _) => String::from_str(alloc, "0"),
+    }
+}
+
+/// The text of two sides.
+fn pair_text(
+    alloc: Global,
+    kinds: (SimpleKind, SimpleKind),
+    one: &Part,
+    two: &Part,
+) -> Result<String, AllocError>
+    ensures { IfOk result (λ t. string_bytes t ≡ pair_text kinds.0 kinds.1 one.now two.now) }
+{
+    let one = simple_text(alloc, kinds.0, one)?;
+    let two = simple_text(alloc, kinds.1, two)?;
+    format!(in alloc; "({one}, {two})")
+}
+
+/// The text of a state by the kind of its variable; of a state of another kind, that of bottom.
+pub fn state_text(alloc: Global, kind: VariableKind, state: &Any) -> Result<String, AllocError>
+    ensures { IfOk result (λ t. string_bytes t ≡ state_text kind state.now) }
+{
+    match (kind, state) {
+        (VariableKind::Simple(kind), Any::Part(part)) => simple_text(alloc, kind, part),
+        (VariableKind::Simple(kind), _) => simple_text(alloc, kind, &Part::Empty),
+        (VariableKind::Map, Any::Map(map)) => map_text(alloc, map.state()),
+        (VariableKind::Map, _) => String::from_str(alloc, "{}"),
+        (VariableKind::Pair(a, b), Any::Sides(sides)) => {
+            pair_text(alloc, (a, b), &sides.pair().one, &sides.pair().two)
+        }
+        (VariableKind::Pair(a, b), _) => { pair_text(alloc, (a, b), &Part::Empty, &Part::Empty) }
+    }
+}

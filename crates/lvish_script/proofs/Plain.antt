@@ -1,0 +1,264 @@
+-- Words that can stand in a line: no separator, no line feed and no comment's beginning in them.
+use Rattle.std.proofs.Common.{◌≡◌, cond, ℕ, suc, ◌^◌, ◌<◌, Bool, true, false, not, ◌||◌, ◌&&◌, List, [], ◌∷◌, ◌++◌, length, map, Option, Some, None, refl, ap, ◌∙◌, arith}
+use Rattle.std.specs.Prelude.{nat_le, nat_lt, ◌==◌, ℤ, pos, negsuc, filter, take_while}
+use Rattle.std.specs.List.{list_any, list_all, slice_split, onto_first}
+use Rattle.std.specs.Str.{all_ascii_digits}
+use Rattle.std.specs.Str.Parse.{digits_value}
+use Rattle.std.specs.Fmt.{decimal, signed_decimal}
+use Rattle.std.proofs.lemmas.Fmt.{digits_decimal, digits_value-decimal, decimal_is_IsNumeral}
+use Rattle.std.proofs.lemmas.Str.Parse.{IsNumeralModel, numerals_by_value, tells_all_ascii_digits}
+use Rattle.std.proofs.lemmas.Bool.Decides.{nat_tests}
+use Rattle.std.proofs.lemmas.List.{append-nil}
+use Rattle.std.proofs.lemmas.List.Folds.{list_any-append}
+use Rattle.std.proofs.lemmas.List.Sums.{take_while-cons}
+use Rattle.std.proofs.lemmas.List.Splits.{slice_split-cons_yes, slice_split-cons_no}
+use lib.IntN.{neg_ℤ}
+use Rattle.lvish_syntax.specs.Words.{Word, is_name, is_name_byte, is_letter, is_digit, is_reserved}
+use Rattle.lvish_syntax.specs.Written.{is_within, is_term_written}
+use Rattle.lvish_syntax.specs.declared.term.Term.{Term}
+use Rattle.lvish_syntax.specs.declared.term.Term.TheVariants.{Local, Number}
+use Rattle.lvish_script.specs.Text.{is_separator, is_comment, is_foreign, words_of}
+use Rattle.lvish_script.specs.Form.{is_number_word, is_numeral, number_of, value_of_number, number_word, term_of, is_bad_number, all_of}
+use Rattle.lvish_script.specs.Canonical.{term_word, spaced, joined}
+use Rattle.lvish_script.proofs.Cuts.{neither, both_hold, left_fails, right_fails}
+use Rattle.lvish_script.proofs.Bodies.{first_holds, second_holds}
+
+-- a byte of a word
+abbrev pub is_plain_byte : ℕ → Bool
+is_plain_byte b = nat_le 33 b && nat_le b 126
+
+-- a word that a line can have
+abbrev pub is_plain : Word → Bool
+is_plain [] = false
+is_plain (b ∷ bs) = not (b == 35) && list_all is_plain_byte (b ∷ bs)
+
+-- ---- names
+
+name_byte_plain : (b : ℕ) → is_name_byte b ≡ true → is_plain_byte b ≡ true
+name_byte_plain b e = grind (arith, nat_tests)
+
+name_bytes_plain : (w : Word) → list_all is_name_byte w ≡ true → list_all is_plain_byte w ≡ true
+name_bytes_plain [] e = refl
+name_bytes_plain (b ∷ w) e = both_hold (is_plain_byte b) _ (name_byte_plain b (first_holds (is_name_byte b) _ e)) (name_bytes_plain w (second_holds (is_name_byte b) _ e))
+
+letter_begins : (b : ℕ) → is_letter b ≡ true → not (b == 35) ≡ true
+letter_begins b e = grind (arith, nat_tests)
+
+letter_no_number : (b : ℕ) (t : Bool) → is_letter b ≡ true → (is_digit b || (b == 45 && t)) ≡ false
+letter_no_number b true e = grind (arith, nat_tests)
+letter_no_number b false e = grind (arith, nat_tests)
+
+pub name_plain : (w : Word) → is_name w ≡ true → is_plain w ≡ true
+unfolding is_name
+name_plain [] e = absurd cc
+name_plain (b ∷ w) e =
+    let all : (is_letter b && nat_le (length (b ∷ w)) 32 && list_all is_name_byte (b ∷ w) && not (is_reserved (b ∷ w))) ≡ true = e in
+    let three = first_holds (is_letter b && nat_le (length (b ∷ w)) 32 && list_all is_name_byte (b ∷ w)) _ all in
+    let two = first_holds (is_letter b && nat_le (length (b ∷ w)) 32) _ three in
+    both_hold (not (b == 35)) _ (letter_begins b (first_holds (is_letter b) _ two)) (name_bytes_plain (b ∷ w) (second_holds (is_letter b && nat_le (length (b ∷ w)) 32) _ three))
+
+pub name_no_number : (w : Word) → is_name w ≡ true → is_number_word w ≡ false
+unfolding is_name
+name_no_number [] e = refl
+name_no_number (b ∷ w) e =
+    let all : (is_letter b && nat_le (length (b ∷ w)) 32 && list_all is_name_byte (b ∷ w) && not (is_reserved (b ∷ w))) ≡ true = e in
+    let three = first_holds (is_letter b && nat_le (length (b ∷ w)) 32 && list_all is_name_byte (b ∷ w)) _ all in
+    let two = first_holds (is_letter b && nat_le (length (b ∷ w)) 32) _ three in
+    letter_no_number b (not (length w == 0)) (first_holds (is_letter b) _ two)
+
+-- ---- numbers
+
+own : IsNumeralModel (λ ds. all_ascii_digits ds ≡ true) (digits_value 10)
+own = numerals_by_value _ tells_all_ascii_digits
+
+some_length : (ds : List ℕ) → 0 < length ds → not (length ds == 0) ≡ true
+some_length [] h = absurd (omega arith)
+some_length (d ∷ ds) h = grind (arith, nat_tests)
+
+digit_plain : (d : ℕ) (t : Bool) → ((nat_le 48 d && nat_le d 57) && t) ≡ true → is_plain_byte d ≡ true
+digit_plain d true e = grind (arith, nat_tests)
+digit_plain d false e = grind (arith, nat_tests)
+
+digits_plain : (ds : List ℕ) → all_ascii_digits ds ≡ true → list_all is_plain_byte ds ≡ true
+digits_plain [] e = refl
+digits_plain (d ∷ ds) e = both_hold (is_plain_byte d) _ (digit_plain d (all_ascii_digits ds) e) (digits_plain ds (second_holds _ (all_ascii_digits ds) e))
+
+below : (n : ℕ) → nat_lt n (2 ^ 63) ≡ true → n < 2 ^ 64
+below n e = grind (arith, nat_tests)
+
+above : (n : ℕ) → nat_lt n (2 ^ 63) ≡ true → suc n < 2 ^ 64
+above n e = grind (arith, nat_tests)
+
+up_to : (n : ℕ) → nat_lt n (2 ^ 63) ≡ true → nat_le (suc n) (2 ^ 63) ≡ true
+up_to n e = grind (arith, nat_tests)
+
+decimal_numeral : (n : ℕ) → n < 2 ^ 64 → is_numeral (decimal n) ≡ true
+decimal_numeral n h = both_hold (not (length (decimal n) == 0)) _ (some_length (decimal n) (decimal_is_IsNumeral n h).0.0) (digits_decimal own n h)
+
+decimal_value : (n : ℕ) → n < 2 ^ 64 → digits_value 10 (decimal n) ≡ n
+decimal_value n h = digits_value-decimal own n h
+
+-- digits do not begin as a negative number does, nor as a comment
+digits_number : (ds : List ℕ) → is_numeral ds ≡ true → nat_lt (digits_value 10 ds) (2 ^ 63) ≡ true → number_of ds ≡ Some (pos (digits_value 10 ds))
+digits_number [] e f = absurd cc
+digits_number (d ∷ ds) e f =
+    let no_minus : (d == 45) ≡ false = no_sign d (all_ascii_digits ds) (second_holds (not (length (d ∷ ds) == 0)) _ e) in
+    let test : (is_numeral (d ∷ ds) && nat_lt (digits_value 10 (d ∷ ds)) (2 ^ 63)) ≡ true = both_hold (is_numeral (d ∷ ds)) _ e f in
+    rw no_minus (ap (λ b. cond b (Some (pos (digits_value 10 (d ∷ ds)))) None) test)
+  where
+    no_sign : (d : ℕ) (t : Bool) → ((nat_le 48 d && nat_le d 57) && t) ≡ true → (d == 45) ≡ false
+    no_sign d true e = grind (arith, nat_tests)
+    no_sign d false e = grind (arith, nat_tests)
+
+digits_word : (ds : List ℕ) → is_numeral ds ≡ true → is_number_word ds ≡ true
+digits_word [] e = absurd cc
+digits_word (d ∷ ds) e = is_word d (all_ascii_digits ds) (d == 45 && not (length ds == 0)) (second_holds (not (length (d ∷ ds) == 0)) _ e)
+  where
+    is_word : (d : ℕ) (t u : Bool) → ((nat_le 48 d && nat_le d 57) && t) ≡ true → (is_digit d || u) ≡ true
+    is_word d true true e = grind (arith, nat_tests)
+    is_word d true false e = grind (arith, nat_tests)
+    is_word d false u e = grind (arith, nat_tests)
+
+digits_begin : (ds : List ℕ) → is_numeral ds ≡ true → is_plain ds ≡ true
+digits_begin [] e = absurd cc
+digits_begin (d ∷ ds) e =
+    let all = second_holds (not (length (d ∷ ds) == 0)) _ e in
+    both_hold (not (d == 35)) _ (no_hash d (all_ascii_digits ds) all) (digits_plain (d ∷ ds) all)
+  where
+    no_hash : (d : ℕ) (t : Bool) → ((nat_le 48 d && nat_le d 57) && t) ≡ true → not (d == 35) ≡ true
+    no_hash d true e = grind (arith, nat_tests)
+    no_hash d false e = grind (arith, nat_tests)
+
+-- the number that a number's decimal form writes
+pub number_back : (z : ℤ) → is_within z ≡ true → number_of (signed_decimal z) ≡ Some z
+number_back (pos n) e =
+    let small = below n e in
+    digits_number (decimal n) (decimal_numeral n small) (ap (λ m. nat_lt m (2 ^ 63)) (decimal_value n small) ∙ e) ∙ ap (λ m. Some (pos m)) (decimal_value n small)
+number_back (negsuc n) e =
+    let small = above n e in
+    let test : (is_numeral (decimal (suc n)) && nat_le (digits_value 10 (decimal (suc n))) (2 ^ 63)) ≡ true = both_hold (is_numeral (decimal (suc n))) _ (decimal_numeral (suc n) small) (ap (λ m. nat_le m (2 ^ 63)) (decimal_value (suc n) small) ∙ up_to n e) in
+    ap (λ b. cond b (Some (neg_ℤ (pos (digits_value 10 (decimal (suc n)))))) None) test ∙ ap (λ m. Some (neg_ℤ (pos m))) (decimal_value (suc n) small)
+
+pub number_is_word : (z : ℤ) → is_within z ≡ true → is_number_word (signed_decimal z) ≡ true
+number_is_word (pos n) e = digits_word (decimal n) (decimal_numeral n (below n e))
+number_is_word (negsuc n) e = some_length (decimal (suc n)) (decimal_is_IsNumeral (suc n) (above n e)).0.0
+
+pub number_plain : (z : ℤ) → is_within z ≡ true → is_plain (signed_decimal z) ≡ true
+number_plain (pos n) e = digits_begin (decimal n) (decimal_numeral n (below n e))
+number_plain (negsuc n) e = digits_plain (decimal (suc n)) (digits_decimal own (suc n) (above n e))
+
+value_back : (z : ℤ) → is_within z ≡ true → value_of_number (signed_decimal z) ≡ z
+value_back z e = rw (number_back z e) refl
+
+pub word_back : (z : ℤ) → is_within z ≡ true → number_word (signed_decimal z) ≡ Some z
+word_back z e = rw (number_is_word z e) (ap Some (value_back z e))
+
+-- ---- terms
+
+pub term_back : (t : Term) → is_term_written t ≡ true → term_of (term_word t) ≡ Some t
+term_back (Local x) e = rw (name_no_number x e, e) refl
+term_back (Number z) e = rw (number_is_word z e) (ap (λ y. Some (Number y)) (value_back z e))
+
+pub term_plain : (t : Term) → is_term_written t ≡ true → is_plain (term_word t) ≡ true
+term_plain (Local x) e = name_plain x e
+term_plain (Number z) e = number_plain z e
+
+-- a name is no bad number
+pub name_good : (w : Word) → is_name w ≡ true → is_bad_number w ≡ false
+name_good w e = rw (name_no_number w e) refl
+
+pub number_good : (z : ℤ) → is_within z ≡ true → is_bad_number (signed_decimal z) ≡ false
+number_good z e = rw (number_is_word z e, number_back z e) refl
+
+pub term_good : (t : Term) → is_term_written t ≡ true → is_bad_number (term_word t) ≡ false
+term_good (Local x) e = name_good x e
+term_good (Number z) e = number_good z e
+
+-- words that were written of values give them back
+pub all_back : {X : Type 0} (f : Word → Option X) (g : X → Word) (p : X → Bool) → ((x : X) → p x ≡ true → f (g x) ≡ Some x) → (xs : List X) → list_all p xs ≡ true → all_of f (map g xs) ≡ Some xs
+all_back f g p h [] e = refl
+all_back f g p h (x ∷ xs) e = rw (h x (first_holds (p x) _ e), all_back f g p h xs (second_holds (p x) _ e)) refl
+
+pub all_map : {X : Type 0} (g : X → Word) (p : X → Bool) (q : Word → Bool) → ((x : X) → p x ≡ true → q (g x) ≡ true) → (xs : List X) → list_all p xs ≡ true → list_all q (map g xs) ≡ true
+all_map g p q h [] e = refl
+all_map g p q h (x ∷ xs) e = both_hold (q (g x)) _ (h x (first_holds (p x) _ e)) (all_map g p q h xs (second_holds (p x) _ e))
+
+pub all_same : {X : Type 0} (p q : X → Bool) → ((x : X) → p x ≡ true → q x ≡ true) → (xs : List X) → list_all p xs ≡ true → list_all q xs ≡ true
+all_same p q h [] e = refl
+all_same p q h (x ∷ xs) e = both_hold (q x) _ (h x (first_holds (p x) _ e)) (all_same p q h xs (second_holds (p x) _ e))
+
+-- ---- the words of a line that is written
+
+plain_no : (b : ℕ) → is_plain_byte b ≡ true → is_separator b ≡ false
+plain_no b e = grind (arith, nat_tests)
+
+plain_feed : (b : ℕ) → is_plain_byte b ≡ true → (b == 10) ≡ false
+plain_feed b e = grind (arith, nat_tests)
+
+module _ (p : ℕ → Bool) (h : (b : ℕ) → is_plain_byte b ≡ true → p b ≡ false) where
+  pub none_in : (w : List ℕ) → list_all is_plain_byte w ≡ true → list_any p w ≡ false
+  none_in [] e = refl
+  none_in (b ∷ w) e = neither (p b) _ (h b (first_holds (is_plain_byte b) _ e)) (none_in w (second_holds (is_plain_byte b) _ e))
+
+bytes_of : (w : Word) → is_plain w ≡ true → list_all is_plain_byte w ≡ true
+bytes_of [] e = refl
+bytes_of (b ∷ w) e = second_holds (not (b == 35)) _ e
+
+-- a list is cut at the first byte that passes
+pub split_at : (p : ℕ → Bool) (xs : List ℕ) (y : ℕ) (ys : List ℕ) → list_any p xs ≡ false → p y ≡ true → slice_split p (xs ++ y ∷ ys) ≡ xs ∷ slice_split p ys
+split_at p [] y ys none e = slice_split-cons_yes p y ys e
+split_at p (x ∷ xs) y ys none e = slice_split-cons_no p x (xs ++ y ∷ ys) (left_fails (p x) _ none) ∙ ap (onto_first x) (split_at p xs y ys (right_fails (p x) _ none) e)
+
+pub split_none : (p : ℕ → Bool) (xs : List ℕ) → list_any p xs ≡ false → slice_split p xs ≡ xs ∷ []
+split_none p [] none = refl
+split_none p (x ∷ xs) none = slice_split-cons_no p x xs (left_fails (p x) _ none) ∙ ap (onto_first x) (split_none p xs (right_fails (p x) _ none))
+
+split_words : (w : Word) (ws : List Word) → list_all is_plain (w ∷ ws) ≡ true → slice_split is_separator (w ++ spaced ws) ≡ w ∷ ws
+split_words w [] e = ap (slice_split is_separator) (append-nil w) ∙ split_none is_separator w (none_in is_separator plain_no w (bytes_of w (first_holds (is_plain w) _ e)))
+split_words w (v ∷ ws) e =
+    split_at is_separator w 32 (v ++ spaced ws) (none_in is_separator plain_no w (bytes_of w (first_holds (is_plain w) _ e))) refl
+    ∙ ap (λ t. w ∷ t) (split_words v ws (second_holds (is_plain w) _ e))
+
+kept_words : (ws : List Word) → list_all is_plain ws ≡ true → filter (λ w. not (length w == 0)) ws ≡ ws
+kept_words [] e = refl
+kept_words ([] ∷ ws) e = absurd cc
+kept_words ((b ∷ w) ∷ ws) e = keep (not (length (b ∷ w) == 0)) (some_length (b ∷ w) (omega arith)) ∙ ap (λ t. (b ∷ w) ∷ t) (kept_words ws (second_holds (is_plain (b ∷ w)) _ e))
+  where
+    keep : (t : Bool) → t ≡ true → cond t ((b ∷ w) ∷ filter (λ w. not (length w == 0)) ws) (filter (λ w. not (length w == 0)) ws) ≡ (b ∷ w) ∷ filter (λ w. not (length w == 0)) ws
+    keep true f = refl
+    keep false f = absurd cc
+
+all_words : (ws : List Word) → list_all is_plain ws ≡ true → take_while (λ w. not (is_comment w)) ws ≡ ws
+all_words [] e = refl
+all_words ([] ∷ ws) e = absurd cc
+all_words ((b ∷ w) ∷ ws) e =
+    take_while-cons (λ w. not (is_comment w)) (b ∷ w) ws
+    ∙ ap (λ t. cond t ((b ∷ w) ∷ take_while (λ w. not (is_comment w)) ws) []) (first_holds (not (b == 35)) _ (first_holds (is_plain (b ∷ w)) _ e))
+    ∙ ap (λ t. (b ∷ w) ∷ t) (all_words ws (second_holds (is_plain (b ∷ w)) _ e))
+
+-- the words of plain words in one line
+pub words_back : (w : Word) (ws : List Word) → list_all is_plain (w ∷ ws) ≡ true → words_of (joined (w ∷ ws)) ≡ w ∷ ws
+words_back w ws e =
+    ap (λ t. take_while (λ v. not (is_comment v)) (filter (λ v. not (length v == 0)) t)) (split_words w ws e)
+    ∙ ap (take_while (λ v. not (is_comment v))) (kept_words (w ∷ ws) e)
+    ∙ all_words (w ∷ ws) e
+
+-- a test that no byte of a plain word passes, and no space
+module _ (p : ℕ → Bool) (h : (b : ℕ) → is_plain_byte b ≡ true → p b ≡ false) (space : p 32 ≡ false) where
+  none_spaced : (ws : List Word) → list_all is_plain ws ≡ true → list_any p (spaced ws) ≡ false
+  none_spaced [] e = refl
+  none_spaced (w ∷ ws) e =
+      neither (p 32) _ space (list_any-append p w (spaced ws) ∙ neither (list_any p w) _ (none_in p h w (bytes_of w (first_holds (is_plain w) _ e))) (none_spaced ws (second_holds (is_plain w) _ e)))
+
+  pub none_joined : (ws : List Word) → list_all is_plain ws ≡ true → list_any p (joined ws) ≡ false
+  none_joined [] e = refl
+  none_joined (w ∷ ws) e = list_any-append p w (spaced ws) ∙ neither (list_any p w) _ (none_in p h w (bytes_of w (first_holds (is_plain w) _ e))) (none_spaced ws (second_holds (is_plain w) _ e))
+
+plain_known : (b : ℕ) → is_plain_byte b ≡ true → is_foreign b ≡ false
+plain_known b e = grind (arith, nat_tests)
+
+pub no_foreign : (ws : List Word) → list_all is_plain ws ≡ true → list_any is_foreign (joined ws) ≡ false
+no_foreign ws e = none_joined is_foreign plain_known refl ws e
+
+pub no_feed : (ws : List Word) → list_all is_plain ws ≡ true → list_any (λ b. b == 10) (joined ws) ≡ false
+no_feed ws e = none_joined (λ b. b == 10) plain_feed refl ws e

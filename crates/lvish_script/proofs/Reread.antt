@@ -1,0 +1,175 @@
+-- What the words of a line that is written say: the line.
+use Rattle.std.proofs.Common.{◌≡◌, ℕ, suc, Bool, true, false, cond, ◌&&◌, List, [], ◌∷◌, ◌++◌, length, map, drop, Some, None, refl, sym, ap, ◌∙◌, arith}
+use Rattle.std.specs.Prelude.{codes, ◌==◌, take_while, ℤ, if◌then◌else◌}
+use Rattle.std.specs.Option.{option_map}
+use Rattle.std.specs.List.{list_all}
+use Rattle.std.proofs.Math.Seq.{drop-append_seam}
+use Rattle.std.proofs.lemmas.List.{append-nil}
+use Rattle.std.proofs.lemmas.List.Sums.{take_while-cons}
+use Rattle.std.proofs.lemmas.Bool.Decides.{nat_tests}
+use Rattle.std.specs.Fmt.{signed_decimal}
+use Rattle.lvish_syntax.specs.Words.{Word, is_name}
+use Rattle.lvish_syntax.specs.Written.{is_within, is_term_written, is_value_written, is_threshold_written, are_members_written, is_command_written}
+use Rattle.lvish_syntax.specs.declared.kind.SimpleKind.{SimpleKind}
+use Rattle.lvish_syntax.specs.declared.kind.SimpleKind.TheVariants.{Cell, Set, Max}
+use Rattle.lvish_syntax.specs.declared.kind.VariableKind.TheVariants.{Simple, Map, Pair}
+use Rattle.lvish_syntax.specs.declared.operator.Operator.{Operator}
+use Rattle.lvish_syntax.specs.declared.operator.Operator.TheVariants.{Add, Subtract, Multiply, Divide, Remainder, Less, Equal}
+use Rattle.lvish_syntax.specs.declared.term.Term.{Term}
+use Rattle.lvish_syntax.specs.declared.value.Value.{Value}
+use Rattle.lvish_syntax.specs.declared.value.Value.TheVariants.{Same, Combined}
+use Rattle.lvish_syntax.specs.declared.threshold.Threshold.{Threshold}
+use Rattle.lvish_syntax.specs.declared.threshold.Threshold.TheVariants.{Any, In, Has, Least}
+use Rattle.lvish_syntax.specs.declared.declaration.Declaration.TheVariants.{Variable, Pool}
+use Rattle.lvish_syntax.specs.declared.command.Command.{Command}
+use Rattle.lvish_syntax.specs.declared.command.Command.TheVariants.{Let, Put, PutAt, Get, GetAt, Fork, Call, Handle, Freeze, FreezeEach}
+use Rattle.lvish_script.specs.declared.line.Line.{Line}
+use Rattle.lvish_script.specs.declared.line.Line.TheVariants as line
+use Rattle.lvish_script.specs.Form.{term_of, number_word, operator_of, value_of, threshold_of, get_of, freeze_each, freeze_after, freeze_of, simple_kind, variable_line, pair_line, pool_line, proc_line, let_line, put_line, get_line, run_line, handle_line, freeze_line, block_line, bare_line, line_of}
+use Rattle.lvish_script.specs.Canonical.{term_word, kind_word, operator_word, value_words, threshold_words, pool_words, command_words, line_words}
+use Rattle.lvish_script.proofs.Bodies.{first_holds, second_holds}
+use Rattle.lvish_script.proofs.Soundness.{is_line_written}
+use Rattle.lvish_script.proofs.Plain.{term_back, word_back, all_back}
+
+-- ---- parts of lines
+
+kind_back : (k : SimpleKind) → simple_kind (kind_word k) ≡ Some k
+kind_back Cell = refl
+kind_back Set = refl
+kind_back Max = refl
+
+operator_back : (o : Operator) → operator_of (operator_word o) ≡ Some o
+operator_back Add = refl
+operator_back Subtract = refl
+operator_back Multiply = refl
+operator_back Divide = refl
+operator_back Remainder = refl
+operator_back Less = refl
+operator_back Equal = refl
+
+value_back : (v : Value) → is_value_written v ≡ true → value_of (value_words v) ≡ Some v
+value_back (Same t) e = rw (term_back t e) refl
+value_back (Combined a o b) e = rw (term_back a (first_holds (is_term_written a) _ e), operator_back o, term_back b (second_holds (is_term_written a) _ e)) refl
+
+members_back : (zs : List ℤ) → are_members_written zs ≡ true → threshold_of (codes "in" ∷ map signed_decimal zs) ≡ Some (In zs)
+members_back [] e = absurd cc
+members_back (z ∷ zs) e =
+    let some : (length (map signed_decimal (z ∷ zs)) == 0) ≡ false = not_nil (length (map signed_decimal zs)) in
+    rw some (ap (λ o. option_map (λ ys. In ys) o) (all_back number_word signed_decimal is_within word_back (z ∷ zs) e))
+  where
+    not_nil : (n : ℕ) → (suc n == 0) ≡ false
+    not_nil n = grind (arith, nat_tests)
+
+threshold_back : (r : Threshold) → is_threshold_written r ≡ true → threshold_of (threshold_words r) ≡ Some r
+threshold_back Any e = refl
+threshold_back (In zs) e = members_back zs e
+threshold_back (Has t) e = rw (term_back t e) refl
+threshold_back (Least t) e = rw (term_back t e) refl
+
+-- the words that begin a threshold are no terms
+no_any : term_of (codes "any") ≡ None
+unfolding is_name
+no_any = refl
+
+no_in : term_of (codes "in") ≡ None
+unfolding is_name
+no_in = refl
+
+no_has : term_of (codes "has") ≡ None
+unfolding is_name
+no_has = refl
+
+no_least : term_of (codes "least") ≡ None
+unfolding is_name
+no_least = refl
+
+each_no_name : is_name (codes "each") ≡ false
+unfolding is_name
+each_no_name = refl
+
+get_back : (x v : Word) (r : Threshold) → is_threshold_written r ≡ true → get_of x v (threshold_words r) ≡ Some (Get x v r)
+get_back x v Any e = rw no_any refl
+get_back x v (In zs) e = rw no_in (ap (option_map (λ r. Get x v r)) (threshold_back (In zs) e))
+get_back x v (Has t) e = rw no_has (ap (option_map (λ r. Get x v r)) (threshold_back (Has t) e))
+get_back x v (Least t) e = rw no_least (ap (option_map (λ r. Get x v r)) (threshold_back (Least t) e))
+
+get_at_back : (x v : Word) (k : Term) (r : Threshold) → is_term_written k ≡ true → is_threshold_written r ≡ true → get_of x v (term_word k ∷ threshold_words r) ≡ Some (GetAt x v k r)
+get_at_back x v k r e f = rw (term_back k e, threshold_back r f) refl
+
+-- names before a word that is none
+names_before : (ps rest : List Word) → list_all is_name ps ≡ true → take_while is_name rest ≡ [] → take_while is_name (ps ++ rest) ≡ ps
+names_before [] rest e f = f
+names_before (p ∷ ps) rest e f =
+    take_while-cons is_name p (ps ++ rest) ∙ ap (λ b. cond b (p ∷ take_while is_name (ps ++ rest)) []) (first_holds (is_name p) _ e)
+    ∙ ap (λ t. p ∷ t) (names_before ps rest (second_holds (is_name p) _ e) f)
+
+after_back : (x v p : Word) (ps rest : List Word) → list_all is_name (p ∷ ps) ≡ true → take_while is_name rest ≡ [] → freeze_after x v ((p ∷ ps) ++ rest) ≡ freeze_each x v (p ∷ ps) rest
+after_back x v p ps rest e f =
+    let taken : take_while is_name ((p ∷ ps) ++ rest) ≡ p ∷ ps = names_before (p ∷ ps) rest e f in
+    let some : (length (p ∷ ps) == 0) ≡ false = not_nil (length ps) in
+    ap (λ t. if length t == 0 then None else freeze_each x v t (drop (length t) ((p ∷ ps) ++ rest))) taken
+    ∙ ap (λ b. if b then None else freeze_each x v (p ∷ ps) (drop (length (p ∷ ps)) ((p ∷ ps) ++ rest))) some
+    ∙ ap (freeze_each x v (p ∷ ps)) (drop-append_seam (p ∷ ps) rest)
+  where
+    not_nil : (n : ℕ) → (suc n == 0) ≡ false
+    not_nil n = grind (arith, nat_tests)
+
+none_taken : (n : Word) → take_while is_name (codes "each" ∷ n ∷ []) ≡ []
+none_taken n = take_while-cons is_name (codes "each") (n ∷ []) ∙ ap (λ b. cond b (codes "each" ∷ take_while is_name (n ∷ [])) []) each_no_name
+
+freeze_back : (x v : Word) (ps : List Word) → list_all is_name ps ≡ true → freeze_of x v (pool_words ps) ≡ Some (Freeze x v ps)
+freeze_back x v [] e = refl
+freeze_back x v (p ∷ ps) e = ap (λ t. freeze_after x v (p ∷ t)) (sym (append-nil ps)) ∙ after_back x v p ps [] e refl
+
+freeze_each_back : (x v : Word) (ps : List Word) (n : Word) → list_all is_name ps ≡ true → is_name n ≡ true → freeze_of x v (pool_words ps ++ codes "each" ∷ n ∷ []) ≡ Some (FreezeEach x v ps n)
+freeze_each_back x v [] n e f = rw f refl
+freeze_each_back x v (p ∷ ps) n e f = after_back x v p ps (codes "each" ∷ n ∷ []) e (none_taken n) ∙ rw f refl
+
+-- ---- lines
+
+run_back : (f : Word → List Term → Command) (n : Word) (ts : List Term) → is_name n ≡ true → list_all is_term_written ts ≡ true → run_line f (n ∷ map term_word ts) ≡ line.Do (f n ts)
+unfolding run_line
+run_back f n ts e g = rw (e, all_back term_of term_word is_term_written term_back ts g) refl
+
+command_back : (c : Command) → is_command_written c ≡ true → line_of (command_words c) ≡ line.Do c
+unfolding let_line put_line get_line handle_line freeze_line
+command_back (Let x v) e = rw (first_holds (is_name x) _ e, value_back v (second_holds (is_name x) _ e)) refl
+command_back (Put v t) e = rw (first_holds (is_name v) _ e, term_back t (second_holds (is_name v) _ e)) refl
+command_back (PutAt v k t) e =
+    let both = second_holds (is_name v) _ e in
+    rw (first_holds (is_name v) _ e, term_back k (first_holds (is_term_written k) _ both), term_back t (second_holds (is_term_written k) _ both)) refl
+command_back (Get x v r) e = rw (first_holds (is_name x && is_name v) _ e, get_back x v r (second_holds (is_name x && is_name v) _ e)) refl
+command_back (GetAt x v k r) e =
+    let both = second_holds (is_name x && is_name v) _ e in
+    rw (first_holds (is_name x && is_name v) _ e, get_at_back x v k r (first_holds (is_term_written k) _ both) (second_holds (is_term_written k) _ both)) refl
+command_back (Fork n ts) e = run_back (λ n ts. Fork n ts) n ts (first_holds (is_name n) _ e) (second_holds (is_name n) _ e)
+command_back (Call n ts) e = run_back (λ n ts. Call n ts) n ts (first_holds (is_name n) _ e) (second_holds (is_name n) _ e)
+command_back (Handle p n) e = rw e refl
+command_back (Freeze x v ps) e = rw (first_holds (is_name x && is_name v) _ e, freeze_back x v ps (second_holds (is_name x && is_name v) _ e)) refl
+command_back (FreezeEach x v ps n) e =
+    let both = second_holds (is_name x && is_name v) _ e in
+    rw (first_holds (is_name x && is_name v) _ e, freeze_each_back x v ps n (first_holds (list_all is_name ps) _ both) (second_holds (list_all is_name ps) _ both)) refl
+
+-- a line of a script is neither blank nor bad
+abbrev pub is_good : Line → Bool
+is_good line.Blank = false
+is_good line.Bad = false
+is_good l = true
+
+-- a line that is written says itself again
+pub line_back : (l : Line) → is_line_written l ≡ true → is_good l ≡ true → line_of (line_words l) ≡ l
+unfolding variable_line pair_line pool_line proc_line block_line bare_line
+line_back line.Blank e g = absurd cc
+line_back line.Bad e g = absurd cc
+line_back (line.Declare (Variable n (Simple Cell))) e g = rw e refl
+line_back (line.Declare (Variable n (Simple Set))) e g = rw e refl
+line_back (line.Declare (Variable n (Simple Max))) e g = rw e refl
+line_back (line.Declare (Variable n Map)) e g = rw e refl
+line_back (line.Declare (Variable n (Pair a b))) e g = rw (e, kind_back a, kind_back b) refl
+line_back (line.Declare (Pool p v)) e g = rw e refl
+line_back (line.Proc n xs) e g = rw e refl
+line_back (line.Do c) e g = command_back c e
+line_back (line.If t) e g = rw (term_back t e) refl
+line_back (line.While t) e g = rw (term_back t e) refl
+line_back line.Else e g = refl
+line_back line.End e g = refl

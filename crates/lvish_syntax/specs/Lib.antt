@@ -1,0 +1,6 @@
+pub mod Equality
+pub mod Words
+pub mod Name
+pub mod Nested
+pub mod Written
+pub mod Sound

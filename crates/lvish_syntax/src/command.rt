@@ -1,0 +1,87 @@
+ghost use Rattle.std.specs.Prelude.{◌≡◌, IfOk};
+
+use crate::name::Name;
+use crate::names::Names;
+use crate::term::Term;
+use crate::terms::Terms;
+use crate::threshold::Threshold;
+use crate::value::Value;
+use std::alloc::{AllocError, Global};
+
+/// A statement of one line.
+#[derive(Debug, Drop)]
+pub enum Command {
+    /// `let`: the local takes the value.
+    Let(Name, Value),
+    /// `put`: puts the term's value into the variable, a cell, a set or a counter.
+    Put(Name, Term),
+    /// `put`: puts the second term's value into the map, at the first one's value as key, or into
+    /// the pair's side with that number.
+    PutAt(Name, Term, Term),
+    /// `get`: waits until the variable passes the threshold, and the local takes the answer: the
+    /// local, then the variable.
+    Get(Name, Name, Threshold),
+    /// `get` on a map at the term's value as key, or on a pair's side with that number.
+    GetAt(Name, Name, Term, Threshold),
+    /// `fork`: starts a task that runs the procedure on the values of the terms.
+    Fork(Name, Terms),
+    /// `call`: runs the procedure on the values of the terms in a frame of its own.
+    Call(Name, Terms),
+    /// `handle`: adds a handler that runs the procedure to the pool: the pool, then the procedure.
+    Handle(Name, Name),
+    /// `freeze`: freezes the variable after the tasks of the pools, and the local takes the number
+    /// of events below its state: the local, then the variable.
+    Freeze(Name, Name, Names),
+    /// `freeze` with `each`: the procedure is then called on each of these events.
+    FreezeEach(Name, Name, Names, Name),
+}
+
+impl Command {
+    /// An equal command.
+    pub fn copy(&self, alloc: Global) -> Result<Command, AllocError>
+        ensures { IfOk result (λ c. c ≡ self.now) }
+    {
+        Ok(match self {
+            Command::Let(local, value) => Command::Let(local.copy(alloc)?, value.copy(alloc)?),
+            Command::Put(variable, term) => Command::Put(variable.copy(alloc)?, term.copy(alloc)?),
+            Command::PutAt(variable, place, term) => {
+                Command::PutAt(variable.copy(alloc)?, place.copy(alloc)?, term.copy(alloc)?)
+            }
+            Command::Get(local, variable, threshold) => {
+                Command::Get(
+                    local.copy(alloc)?,
+                    variable.copy(alloc)?,
+                    threshold.copy(alloc)?,
+                )
+            }
+            Command::GetAt(local, variable, place, threshold) => Command::GetAt(
+                local.copy(alloc)?,
+                variable.copy(alloc)?,
+                place.copy(alloc)?,
+                threshold.copy(alloc)?,
+            ),
+            Command::Fork(procedure, terms) => {
+                Command::Fork(procedure.copy(alloc)?, terms.copy(alloc)?)
+            }
+            Command::Call(procedure, terms) => {
+                Command::Call(procedure.copy(alloc)?, terms.copy(alloc)?)
+            }
+            Command::Handle(pool, procedure) => {
+                Command::Handle(pool.copy(alloc)?, procedure.copy(alloc)?)
+            }
+            Command::Freeze(local, variable, pools) => {
+                Command::Freeze(
+                    local.copy(alloc)?,
+                    variable.copy(alloc)?,
+                    pools.copy(alloc)?,
+                )
+            }
+            Command::FreezeEach(local, variable, pools, procedure) => Command::FreezeEach(
+                local.copy(alloc)?,
+                variable.copy(alloc)?,
+                pools.copy(alloc)?,
+                procedure.copy(alloc)?,
+            ),
+        })
+    }
+}

@@ -1,0 +1,48 @@
+//! The syntax of scripts: declarations, and procedures with nested statements.
+//!
+//! A [`Script`] keeps by its type what is promised to those who run it: every name in it is
+//! declared, each statement fits the kind of its variable, counts of terms and parameters agree,
+//! and the tables are within their limits (`IsSound`). `lvish_script` reads scripts and writes
+//! them; this crate says what they are.
+//!
+//! ```text
+//! for procedure in script.procedures() {
+//!     for statement in &procedure.body.items {
+//!         if let Statement::While(test, body) = statement { .. }
+//!     }
+//! }
+//! ```
+#![tactic(auto)]
+
+mod command;
+mod declaration;
+mod kind;
+mod name;
+mod names;
+mod numbers;
+mod operator;
+mod procedure;
+mod script;
+mod statement;
+mod term;
+mod terms;
+mod threshold;
+mod value;
+
+pub use command::Command;
+pub use declaration::{Declaration, Declarations};
+pub use kind::{SimpleKind, VariableKind};
+pub use name::Name;
+pub use names::Names;
+pub use numbers::Numbers;
+pub use operator::Operator;
+pub use procedure::{Procedure, Procedures};
+pub use script::Script;
+pub use statement::{Block, Statement};
+pub use term::Term;
+pub use terms::Terms;
+pub use threshold::Threshold;
+pub use value::Value;
+
+#[cfg(test)]
+mod tests;

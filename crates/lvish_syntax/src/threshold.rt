@@ -1,0 +1,32 @@
+ghost use Rattle.std.specs.Prelude.{◌≡◌, IfOk};
+
+use crate::numbers::Numbers;
+use crate::term::Term;
+use std::alloc::{AllocError, Global};
+
+/// What a `get` waits for.
+#[derive(Debug, PartialEq, Eq, Drop)]
+pub enum Threshold {
+    /// `any`: a number in a cell.
+    Any,
+    /// `in`: one of the numbers.
+    In(Numbers),
+    /// `has`: the term's value in a set.
+    Has(Term),
+    /// `least`: a counter that is at least the term's value.
+    Least(Term),
+}
+
+impl Threshold {
+    /// An equal test.
+    pub fn copy(&self, alloc: Global) -> Result<Threshold, AllocError>
+        ensures { IfOk result (λ t. t ≡ self.now) }
+    {
+        match self {
+            Threshold::Any => Ok(Threshold::Any),
+            Threshold::In(numbers) => Ok(Threshold::In(numbers.copy(alloc)?)),
+            Threshold::Has(term) => Ok(Threshold::Has(term.copy(alloc)?)),
+            Threshold::Least(term) => Ok(Threshold::Least(term.copy(alloc)?)),
+        }
+    }
+}

@@ -1,0 +1,48 @@
+-- Where in a variable puts and gets are, in the statements and in the code.
+use Rattle.std.proofs.Common.{◌≡◌, ℤ, pos, Bool, true, false, ◌&&◌, Option, Some, None, refl, sym, ap}
+use Rattle.std.specs.Prelude.{if◌then◌else◌, option_and_then, is_some}
+use Rattle.std.specs.Option.{option_map_or}
+use Rattle.std.specs.Ordering.{int_eq}
+use Rattle.lvish_compound.specs.declared.place.Place.TheVariants as place
+use Rattle.lvish_syntax.specs.Sound.{kind_at, is_of_kind, is_apart}
+use Rattle.lvish_syntax.specs.Sound.{side_kind as kind_of_side}
+use Rattle.lvish_syntax.specs.declared.kind.SimpleKind.{SimpleKind}
+use Rattle.lvish_syntax.specs.declared.kind.VariableKind.{VariableKind}
+use Rattle.lvish_syntax.specs.declared.kind.VariableKind.TheVariants.{Simple, Map, Pair}
+use Rattle.lvish_syntax.specs.declared.term.Term.{Term}
+use Rattle.lvish_syntax.specs.declared.term.Term.TheVariants.{Local, Number}
+use Rattle.lvish_syntax.specs.declared.threshold.Threshold.{Threshold}
+use Rattle.lvish_code.specs.declared.target.Target.TheVariants as target
+use Rattle.lvish_code.specs.declared.target.Side.TheVariants.{First, Second}
+use Rattle.lvish_code.specs.Compile.{Names, operand_of, whole_of, side_of, part_of}
+use Rattle.lvish_task.specs.Meaning.{Values, term_value, side_kind, place_of}
+use Rattle.lvish_task.specs.Run.{operand_value, target_place}
+
+abbrev Fitted : Option VariableKind → Option Term → Type 0
+Fitted o at = is_some (option_map_or (λ k. kind_at k at) o None) ≡ true
+
+pub whole_alike : (values : _) (o : Option VariableKind) → Fitted o None → option_and_then (λ k. place_of k None) o ≡ Some (target_place values (whole_of o))
+whole_alike values None e = absurd cc
+whole_alike values (Some (Simple k)) e = refl
+whole_alike values (Some Map) e = absurd cc
+whole_alike values (Some (Pair a b)) e = absurd cc
+
+side_alike : (values : _) (a b : SimpleKind) (z : ℤ) → is_some (kind_of_side a b (Number z)) ≡ true → place_of (Pair a b) (Some z) ≡ Some (target_place values (side_of a b (Number z)))
+side_alike values a b z e = by (int_eq z (pos 1)) (int_eq z (pos 2)) e
+  where
+    by : (s t : Bool) → is_some (if s then Some a else if t then Some b else None) ≡ true → (if s then Some (place.Side 1 (side_kind a)) else if t then Some (place.Side 2 (side_kind b)) else None) ≡ Some (target_place values (if s then target.Side First a else target.Side Second b))
+    by true t e = refl
+    by false true e = refl
+    by false false e = absurd cc
+
+pub part_alike : (names : Names) (values : _) (f : Values) (o : Option VariableKind) (t : Term) → operand_value values (operand_of names t) ≡ term_value f t → Fitted o (Some t) → option_and_then (λ k. place_of k (Some (term_value f t))) o ≡ Some (target_place values (part_of names o t))
+part_alike names values f None t h e = absurd cc
+part_alike names values f (Some (Simple k)) t h e = absurd cc
+part_alike names values f (Some Map) t h e = ap (λ n. Some (place.Key n)) (sym h)
+part_alike names values f (Some (Pair a b)) (Local x) h e = absurd cc
+part_alike names values f (Some (Pair a b)) (Number z) h e = side_alike values a b z e
+
+-- what is got is there
+pub got_there : (r : Threshold) (o : Option SimpleKind) → option_map_or (λ k. is_of_kind k r && is_apart k r) o false ≡ true → is_some o ≡ true
+got_there r None e = absurd cc
+got_there r (Some k) e = refl

@@ -1,0 +1,85 @@
+ghost use Rattle.std.specs.Prelude.{◌≡◌, IfOk, map};
+ghost use Rattle.lvish_task.specs.Run.{operand_value, expression_value, target_place, wanted_test};
+ghost use Rattle.lvish_task.specs.Meaning.{side_kind};
+
+use crate::arithmetic::combine;
+use crate::values::Values;
+use lvish_calculus::ErrorKind;
+use lvish_code::{Expression, Operand, Side, Target, Wanted};
+use lvish_compound::{Kind, Place, Test};
+use lvish_lattice::Items;
+use lvish_syntax::SimpleKind;
+use std::alloc::{AllocError, Global};
+
+/// The value of an operand.
+pub fn value_of(values: &Values, operand: Operand) -> i64
+    ensures { result ≡ operand_value values.now operand }
+{
+    match operand {
+        Operand::Local(local) => values.get(local),
+        Operand::Number(n) => n,
+    }
+}
+
+/// The values of operands in their order.
+pub fn values_of(
+    alloc: Global,
+    values: &Values,
+    operands: &[Operand],
+) -> Result<Vec<i64>, AllocError>
+    ensures { IfOk result (λ v. v.items ≡ map (operand_value values.now) operands.now) }
+{
+    let mut found = Vec::with_capacity(alloc, operands.len())?;
+    for operand in operands {
+        found.push(value_of(values, *operand))?;
+    }
+    Ok(found)
+}
+
+/// What a `let` gives its local, or how it fails.
+pub fn evaluate(values: &Values, expression: Expression) -> Result<i64, ErrorKind>
+    ensures { result ≡ expression_value values.now expression }
+{
+    match expression {
+        Expression::Same(operand) => Ok(value_of(values, operand)),
+        Expression::Combined(left, operator, right) => {
+            combine(operator, value_of(values, left), value_of(values, right))
+        }
+    }
+}
+
+/// A side's kind, among those of events.
+fn side_kind(kind: SimpleKind) -> Kind
+    ensures { result ≡ side_kind kind }
+{
+    match kind {
+        SimpleKind::Cell => Kind::Cell,
+        SimpleKind::Set => Kind::Set,
+        SimpleKind::Max => Kind::Max,
+    }
+}
+
+/// Where in its variable a target is, where the locals have these values.
+pub fn place_of(values: &Values, target: Target) -> Place
+    ensures { result ≡ target_place values.now target }
+{
+    match target {
+        Target::Whole(SimpleKind::Cell) => Place::Cell,
+        Target::Whole(SimpleKind::Set) => Place::Set,
+        Target::Whole(SimpleKind::Max) => Place::Max,
+        Target::Entry(key) => Place::Key(value_of(values, key)),
+        Target::Side(Side::First, kind) => Place::Side(1, side_kind(kind)),
+        Target::Side(Side::Second, kind) => Place::Side(2, side_kind(kind)),
+    }
+}
+
+/// What a get waits for, where the locals have these values.
+pub fn test_of(alloc: Global, values: &Values, wanted: &Wanted) -> Result<Test, AllocError>
+    ensures { IfOk result (λ t. t ≡ wanted_test values.now wanted.now) }
+{
+    match wanted {
+        Wanted::Any => Ok(Test::Any),
+        Wanted::In(numbers) => Ok(Test::In(Items::new(numbers.as_slice().to_vec(alloc)?))),
+        Wanted::At(operand) => Ok(Test::At(value_of(values, *operand))),
+    }
+}

@@ -1,0 +1,59 @@
+ghost use Rattle.std.specs.Prelude.{◌≡◌};
+ghost use Rattle.std.specs.List.{list_all};
+ghost use Rattle.lvish_task.specs.Run.{fits_frame, is_fitting, routine};
+ghost use Rattle.lvish_code.specs.Sound.{takes};
+
+use crate::code::Code;
+use crate::frame::Frame;
+use crate::frames::Frames;
+use crate::local::Local;
+use crate::turn::{DEPTH, TURNS};
+
+impl Code {
+    /// Whether there is a procedure with this number, and it takes so many values.
+    fn takes(&self, procedure: usize, count: usize) -> bool
+        ensures { result ≡ takes count (routine self.now.flat procedure) }
+    {
+        match self.routine(procedure) {
+            Some(routine) => routine.parameters == count,
+            None => false,
+        }
+    }
+
+    fn fits_frame(&self, frame: &Frame) -> bool
+        ensures { result ≡ fits_frame self.now.flat frame.now }
+    {
+        match self.routine(frame.procedure) {
+            None => false,
+            Some(routine) => {
+                frame.place < routine.instructions.as_slice().len()
+                    && frame.values.len() == routine.locals
+                    && (frame.events.is_empty() || self.takes(frame.each, 2))
+            }
+        }
+    }
+
+    fn fit_each(&self, frames: &[Frame]) -> bool
+        ensures { result ≡ list_all (fits_frame self.now.flat) frames.now }
+    {
+        frames.iter().all(|frame| self.fits_frame(frame))
+    }
+
+    fn fit_all(&self, frames: &Frames) -> bool
+        ensures { result ≡ list_all (fits_frame self.now.flat) frames.now }
+    {
+        self.fit_each(frames.as_slice())
+    }
+
+    /// Whether the local state is one of this code: each frame's procedure is there, its place lies
+    /// within it, it has a value for each of its locals, and an `each` calls a procedure of two
+    /// parameters; there are 64 frames at most, and 1,000 local statements left at most.
+    pub fn fits(&self, local: &Local) -> bool
+        ensures { result ≡ is_fitting self.now local.now }
+    {
+        self.fits_frame(&local.top)
+            && self.fit_all(&local.below)
+            && local.below.len() <= DEPTH
+            && local.left <= TURNS
+    }
+}

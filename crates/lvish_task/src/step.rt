@@ -1,0 +1,111 @@
+ghost use Rattle.std.specs.Prelude.{◌≡◌, ◌<◌, ◌+◌, ◌-◌, ◌^◌, IfOk};
+ghost use Rattle.lvish_task.specs.Run.{operand_value, expression_value, assigned, placed, instruction_turn, flat_turn, requested, moved, run};
+ghost use Rattle.lvish_task.specs.Jumps.{HasRoom};
+ghost use Rattle.lvish_task.specs.Meaning.{taken};
+
+use crate::code::Code;
+use crate::evaluate::{evaluate, value_of};
+use crate::local::Local;
+use crate::turn::Ask;
+use lvish_calculus::Request;
+use lvish_code::{Expression, Instruction, Operand};
+use std::alloc::{AllocError, Global};
+
+impl Local {
+    /// A `let`, which fails or gives its local a value.
+    fn assign(&mut self, local: usize, expression: Expression) -> Option<Ask>
+        requires left { 0 < self.old.left }
+        requires within { self.old.top.place + 1 < 2 ^ 64 }
+        ensures asks { result ≡ requested (assigned self.old.top self.old.below local (expression_value self.old.top.values expression)) }
+        ensures moves { self.new ≡ moved self.old (assigned self.old.top self.old.below local (expression_value self.old.top.values expression)) }
+    {
+        match evaluate(&self.top.values, expression) {
+            Err(kind) => Some(Request::Fault(kind)),
+            Ok(value) => {
+                self.top.place += 1;
+                self.top.values.set(local, value);
+                self.left -= 1;
+                None
+            }
+        }
+    }
+
+    /// A test, which leads to the one place where the operand isn't 0 and to the other where it is.
+    fn test(&mut self, operand: Operand, if_not: usize, if_zero: usize)
+        requires { 0 < self.old.left }
+        ensures { self.new ≡ record { left = self.old.left - 1; top = placed self.old.top (taken (operand_value self.old.top.values operand) if_not if_zero); below = self.old.below } }
+    {
+        self.top.place = if value_of(&self.top.values, operand) == 0 {
+            if_zero
+        } else {
+            if_not
+        };
+        self.left -= 1;
+    }
+}
+
+impl Code {
+    /// What an instruction does at the innermost frame's place.
+    fn execute(
+        &self,
+        alloc: Global,
+        local: &mut Local,
+        instruction: &Instruction,
+    ) -> Result<Option<Ask>, AllocError>
+        requires left { 0 < local.old.left }
+        requires room { HasRoom local.old.top.place instruction.now }
+        ensures asks { IfOk result (λ r. r ≡ requested (instruction_turn self.now.flat local.old.top local.old.below (Some instruction.now))) }
+        ensures moves { IfOk result (λ _. local.new ≡ moved local.old (instruction_turn self.now.flat local.old.top local.old.below (Some instruction.now))) }
+    {
+        let place = local.top.place;
+        match instruction {
+            Instruction::Ask(action) => {
+                Ok(Some(self.request(alloc, &local.top.values, action)?))
+            }
+            Instruction::Let(x, expression) => Ok(local.assign(*x, *expression)),
+            Instruction::Call(procedure, operands) => {
+                self.call(alloc, local, *procedure, operands.as_slice())
+            }
+            Instruction::SkipIfZero(operand, n) => {
+                local.test(*operand, place + 1, place + 1 + *n);
+                Ok(None)
+            }
+            Instruction::BackUnlessZero(operand, n) => {
+                local.test(*operand, place.saturating_sub(*n), place + 1);
+                Ok(None)
+            }
+            Instruction::GoOn(_) => Ok(Some(Request::End)),
+            Instruction::Return => Ok(Some(Request::End)),
+        }
+    }
+
+    /// One local statement, or the request that the task makes.
+    fn turn(&self, alloc: Global, local: &mut Local) -> Result<Option<Ask>, AllocError>
+        requires left { 0 < local.old.left }
+        ensures asks { IfOk result (λ r. r ≡ requested (flat_turn self.now.flat local.old)) }
+        ensures moves { IfOk result (λ _. local.new ≡ moved local.old (flat_turn self.now.flat local.old)) }
+    {
+        match local.top.events.first() {
+            Some(event) => self.hand(alloc, local, event),
+            None => match self.instruction(&local.top) {
+                Some(instruction) => self.execute(alloc, local, instruction),
+                None => Ok(Some(Request::End)),
+            },
+        }
+    }
+
+    /// Runs local statements up to the next request, for as many as are left.
+    pub(crate) fn run(&self, alloc: Global, local: &mut Local) -> Result<Ask, AllocError>
+        ensures request { IfOk result (λ r. r ≡ (run self.now.flat local.old.left local.old.top local.old.below).request) }
+        ensures at { IfOk result (λ _. local.new ≡ (run self.now.flat local.old.left local.old.top local.old.below).at) }
+    {
+        self.settle(local);
+        while local.left > 0 {
+            if let Some(request) = self.turn(alloc, local)? {
+                return Ok(request);
+            }
+            self.settle(local);
+        }
+        Ok(Request::Pause)
+    }
+}

@@ -1,0 +1,173 @@
+ghost use Rattle.std.specs.Prelude.{◌≡◌, ◌<◌, ◌-◌, ◌∷◌, [], ◌+◌, ◌^◌, List, IfOk, OnOk, map};
+ghost use Rattle.lvish_task.specs.Run.{Asks, operand_value, callee, started, called, placed, action_turn, instruction_turn, instruction, flat_turn, frame_turn, requested, moved};
+ghost use Rattle.lvish_compound.specs.declared.event.Event.{Event};
+
+use crate::code::Code;
+use crate::evaluate::{evaluate, place_of, test_of, value_of, values_of};
+use crate::frame::Frame;
+use crate::frames::Frames;
+use crate::local::Local;
+use crate::remaining::Remaining;
+use crate::states::{put_at, read_at};
+use crate::values::Values;
+use lvish_calculus::{ErrorKind, Pools, Request};
+use lvish_code::{Action, Instruction, Operand};
+use lvish_compound::{Any, AnyRead, Event};
+use std::alloc::{AllocError, Global};
+use std::mem;
+
+/// What a task asks for.
+pub type Ask = Request<Any, AnyRead, Local>;
+
+/// The frames that a task can have below the innermost one.
+pub const DEPTH: usize = 63;
+
+/// The local statements between two pauses.
+pub const TURNS: usize = 1000;
+
+impl Local {
+    /// Into a frame above the others: a local statement.
+    fn enter(&mut self, callee: Frame) -> Result<(), AllocError>
+        requires { 0 < self.old.left }
+        ensures { OnOk result (self.new ≡ record { left = self.old.left - 1; top = callee; below = self.old.top ∷ self.old.below }) }
+    {
+        let caller = mem::replace(&mut self.top, callee);
+        self.below.push(caller)?;
+        self.left -= 1;
+        Ok(())
+    }
+}
+
+impl Code {
+    /// The frame of a procedure that begins on the arguments, if there is one that takes them.
+    fn callee(&self, procedure: usize, arguments: Vec<i64>) -> Result<Option<Frame>, AllocError>
+        ensures { IfOk result (λ f. f ≡ callee self.now.flat procedure arguments.items) }
+    {
+        match self.routine(procedure) {
+            Some(routine) if arguments.len() == routine.parameters => Ok(Some(Frame {
+                place: 0,
+                procedure,
+                values: Values::new(arguments, routine.locals)?,
+                each: 0,
+                events: Remaining::new(),
+            })),
+            _ => Ok(None),
+        }
+    }
+
+    /// A task that begins in a procedure on the arguments; a local state that doesn't fit, if there
+    /// is no procedure that takes them.
+    pub(crate) fn begin(
+        &self,
+        alloc: Global,
+        procedure: usize,
+        arguments: Vec<i64>,
+    ) -> Result<Local, AllocError>
+        ensures { IfOk result (λ l. l ≡ started self.now.flat procedure arguments.items) }
+    {
+        let top = match self.callee(procedure, arguments)? {
+            Some(callee) => callee,
+            None => Frame {
+                place: 0,
+                procedure: self.flat.routines().len(),
+                values: Values::new(Vec::new(alloc), 0)?,
+                each: 0,
+                events: Remaining::new(),
+            },
+        };
+        Ok(Local {
+            left: TURNS,
+            top,
+            below: Frames::new(alloc),
+        })
+    }
+
+    /// What an action asks for.
+    pub(crate) fn request(
+        &self,
+        alloc: Global,
+        values: &Values,
+        action: &Action,
+    ) -> Result<Ask, AllocError>
+        ensures { IfOk result (λ r. Asks r ≡ action_turn self.now.flat values.now action.now) }
+    {
+        Ok(match action {
+            Action::Put(variable, target, operand) => {
+                let place = place_of(values, *target);
+                match put_at(alloc, place, value_of(values, *operand))? {
+                    Some(state) => Request::Put(*variable, state),
+                    None => Request::Fault(ErrorKind::Range),
+                }
+            }
+            Action::Get(_, variable, target, wanted) => {
+                let test = test_of(alloc, values, wanted)?;
+                match read_at(place_of(values, *target), test) {
+                    Some(read) => Request::Get(*variable, read),
+                    None => Request::Fault(ErrorKind::Range),
+                }
+            }
+            Action::Fork(procedure, operands) => {
+                let arguments = values_of(alloc, values, operands.as_slice())?;
+                Request::Fork(self.begin(alloc, *procedure, arguments)?)
+            }
+            Action::Handle(pool, procedure) => Request::Add(*pool, *procedure),
+            Action::Freeze(_, variable, pools, _) => {
+                let pools = Vec::from_slice(alloc, pools.as_slice())?;
+                Request::Freeze(*variable, Pools::from(pools))
+            }
+        })
+    }
+
+    /// A call, before the next instruction.
+    pub(crate) fn call(
+        &self,
+        alloc: Global,
+        local: &mut Local,
+        procedure: usize,
+        operands: &[Operand],
+    ) -> Result<Option<Ask>, AllocError>
+        requires left { 0 < local.old.left }
+        requires within { local.old.top.place + 1 < 2 ^ 64 }
+        ensures asks { IfOk result (λ r. r ≡ requested (called self.now.flat procedure (map (operand_value local.old.top.values) operands.now) (placed local.old.top (local.old.top.place + 1)) local.old.below)) }
+        ensures moves { IfOk result (λ _. local.new ≡ moved local.old (called self.now.flat procedure (map (operand_value local.old.top.values) operands.now) (placed local.old.top (local.old.top.place + 1)) local.old.below)) }
+    {
+        if local.below.len() >= DEPTH {
+            return Ok(Some(Request::Fault(ErrorKind::Deep)));
+        }
+        let arguments = values_of(alloc, &local.top.values, operands)?;
+        match self.callee(procedure, arguments)? {
+            None => Ok(Some(Request::End)),
+            Some(callee) => {
+                local.top.place += 1;
+                local.enter(callee)?;
+                Ok(None)
+            }
+        }
+    }
+
+    /// The call that an `each` makes on its next event.
+    pub(crate) fn hand(
+        &self,
+        alloc: Global,
+        local: &mut Local,
+        event: Event,
+    ) -> Result<Option<Ask>, AllocError>
+        requires left { 0 < local.old.left }
+        requires first { (more : List Event) × (local.old.top.events ≡ event ∷ more) }
+        ensures asks { IfOk result (λ r. r ≡ requested (flat_turn self.now.flat local.old)) }
+        ensures moves { IfOk result (λ _. local.new ≡ moved local.old (flat_turn self.now.flat local.old)) }
+    {
+        if local.below.len() >= DEPTH {
+            return Ok(Some(Request::Fault(ErrorKind::Deep)));
+        }
+        let arguments = [event.key, event.number].to_vec(alloc)?;
+        match self.callee(local.top.each, arguments)? {
+            None => Ok(Some(Request::End)),
+            Some(callee) => {
+                local.top.events.take();
+                local.enter(callee)?;
+                Ok(None)
+            }
+        }
+    }
+}
