@@ -5,11 +5,11 @@ use Rattle.lvish_names.specs.NameText.{name_text}
 use Rattle.lvish_syntax.specs.Words.{Word}
 use Rattle.lvish_syntax.specs.declared.kind.VariableKind.{VariableKind}
 use Rattle.lvish_script.specs.Spells.{Spells, IsRefused}
-use Rattle.lvish_script.specs.Fault.{fault_number, fault_name}
+use Rattle.lvish_checks.specs.Fault.{fault_number, fault_name}
 use Rattle.lvish_syntax.specs.declared.declaration.Declaration.{Declaration}
 use Rattle.lvish_syntax.specs.declared.script.Script.{Script}
-use Rattle.lvish_script.specs.declared.script_fault.ScriptFault.{ScriptFault}
-use Rattle.lvish_script.specs.declared.fault.Fault.TheVariants as fault
+use Rattle.lvish_checks.specs.declared.script_fault.ScriptFault.{ScriptFault}
+use Rattle.lvish_checks.specs.declared.fault.Fault.TheVariants as fault
 use Rattle.lvish_run.specs.declared.report.Report.{Report}
 use Rattle.lvish_run.specs.declared.outcome.Outcome.{Outcome}
 use Rattle.lvish_run.specs.declared.outcome.Outcome.TheVariants as outcome

@@ -4,9 +4,9 @@ use Rattle.std.specs.Prelude.{filter, nat_lt}
 use Rattle.lvish_syntax.specs.Sound.{IsSound}
 use Rattle.lvish_syntax.specs.declared.declaration.Declaration.{Declaration}
 use Rattle.lvish_syntax.specs.declared.procedure.Procedure.{Procedure}
-use Rattle.lvish_script.specs.declared.fault.Fault.TheVariants.{TooLong, NotAscii, BadLine, BadNumber, DoubleName, UnknownName, WrongKind, WrongCount, OpenBlock, Compatible, NoMain, TooMany}
-use Rattle.lvish_script.specs.Text.{words_of, lines_of}
-use Rattle.lvish_script.specs.Checks.{Parts, Passes, IsFirstFault, IsAccepted, parts_of}
+use Rattle.lvish_checks.specs.declared.fault.Fault.TheVariants.{TooLong, NotAscii, BadLine, BadNumber, DoubleName, UnknownName, WrongKind, WrongCount, OpenBlock, Compatible, NoMain, TooMany}
+use Rattle.lvish_checks.specs.Text.{words_of, lines_of}
+use Rattle.lvish_checks.specs.Checks.{Parts, Passes, IsFirstFault, IsAccepted, parts_of}
 use Rattle.lvish_script.specs.Spells.{script_lines, says_something}
 use Rattle.lvish_script.proofs.Cleaned.{all_cleaned}
 use Rattle.lvish_script.proofs.Declaring.{not_false}

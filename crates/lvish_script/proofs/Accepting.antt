@@ -14,14 +14,14 @@ use Rattle.lvish_syntax.specs.declared.declaration.Declaration.{Declaration}
 use Rattle.lvish_syntax.specs.declared.declaration.Declaration.TheVariants.{Variable, Pool}
 use Rattle.lvish_syntax.specs.declared.procedure.Procedure.{Procedure}
 use Rattle.lvish_syntax.specs.declared.statement.Statement.TheViews.{out-Statement}
-use Rattle.lvish_script.specs.declared.line.Line.{Line}
-use Rattle.lvish_script.specs.declared.line.Line.TheVariants.{Blank, Bad, Declare, Proc, Do, If, While, Else, End}
-use Rattle.lvish_script.specs.Checks.{InProcedure, Parts, IsAccepted, on_line, on_whole, has_procedure, is_nil, is_main, is_procedure, binds_until_procedure, locals_after, locals_at, stands_badly, declares_again, names_unknown, misfits, miscounts, mixes, command_misfits, command_mixes, is_misplaced, is_past_limit, is_full, open_after}
-use Rattle.lvish_script.specs.Text.{is_foreign}
-use Rattle.lvish_script.specs.Form.{is_bad_number}
+use Rattle.lvish_checks.specs.declared.line.Line.{Line}
+use Rattle.lvish_checks.specs.declared.line.Line.TheVariants.{Blank, Bad, Declare, Proc, Do, If, While, Else, End}
+use Rattle.lvish_checks.specs.Checks.{InProcedure, Parts, IsAccepted, on_line, on_whole, has_procedure, is_nil, is_main, is_procedure, binds_until_procedure, locals_after, locals_at, stands_badly, declares_again, names_unknown, misfits, miscounts, mixes, command_misfits, command_mixes, is_misplaced, is_past_limit, is_full, open_after}
+use Rattle.lvish_checks.specs.Text.{is_foreign}
+use Rattle.lvish_checks.specs.Form.{is_bad_number}
 use Rattle.lvish_script.specs.Spells.{body_lines, script_lines}
 use Rattle.lvish_script.specs.Canonical.{line_words}
-use Rattle.lvish_script.proofs.Cuts.{neither, left_fails, right_fails}
+use Rattle.lvish_checks.proofs.Cuts.{neither, left_fails, right_fails}
 use Rattle.lvish_script.proofs.Cleaned.{unknown_given, unknown_is}
 use Rattle.lvish_script.proofs.Cleared.{locals_in}
 use Rattle.lvish_script.proofs.Bodies.{is_inner, inner}

@@ -11,11 +11,11 @@ use Rattle.lvish_syntax.specs.declared.statement.Block.{Block}
 use Rattle.lvish_syntax.specs.declared.statement.Statement.{Statement, Do, If', IfElse', While', Row_of-Statement, end_of-Statement, more_of-Statement}
 use Rattle.lvish_syntax.specs.declared.statement.Statement.TheOpen as o
 use Rattle.lvish_syntax.specs.declared.statement.Statement.TheViews.{out-Statement, outs-Do, outs-If', outs-IfElse', outs-While'}
-use Rattle.lvish_script.specs.declared.line.Line.{Line}
-use Rattle.lvish_script.specs.declared.line.Line.TheVariants as line
-use Rattle.lvish_script.specs.Checks.{is_procedure, binds, binds_until_procedure, locals_after, parameters_of}
+use Rattle.lvish_checks.specs.declared.line.Line.{Line}
+use Rattle.lvish_checks.specs.declared.line.Line.TheVariants as line
+use Rattle.lvish_checks.specs.Checks.{is_procedure, binds, binds_until_procedure, locals_after, parameters_of}
 use Rattle.lvish_script.specs.Spells.{statement_lines, row_lines, body_lines}
-use Rattle.lvish_script.proofs.Cuts.{left_fails, right_fails, neither, both_hold}
+use Rattle.lvish_checks.proofs.Cuts.{left_fails, right_fails, neither, both_hold}
 use Rattle.lvish_script.proofs.Cleaned.{count_cons}
 
 -- the first line of a statement

@@ -4,8 +4,8 @@ use Rattle.std.specs.Prelude.{filter, slice_get}
 use Rattle.std.specs.Option.{option_map_or}
 use Rattle.std.proofs.Math.Seq.{take-append_seam, drop-append_seam}
 use Rattle.lvish_syntax.specs.Words.{Word}
-use Rattle.lvish_script.specs.declared.line.Line.{Line}
-use Rattle.lvish_script.specs.Checks.{on_line, declares_again, is_past_limit, binds_until_procedure, locals_after, miscounts, names_unknown, misfits, mixes}
+use Rattle.lvish_checks.specs.declared.line.Line.{Line}
+use Rattle.lvish_checks.specs.Checks.{on_line, declares_again, is_past_limit, binds_until_procedure, locals_after, miscounts, names_unknown, misfits, mixes}
 use Rattle.lvish_script.specs.Spells.{says_something}
 use Rattle.lvish_script.proofs.Cleaned.{declares_again_cleaned, is_past_limit_cleaned, miscounts_cleaned, misfits_cleaned, mixes_cleaned, unknown_given, unknown_is, unknown_cleaned, locals_after_cleaned, binds_until_cleaned}
 

@@ -16,11 +16,11 @@ use Rattle.lvish_syntax.specs.Sound.{variable_name, variable_names, pool_name, p
 use Rattle.lvish_syntax.specs.declared.declaration.Declaration.{Declaration}
 use Rattle.lvish_syntax.specs.declared.declaration.Declaration.TheVariants.{Variable, Pool}
 use Rattle.lvish_syntax.specs.declared.procedure.Procedure.{Procedure}
-use Rattle.lvish_script.specs.declared.line.Line.{Line}
-use Rattle.lvish_script.specs.declared.line.Line.TheVariants.{Blank, Bad, Declare, Proc, End}
-use Rattle.lvish_script.specs.Checks.{InProcedure, declared_by, declarations, has_procedure, is_nil, is_main, is_variable, is_pool, is_procedure, declares_procedure, declares_again, is_past_limit, parameters_of, open_after}
+use Rattle.lvish_checks.specs.declared.line.Line.{Line}
+use Rattle.lvish_checks.specs.declared.line.Line.TheVariants.{Blank, Bad, Declare, Proc, End}
+use Rattle.lvish_checks.specs.Checks.{InProcedure, declared_by, declarations, has_procedure, is_nil, is_main, is_variable, is_pool, is_procedure, declares_procedure, declares_again, is_past_limit, parameters_of, open_after}
 use Rattle.lvish_script.specs.Spells.{body_lines, procedure_lines, script_lines}
-use Rattle.lvish_script.proofs.Cuts.{neither, both_hold, differ_by_cut}
+use Rattle.lvish_checks.proofs.Cuts.{neither, both_hold, differ_by_cut}
 use Rattle.lvish_script.proofs.Cleaned.{count_cons}
 use Rattle.lvish_script.proofs.Bodies.{is_inner, inner, none_inner, no_procedures, none_counted, skipped}
 use Rattle.lvish_script.proofs.Levels.{open_append, balanced_body}

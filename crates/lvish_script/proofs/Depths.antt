@@ -4,11 +4,11 @@ use Rattle.std.specs.Prelude.{nat_le, max}
 use Rattle.std.proofs.lemmas.Bool.Decides.{nat_tests}
 use Rattle.lvish_syntax.specs.Nested.{depth, row_depth, all_depth}
 use Rattle.lvish_syntax.specs.declared.statement.Statement.{Statement, Do, If', IfElse', While', Row_of-Statement, end_of-Statement, more_of-Statement}
-use Rattle.lvish_script.specs.declared.line.Line.{Line}
-use Rattle.lvish_script.specs.declared.line.Line.TheVariants as line
-use Rattle.lvish_script.specs.Checks.{Opener, InIf, InElse, InWhile, open_step, open_after, is_full, is_misplaced}
+use Rattle.lvish_checks.specs.declared.line.Line.{Line}
+use Rattle.lvish_checks.specs.declared.line.Line.TheVariants as line
+use Rattle.lvish_checks.specs.Checks.{Opener, InIf, InElse, InWhile, open_step, open_after, is_full, is_misplaced}
 use Rattle.lvish_script.specs.Spells.{statement_lines, row_lines, body_lines}
-use Rattle.lvish_script.proofs.Cuts.{both_hold}
+use Rattle.lvish_checks.proofs.Cuts.{both_hold}
 use Rattle.lvish_script.proofs.Bodies.{first_holds, second_holds}
 use Rattle.lvish_script.proofs.Declaring.{not_true}
 use Rattle.lvish_script.proofs.Levels.{opens_block, stays_shallow, balanced, balanced_row}

@@ -7,8 +7,8 @@ use Rattle.lvish_syntax.specs.declared.statement.Statement.TheOpen as o
 use Rattle.lvish_syntax.specs.declared.statement.Statement.TheViews as v
 use Rattle.lvish_syntax.specs.declared.statement.Statement.TheViews.{out-Statement, outs-Do, outs-If', outs-IfElse', outs-While', outs-If, outs-IfElse, outs-While}
 use Rattle.lvish_syntax.specs.Nested.{statements}
-use Rattle.lvish_script.specs.declared.line.Line.{Line}
-use Rattle.lvish_script.specs.declared.line.Line.TheVariants as line
+use Rattle.lvish_checks.specs.declared.line.Line.{Line}
+use Rattle.lvish_checks.specs.declared.line.Line.TheVariants as line
 use Rattle.lvish_script.specs.Spells.{statement_lines, row_lines, body_lines}
 
 -- the lines of a block that a line opens

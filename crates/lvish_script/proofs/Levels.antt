@@ -5,11 +5,11 @@ use Rattle.std.proofs.lemmas.Bool.Decides.{nat_tests}
 use Rattle.std.proofs.lemmas.List.{append-nil}
 use Rattle.lvish_syntax.specs.Nested.{depth, row_depth, all_depth}
 use Rattle.lvish_syntax.specs.declared.statement.Statement.{Statement, Do, If', IfElse', While', Row_of-Statement, end_of-Statement, more_of-Statement}
-use Rattle.lvish_script.specs.declared.line.Line.{Line}
-use Rattle.lvish_script.specs.declared.line.Line.TheVariants as line
-use Rattle.lvish_script.specs.Checks.{Opener, InProcedure, InIf, InElse, InWhile, open_step, open_after, is_full, is_past_limit}
+use Rattle.lvish_checks.specs.declared.line.Line.{Line}
+use Rattle.lvish_checks.specs.declared.line.Line.TheVariants as line
+use Rattle.lvish_checks.specs.Checks.{Opener, InProcedure, InIf, InElse, InWhile, open_step, open_after, is_full, is_past_limit}
 use Rattle.lvish_script.specs.Spells.{statement_lines, row_lines, body_lines}
-use Rattle.lvish_script.proofs.Cuts.{both_hold}
+use Rattle.lvish_checks.proofs.Cuts.{both_hold}
 use Rattle.lvish_script.proofs.Bodies.{first_holds, second_holds}
 
 -- ---- what is open after a statement is what was open before it

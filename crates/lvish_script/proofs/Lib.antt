@@ -1,12 +1,3 @@
-pub mod Cuts
-pub mod Seen
-pub mod Tabled
-pub mod Scans
-pub mod Loops
-pub mod Lines
-pub mod Forms
-pub mod Order
-pub mod Numbers
 pub mod Layers
 pub mod Cleaned
 pub mod Cleared

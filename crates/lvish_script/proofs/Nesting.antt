@@ -7,14 +7,14 @@ use Rattle.std.proofs.lemmas.List.{take_more}
 use Rattle.std.proofs.lemmas.List.Elements.{filter-append}
 use Rattle.std.proofs.lemmas.List.Folds.{list_any-append}
 use Rattle.lvish_syntax.specs.declared.procedure.Procedure.{Procedure}
-use Rattle.lvish_script.specs.declared.line.Line.{Line}
-use Rattle.lvish_script.specs.declared.line.Line.TheVariants.{Blank, Bad, Declare, Proc, Do, If, While, Else, End}
-use Rattle.lvish_script.specs.declared.fault.Fault.TheVariants.{BadLine, OpenBlock}
+use Rattle.lvish_checks.specs.declared.line.Line.{Line}
+use Rattle.lvish_checks.specs.declared.line.Line.TheVariants.{Blank, Bad, Declare, Proc, Do, If, While, Else, End}
+use Rattle.lvish_checks.specs.declared.fault.Fault.TheVariants.{BadLine, OpenBlock}
 use Rattle.lvish_script.specs.declared.nest.OpenProcedure.{OpenProcedure}
-use Rattle.lvish_script.specs.Checks.{Opener, InProcedure, InIf, InElse, InWhile, on_line, line_fails, open_after, open_step, is_nil, is_procedure, is_misplaced, stands_badly}
+use Rattle.lvish_checks.specs.Checks.{Opener, InProcedure, InIf, InElse, InWhile, on_line, line_fails, open_after, open_step, is_nil, is_procedure, is_misplaced, stands_badly}
 use Rattle.lvish_script.specs.Spells.{says_something}
 use Rattle.lvish_script.specs.Nested.{Fits, HasNone, opener, openers, what_is_said}
-use Rattle.lvish_script.proofs.Lines.{open_after-more}
+use Rattle.lvish_checks.proofs.Lines.{open_after-more}
 
 or_left : (a b : Bool) → (a || b) ≡ false → a ≡ false
 or_left true b e = e

@@ -10,10 +10,10 @@ use Rattle.lvish_syntax.specs.declared.statement.Block.{Block}
 use Rattle.lvish_syntax.specs.declared.statement.Statement.{Statement, Do, If', IfElse', While', Row_of-Statement, end_of-Statement, more_of-Statement}
 use Rattle.lvish_syntax.specs.declared.statement.Statement.TheOpen as o
 use Rattle.lvish_syntax.specs.declared.statement.Statement.TheViews.{out-Statement, outs-Do, outs-If', outs-IfElse', outs-While'}
-use Rattle.lvish_script.specs.declared.line.Line.{Line}
-use Rattle.lvish_script.specs.declared.line.Line.TheVariants as line
+use Rattle.lvish_checks.specs.declared.line.Line.{Line}
+use Rattle.lvish_checks.specs.declared.line.Line.TheVariants as line
 use Rattle.lvish_script.specs.Spells.{statement_lines, row_lines, body_lines, procedure_lines, script_lines}
-use Rattle.lvish_script.proofs.Cuts.{both_hold}
+use Rattle.lvish_checks.proofs.Cuts.{both_hold}
 use Rattle.lvish_script.proofs.Bodies.{own_line, first_holds, second_holds, front_all, back_all, join_all}
 use Rattle.lvish_script.proofs.Declaring.{heads}
 use Rattle.lvish_script.proofs.Soundness.{is_line_written}

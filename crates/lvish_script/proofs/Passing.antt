@@ -22,10 +22,10 @@ use Rattle.lvish_syntax.specs.declared.procedure.Procedure.{Procedure}
 use Rattle.lvish_syntax.specs.declared.statement.Block.{Block}
 use Rattle.lvish_syntax.specs.declared.statement.Statement.{Statement}
 use Rattle.lvish_syntax.specs.declared.statement.Statement.TheOpen as o
-use Rattle.lvish_script.specs.declared.line.Line.TheVariants.{End}
-use Rattle.lvish_script.specs.Checks.{has_variable, has_pool, has_procedure, has_other_count, command_unknown, command_misfits, command_miscounts, command_mixes, is_procedure, parameters_of}
+use Rattle.lvish_checks.specs.declared.line.Line.TheVariants.{End}
+use Rattle.lvish_checks.specs.Checks.{has_variable, has_pool, has_procedure, has_other_count, command_unknown, command_misfits, command_miscounts, command_mixes, is_procedure, parameters_of}
 use Rattle.lvish_script.specs.Spells.{body_lines, procedure_lines, script_lines}
-use Rattle.lvish_script.proofs.Cuts.{left_fails, right_fails, neither, both_hold}
+use Rattle.lvish_checks.proofs.Cuts.{left_fails, right_fails, neither, both_hold}
 use Rattle.lvish_script.proofs.Bodies.{own_line, no_procedures, skipped, first_holds, second_holds}
 use Rattle.lvish_script.proofs.Declaring.{declared, procedures_declared, kind_known, disagrees, skip_heads}
 use Rattle.lvish_script.proofs.Soundness.{is_line_sound}

@@ -17,10 +17,10 @@ use Rattle.lvish_syntax.specs.Words.{Word, is_name, is_name_byte, is_letter, is_
 use Rattle.lvish_syntax.specs.Written.{is_within, is_term_written}
 use Rattle.lvish_syntax.specs.declared.term.Term.{Term}
 use Rattle.lvish_syntax.specs.declared.term.Term.TheVariants.{Local, Number}
-use Rattle.lvish_script.specs.Text.{is_separator, is_comment, is_foreign, words_of}
-use Rattle.lvish_script.specs.Form.{is_number_word, is_numeral, number_of, value_of_number, number_word, term_of, is_bad_number, all_of}
+use Rattle.lvish_checks.specs.Text.{is_separator, is_comment, is_foreign, words_of}
+use Rattle.lvish_checks.specs.Form.{is_number_word, is_numeral, number_of, value_of_number, number_word, term_of, is_bad_number, all_of}
 use Rattle.lvish_script.specs.Canonical.{term_word, spaced, joined}
-use Rattle.lvish_script.proofs.Cuts.{neither, both_hold, left_fails, right_fails}
+use Rattle.lvish_checks.proofs.Cuts.{neither, both_hold, left_fails, right_fails}
 use Rattle.lvish_script.proofs.Bodies.{first_holds, second_holds}
 
 -- a byte of a word

@@ -3,9 +3,9 @@ use Rattle.std.proofs.Common.{◌≡◌, ℕ, ◌≤◌, false, length, map, sym
 use Rattle.std.specs.Prelude.{filter, nat_lt}
 use Rattle.std.proofs.lemmas.Bool.Decides.{nat_tests}
 use Rattle.lvish_syntax.specs.declared.script.Script.{Script}
-use Rattle.lvish_script.specs.Checks.{IsAccepted, parts_of}
-use Rattle.lvish_script.specs.Text.{words_of}
-use Rattle.lvish_script.specs.Form.{line_of}
+use Rattle.lvish_checks.specs.Checks.{IsAccepted, parts_of}
+use Rattle.lvish_checks.specs.Text.{words_of}
+use Rattle.lvish_checks.specs.Form.{line_of}
 use Rattle.lvish_script.specs.Spells.{Spells, script_lines, says_something}
 use Rattle.lvish_script.specs.Canonical.{text_of}
 use Rattle.lvish_script.proofs.Outer.{lines_written}

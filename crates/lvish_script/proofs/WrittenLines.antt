@@ -17,10 +17,10 @@ use Rattle.lvish_syntax.specs.declared.term.Term.{Term}
 use Rattle.lvish_syntax.specs.declared.threshold.Threshold.TheVariants.{Any, In}
 use Rattle.lvish_syntax.specs.declared.command.Command.{Command}
 use Rattle.lvish_syntax.specs.declared.command.Command.TheVariants as command
-use Rattle.lvish_script.specs.declared.line.Line.{Line}
-use Rattle.lvish_script.specs.declared.line.Line.TheVariants.{Bad, Do, If, While, Else, End}
-use Rattle.lvish_script.specs.Form.{is_number_word, is_numeral, number_of, value_of_number, number_word, term_of, all_of, terms_of, numbers_of, only, operator_of, or_bad, variable_line, pair_kind, pair_line, pool_line, proc_line, value_of, let_line, put_of, put_line, threshold_after, threshold_of, get_of, get_line, run_line, handle_line, freeze_each, freeze_after, freeze_of, freeze_line, block_line, bare_line, declaration_form, command_form, block_form, begins_declaration, begins_command, line_of}
-use Rattle.lvish_script.proofs.Cuts.{both_hold}
+use Rattle.lvish_checks.specs.declared.line.Line.{Line}
+use Rattle.lvish_checks.specs.declared.line.Line.TheVariants.{Bad, Do, If, While, Else, End}
+use Rattle.lvish_checks.specs.Form.{is_number_word, is_numeral, number_of, value_of_number, number_word, term_of, all_of, terms_of, numbers_of, only, operator_of, or_bad, variable_line, pair_kind, pair_line, pool_line, proc_line, value_of, let_line, put_of, put_line, threshold_after, threshold_of, get_of, get_line, run_line, handle_line, freeze_each, freeze_after, freeze_of, freeze_line, block_line, bare_line, declaration_form, command_form, block_form, begins_declaration, begins_command, line_of}
+use Rattle.lvish_checks.proofs.Cuts.{both_hold}
 use Rattle.lvish_script.proofs.Bodies.{second_holds}
 use Rattle.lvish_script.proofs.Soundness.{is_line_written}
 

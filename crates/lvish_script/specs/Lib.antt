@@ -1,10 +1,3 @@
-pub mod Text
-pub mod Fault
-pub mod Table
-pub mod Form
-pub mod Checks
-pub mod Known
-pub mod Opened
 pub mod Spells
 pub mod Nested
 pub mod Canonical

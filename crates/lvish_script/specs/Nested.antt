@@ -3,13 +3,13 @@ use Rattle.std.specs.Prelude.{◌≡◌, false, List, [], ◌∷◌, ◌++◌, m
 use Rattle.std.specs.List.{flat_map}
 use Rattle.lvish_syntax.specs.declared.procedure.Procedure.{Procedure}
 use Rattle.lvish_syntax.specs.Nested.{statements}
-use Rattle.lvish_script.specs.declared.line.Line.{Line}
-use Rattle.lvish_script.specs.declared.line.Line.TheVariants as line
+use Rattle.lvish_checks.specs.declared.line.Line.{Line}
+use Rattle.lvish_checks.specs.declared.line.Line.TheVariants as line
 use Rattle.lvish_script.specs.declared.open.OpenBlock.{OpenBlock}
 use Rattle.lvish_script.specs.declared.open.OpenBlock.TheVariants.{If, Else, While}
 use Rattle.lvish_script.specs.declared.nest.OpenProcedure.{OpenProcedure}
 use Rattle.lvish_script.specs.declared.nest.Draft.{Draft}
-use Rattle.lvish_script.specs.Checks.{Opener, InProcedure, InIf, InElse, InWhile, is_misplaced}
+use Rattle.lvish_checks.specs.Checks.{Opener, InProcedure, InIf, InElse, InWhile, is_misplaced}
 use Rattle.lvish_script.specs.Spells.{body_lines, procedure_lines}
 
 -- the lines of an open block as far as they were read

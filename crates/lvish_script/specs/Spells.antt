@@ -6,11 +6,11 @@ use Rattle.lvish_syntax.specs.declared.statement.Statement.{Statement, Do, If', 
 use Rattle.lvish_syntax.specs.declared.procedure.Procedure.{Procedure}
 use Rattle.lvish_syntax.specs.declared.script.Script.{Script}
 use Rattle.lvish_syntax.specs.Nested.{statements}
-use Rattle.lvish_script.specs.declared.line.Line.{Line}
-use Rattle.lvish_script.specs.declared.line.Line.TheVariants as line
-use Rattle.lvish_script.specs.Checks.{parts_of, IsAccepted, IsFirstFault}
-use Rattle.lvish_script.specs.declared.script_fault.ScriptFault.{ScriptFault}
-use Rattle.lvish_script.specs.declared.fault.Fault.TheVariants.{Memory}
+use Rattle.lvish_checks.specs.declared.line.Line.{Line}
+use Rattle.lvish_checks.specs.declared.line.Line.TheVariants as line
+use Rattle.lvish_checks.specs.Checks.{parts_of, IsAccepted, IsFirstFault}
+use Rattle.lvish_checks.specs.declared.script_fault.ScriptFault.{ScriptFault}
+use Rattle.lvish_checks.specs.declared.fault.Fault.TheVariants.{Memory}
 
 abbrev mutual
   -- the lines of a statement, from its first to its end

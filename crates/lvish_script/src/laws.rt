@@ -2,7 +2,7 @@
 
 ghost use Rattle.std.specs.Prelude.{◌≡◌, ◌≤◌, length};
 ghost use Rattle.lvish_syntax.specs.declared.script.Script.{Script};
-ghost use Rattle.lvish_script.specs.Checks.{parts_of};
+ghost use Rattle.lvish_checks.specs.Checks.{parts_of};
 ghost use Rattle.lvish_script.specs.Spells.{Spells, script_lines};
 ghost use Rattle.lvish_script.specs.Canonical.{text_of};
 

@@ -7,34 +7,19 @@
 //! let text = write_script(alloc, &script)?;
 //! ```
 //!
-//! A text that spells no script gets the first check that fails, with the lowest line on which it does.
+//! A text that spells no script gets the first check that fails, with the lowest line on which it does
+//! (`lvish_checks`).
 //! What a script promises to those who run it, it keeps by its type (`lvish_syntax`).
 #![tactic(auto)]
 
-mod boxed;
-mod check;
-mod declared;
-mod fault;
-mod fit;
-mod form;
-mod kinds;
 mod laws;
-mod line;
-mod name_set;
 mod nest;
 mod open;
-mod open_blocks;
 mod read;
-mod script_fault;
-mod table;
-mod verdict;
-mod word;
-mod words;
 mod write;
 mod write_line;
 
-pub use fault::Fault;
 pub use laws::what_is_written_is_read;
+pub use lvish_checks::{Fault, ScriptFault};
 pub use read::read_script;
-pub use script_fault::ScriptFault;
 pub use write::write_script;

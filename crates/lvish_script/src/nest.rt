@@ -1,13 +1,13 @@
 ghost use Rattle.std.specs.Prelude.{◌≡◌, ◌++◌, ◌∷◌, [], ℕ, false, true, filter, Some, IfOk};
 ghost use Rattle.std.specs.List.{flat_map};
-ghost use Rattle.lvish_script.specs.Checks.{on_line, line_fails, open_step, is_procedure, is_nil, takes_else};
-ghost use Rattle.lvish_script.specs.declared.fault.Fault.TheVariants.{BadLine, OpenBlock as UnclosedBlock};
+ghost use Rattle.lvish_checks.specs.Checks.{on_line, line_fails, open_step, is_procedure, is_nil, takes_else};
+ghost use Rattle.lvish_checks.specs.declared.fault.Fault.TheVariants.{BadLine, OpenBlock as UnclosedBlock};
 ghost use Rattle.lvish_script.specs.Spells.{script_lines, statement_lines, procedure_lines, says_something};
 ghost use Rattle.lvish_script.specs.Nested.{block_lines, opener, opened_lines, open_lines, draft_lines, openers, what_is_said, HasNone, Fits};
-ghost use Rattle.lvish_script.specs.declared.line.Line.TheVariants as line;
+ghost use Rattle.lvish_checks.specs.declared.line.Line.TheVariants as line;
 
-use crate::line::Line;
 use crate::open::{OpenBlock, empty, with_statement};
+use lvish_checks::Line;
 use lvish_syntax::{Declaration, Declarations, Name, Names, Procedure, Procedures, Statement};
 use std::alloc::{AllocError, Global};
 

@@ -2,9 +2,9 @@ ghost use Rattle.std.specs.Prelude.{◌≡◌, ◌++◌, ◌∷◌, [], false, t
 ghost use Rattle.lvish_script.specs.Spells.{statement_lines, body_lines};
 ghost use Rattle.lvish_syntax.specs.Nested.{statements};
 ghost use Rattle.lvish_script.specs.Nested.{block_lines, opener};
-ghost use Rattle.lvish_script.specs.declared.line.Line.TheVariants as line;
+ghost use Rattle.lvish_checks.specs.declared.line.Line.TheVariants as line;
 
-use crate::boxed::Boxed;
+use lvish_checks::Boxed;
 use lvish_syntax::{Block, Procedure, Statement, Term};
 use std::alloc::{AllocError, Global};
 

@@ -1,18 +1,14 @@
 ghost use Rattle.std.specs.Prelude.{◌≡◌, length, map, nat_lt, IfOk, MatchResult};
 ghost use Rattle.std.specs.List.{list_any};
-ghost use Rattle.lvish_script.specs.Text.{words_of};
-ghost use Rattle.lvish_script.specs.Form.{is_bad_number, line_of};
-ghost use Rattle.lvish_script.specs.Checks.{on_line, IsFirstOn};
+ghost use Rattle.lvish_checks.specs.Text.{words_of};
+ghost use Rattle.lvish_checks.specs.Form.{is_bad_number, line_of};
+ghost use Rattle.lvish_checks.specs.Checks.{on_line, IsFirstOn};
 ghost use Rattle.lvish_script.specs.Spells.{Spells, IsRefused};
 
-use crate::check::first_bad_number;
-use crate::fault::Fault;
-use crate::form::line_of;
-use crate::line::Line;
 use crate::nest::nest;
-use crate::script_fault::ScriptFault;
-use crate::verdict::first_fault;
-use crate::words::{lines, words};
+use lvish_checks::{
+    Fault, Line, ScriptFault, first_bad_number, first_fault, line_of, lines_of, words_of,
+};
 use lvish_syntax::Script;
 use std::alloc::{AllocError, Global};
 
@@ -33,7 +29,7 @@ fn said(alloc: Global, lines: &[&[u8]]) -> Result<(Vec<Line>, Option<usize>), Al
     let mut said = Vec::new(alloc);
     let mut bad_number = None;
     for k in 0..lines.len() {
-        let words = words(alloc, lines[k])?;
+        let words = words_of(alloc, lines[k])?;
         let words = words.as_slice();
         bad_number = first_bad_number(bad_number, words, k + 1);
         said.push(line_of(alloc, words)?)?;
@@ -53,7 +49,7 @@ pub fn read_script(alloc: Global, text: &[u8]) -> Result<Script, ScriptFault>
             line: 0,
         });
     }
-    let lines = lines(alloc, text)?;
+    let lines = lines_of(alloc, text)?;
     let lines = lines.as_slice();
     let (said, bad_number) = said(alloc, lines)?;
     match first_fault(alloc, lines, bad_number, said.as_slice())? {

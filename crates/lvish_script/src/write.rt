@@ -1,7 +1,7 @@
 ghost use Rattle.std.specs.Prelude.{◌≡◌, ◌++◌, ◌∷◌, [], OnOk, IfOk, string_bytes, map};
 ghost use Rattle.std.specs.List.{flat_map};
 ghost use Rattle.lvish_syntax.specs.Nested.{statements};
-ghost use Rattle.lvish_script.specs.declared.line.Line.TheVariants as line;
+ghost use Rattle.lvish_checks.specs.declared.line.Line.TheVariants as line;
 ghost use Rattle.lvish_script.specs.Spells.{statement_lines, body_lines, procedure_lines};
 ghost use Rattle.lvish_script.specs.Canonical.{term_word, joined, line_text, lines_text, text_of};
 

@@ -1,7 +1,7 @@
 use Rattle.std.proofs.Common.{◌≡◌, false, take, [], length}
 use Rattle.std.specs.Prelude.{filter}
 use Rattle.std.specs.List.{list_any}
-use Rattle.lvish_script.specs.Checks.{open_after, is_procedure}
+use Rattle.lvish_checks.specs.Checks.{open_after, is_procedure}
 use Rattle.lvish_script.specs.Spells.{says_something}
 use Rattle.lvish_script.specs.Nested.{draft_lines, openers, HasNone}
 use Rattle.lvish_script.proofs.nest.nest.Given as goal

@@ -1,9 +1,9 @@
 use Rattle.std.proofs.Common.{map, ap, sym, refl, ◌∙◌, ◌≡◌, inr}
 use Rattle.std.specs.Prelude.{filter}
 use Rattle.lvish_script.specs.Spells.{script_lines, says_something}
-use Rattle.lvish_script.specs.Checks.{IsFirstFault, IsAccepted}
+use Rattle.lvish_checks.specs.Checks.{IsFirstFault, IsAccepted}
 use Rattle.lvish_script.proofs.Accepted.{too_long, sound_when_accepted}
-use Rattle.lvish_script.proofs.Order.{lines_well_placed, blocks_closed}
+use Rattle.lvish_checks.proofs.Order.{lines_well_placed, blocks_closed}
 use Rattle.lvish_script.proofs.Reading.{of_parts}
 use Rattle.lvish_script.proofs.read.read_script.Goals as goal
 

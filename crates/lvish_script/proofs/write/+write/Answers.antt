@@ -1,7 +1,7 @@
 use Rattle.std.proofs.Common.{◌++◌, sym, ap, ◌∙◌}
 use Rattle.std.specs.Prelude.{string_bytes}
 use Rattle.lvish_syntax.specs.Nested.{statements}
-use Rattle.lvish_script.specs.declared.line.Line.TheVariants as line
+use Rattle.lvish_checks.specs.declared.line.Line.TheVariants as line
 use Rattle.lvish_script.specs.Spells.{statement_lines, body_lines}
 use Rattle.lvish_script.specs.Canonical.{lines_text}
 use Rattle.lvish_script.proofs.Layers.{lines_if, lines_if_else, lines_while}

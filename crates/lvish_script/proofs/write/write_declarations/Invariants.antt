@@ -1,6 +1,6 @@
 use Rattle.std.proofs.Common.{◌≡◌, ◌++◌, take, map}
 use Rattle.std.specs.Prelude.{string_bytes}
-use Rattle.lvish_script.specs.declared.line.Line.TheVariants as line
+use Rattle.lvish_checks.specs.declared.line.Line.TheVariants as line
 use Rattle.lvish_script.specs.Canonical.{lines_text}
 use Rattle.lvish_script.proofs.write.write_declarations.Given as goal
 

@@ -1,7 +1,7 @@
 use Rattle.std.proofs.Common.{◌∷◌, [], sym, ap, ◌∙◌, append_assoc}
 use Rattle.lvish_syntax.specs.Nested.{statements}
 use Rattle.lvish_script.specs.Spells.{body_lines}
-use Rattle.lvish_script.specs.declared.line.Line.TheVariants as line
+use Rattle.lvish_checks.specs.declared.line.Line.TheVariants as line
 use Rattle.lvish_script.proofs.Layers.{lines_if, lines_if_else, lines_while}
 use Rattle.lvish_script.proofs.open.OpenBlock.closed.Goals as goal
 

@@ -1,0 +1,9 @@
+pub mod Cuts
+pub mod Seen
+pub mod Tabled
+pub mod Scans
+pub mod Loops
+pub mod Lines
+pub mod Forms
+pub mod Order
+pub mod Numbers

@@ -1,0 +1,17 @@
+use Rattle.std.proofs.Common.{◌∙◌, sym, take}
+use Rattle.lvish_checks.specs.Checks.{is_procedure}
+use Rattle.lvish_checks.proofs.Lines.{passed_on, fails_at, passes_all}
+use Rattle.lvish_checks.proofs.Scans.{any_taken}
+use Rattle.lvish_checks.proofs.check.bad_line.first_bad_line.Goals as goal
+
+pub returns-then-stands_badly : goal.returns-then-stands_badly
+returns-then-stands_badly c = fails_at _ _ c.loop-k.k c.index-lines-k.result c.loop-k-test.true c.index-lines-k.is c.loop-k.invariant.passed (sym (c.stands_badly.ensures (take c.loop-k.k c.args.lines.now) c.loop-k.invariant.begun) ∙ c.if-stands_badly.true)
+
+pub loop-k-preserved : goal.loop-k-preserved
+loop-k-preserved c = record {
+  begun = rw (c.loop-k.invariant.begun, c.is_procedure-begun.ensures) (sym (any_taken is_procedure c.args.lines.now c.loop-k.k c.index-lines-k.result c.loop-k-test.true c.index-lines-k.is));
+  passed = passed_on _ _ c.loop-k.k c.index-lines-k.result c.loop-k-test.true c.index-lines-k.is c.loop-k.invariant.passed (sym (c.stands_badly.ensures (take c.loop-k.k c.args.lines.now) c.loop-k.invariant.begun) ∙ c.if-stands_badly.false);
+}
+
+pub returns : goal.returns
+returns c = passes_all _ _ c.loop-k.k c.loop-k-test.false c.loop-k.invariant.passed

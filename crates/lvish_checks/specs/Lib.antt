@@ -1,0 +1,7 @@
+pub mod Text
+pub mod Fault
+pub mod Table
+pub mod Form
+pub mod Checks
+pub mod Known
+pub mod Opened

@@ -1,0 +1,23 @@
+ghost use Rattle.std.specs.Prelude.{◌≡◌};
+ghost use Rattle.std.specs.List.{list_any};
+ghost use Rattle.lvish_checks.specs.Checks.{is_main};
+
+use crate::line::Line;
+
+fn is_main(line: &Line) -> bool
+    ensures { result ≡ is_main line.now }
+{
+    match line {
+        Line::Proc(name, parameters) => {
+            name.get().as_str() == "main" && parameters.get().as_slice().is_empty()
+        }
+        _ => false,
+    }
+}
+
+/// Whether a procedure `main` without parameters is declared.
+pub fn has_main(lines: &[Line]) -> bool
+    ensures { result ≡ list_any is_main lines.now }
+{
+    lines.iter().any(|line| is_main(line))
+}

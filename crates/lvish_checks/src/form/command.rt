@@ -1,0 +1,248 @@
+ghost use Rattle.std.specs.Prelude.{◌≡◌, ◌∷◌, [], IfOk, List, map};
+ghost use Rattle.std.specs.Option.{option_map};
+ghost use Rattle.lvish_syntax.specs.Words.{Word};
+ghost use Rattle.lvish_syntax.specs.declared.term.Term.{Term};
+ghost use Rattle.lvish_syntax.specs.declared.command.Command.{Command};
+ghost use Rattle.lvish_syntax.specs.declared.command.Command.TheVariants.{Fork, Call};
+ghost use Rattle.lvish_checks.specs.declared.line.Line.TheVariants.{Do};
+ghost use Rattle.lvish_checks.specs.Form.{or_bad, value_of, let_line, put_of, put_line, get_of, get_line, run_line, handle_line, command_form};
+
+use crate::boxed::Boxed;
+use crate::form::freeze::freeze_line;
+use crate::form::term::{operator_of, term_of, terms_of};
+use crate::form::threshold::threshold_of;
+use crate::line::Line;
+use crate::word::is_name;
+use lvish_syntax::{Command, Name, Terms, Value};
+use std::alloc::{AllocError, Global};
+
+/// The line of a statement, where there is one.
+fn command_line(alloc: Global, command: Option<Command>) -> Result<Line, AllocError>
+    ensures { IfOk result (λ l. l ≡ or_bad (option_map (λ c. Do c) command)) }
+{
+    match command {
+        Some(command) => Ok(Line::Do(Boxed::new(alloc, command)?)),
+        None => Ok(Line::Bad),
+    }
+}
+
+/// Two terms combined.
+fn combined(
+    alloc: Global,
+    left: &[u8],
+    operator: &[u8],
+    right: &[u8],
+) -> Result<Option<Value>, AllocError>
+    ensures { IfOk result (λ v. v ≡ value_of (left.now ∷ operator.now ∷ right.now ∷ [])) }
+{
+    let Some(left) = term_of(alloc, left)? else {
+        return Ok(None);
+    };
+    let Some(operator) = operator_of(operator) else {
+        return Ok(None);
+    };
+    match term_of(alloc, right)? {
+        Some(right) => Ok(Some(Value::Combined(left, operator, right))),
+        None => Ok(None),
+    }
+}
+
+fn value_of(alloc: Global, words: &[&[u8]]) -> Result<Option<Value>, AllocError>
+    ensures { IfOk result (λ v. v ≡ value_of (map (λ w. w.now) words.now)) }
+{
+    match words {
+        [word] => match term_of(alloc, word)? {
+            Some(term) => Ok(Some(Value::Same(term))),
+            None => Ok(None),
+        },
+        [left, operator, right] => combined(alloc, left, operator, right),
+        _ => Ok(None),
+    }
+}
+
+#[tactic(auto, unfolding(crate::specs::Form::let_line))]
+fn let_line(alloc: Global, words: &[&[u8]]) -> Result<Line, AllocError>
+    ensures { IfOk result (λ l. l ≡ let_line (map (λ w. w.now) words.now)) }
+{
+    match words {
+        [] => Ok(Line::Bad),
+        [local, rest @ ..] => {
+            if !is_name(local) {
+                return Ok(Line::Bad);
+            }
+            match value_of(alloc, rest)? {
+                Some(value) => {
+                    let command = Command::Let(Name::new(alloc, local)?, value);
+                    Ok(Line::Do(Boxed::new(alloc, command)?))
+                }
+                None => Ok(Line::Bad),
+            }
+        }
+    }
+}
+
+/// What puts a term's value at a place of the variable.
+fn put_at(
+    alloc: Global,
+    variable: Name,
+    place: &[u8],
+    word: &[u8],
+) -> Result<Option<Command>, AllocError>
+    ensures { IfOk result (λ c. c ≡ put_of variable (place.now ∷ word.now ∷ [])) }
+{
+    let Some(place) = term_of(alloc, place)? else {
+        return Ok(None);
+    };
+    match term_of(alloc, word)? {
+        Some(term) => Ok(Some(Command::PutAt(variable, place, term))),
+        None => Ok(None),
+    }
+}
+
+fn put_of(alloc: Global, variable: Name, words: &[&[u8]]) -> Result<Option<Command>, AllocError>
+    ensures { IfOk result (λ c. c ≡ put_of variable (map (λ w. w.now) words.now)) }
+{
+    match words {
+        [word] => match term_of(alloc, word)? {
+            Some(term) => Ok(Some(Command::Put(variable, term))),
+            None => Ok(None),
+        },
+        [place, word] => put_at(alloc, variable, place, word),
+        _ => Ok(None),
+    }
+}
+
+#[tactic(auto, unfolding(crate::specs::Form::put_line))]
+fn put_line(alloc: Global, words: &[&[u8]]) -> Result<Line, AllocError>
+    ensures { IfOk result (λ l. l ≡ put_line (map (λ w. w.now) words.now)) }
+{
+    match words {
+        [] => Ok(Line::Bad),
+        [variable, rest @ ..] => {
+            if !is_name(variable) {
+                return Ok(Line::Bad);
+            }
+            let variable = Name::new(alloc, variable)?;
+            command_line(alloc, put_of(alloc, variable, rest)?)
+        }
+    }
+}
+
+/// What waits for a variable, or for the place of it that the first word may name.
+fn get_of(
+    alloc: Global,
+    local: Name,
+    variable: Name,
+    words: &[&[u8]],
+) -> Result<Option<Command>, AllocError>
+    ensures { IfOk result (λ c. c ≡ get_of local variable (map (λ w. w.now) words.now)) }
+{
+    match words {
+        [] => Ok(None),
+        [word, rest @ ..] => match term_of(alloc, word)? {
+            Some(place) => match threshold_of(alloc, rest)? {
+                Some(threshold) => Ok(Some(Command::GetAt(local, variable, place, threshold))),
+                None => Ok(None),
+            },
+            None => match threshold_of(alloc, words)? {
+                Some(threshold) => Ok(Some(Command::Get(local, variable, threshold))),
+                None => Ok(None),
+            },
+        },
+    }
+}
+
+#[tactic(auto, unfolding(crate::specs::Form::get_line))]
+fn get_line(alloc: Global, words: &[&[u8]]) -> Result<Line, AllocError>
+    ensures { IfOk result (λ l. l ≡ get_line (map (λ w. w.now) words.now)) }
+{
+    match words {
+        [local, variable, rest @ ..] => {
+            if !is_name(local) || !is_name(variable) {
+                return Ok(Line::Bad);
+            }
+            let local = Name::new(alloc, local)?;
+            let variable = Name::new(alloc, variable)?;
+            command_line(alloc, get_of(alloc, local, variable, rest)?)
+        }
+        _ => Ok(Line::Bad),
+    }
+}
+
+/// A procedure and the terms on which it is to run.
+#[tactic(auto, unfolding(crate::specs::Form::run_line))]
+fn run_of(alloc: Global, words: &[&[u8]]) -> Result<Option<(Name, Terms)>, AllocError>
+    ensures { IfOk result (λ p. (f : Word → List Term → Command) → or_bad (option_map (λ q. Do (f q.0 q.1)) p) ≡ run_line f (map (λ w. w.now) words.now)) }
+{
+    match words {
+        [] => Ok(None),
+        [name, rest @ ..] => {
+            if !is_name(name) {
+                return Ok(None);
+            }
+            match terms_of(alloc, rest)? {
+                Some(terms) => Ok(Some((Name::new(alloc, name)?, terms))),
+                None => Ok(None),
+            }
+        }
+    }
+}
+
+fn fork_line(alloc: Global, words: &[&[u8]]) -> Result<Line, AllocError>
+    ensures { IfOk result (λ l. l ≡ run_line (λ n ts. Fork n ts) (map (λ w. w.now) words.now)) }
+{
+    match run_of(alloc, words)? {
+        Some((procedure, terms)) => {
+            Ok(Line::Do(Boxed::new(alloc, Command::Fork(procedure, terms))?))
+        }
+        None => Ok(Line::Bad),
+    }
+}
+
+fn call_line(alloc: Global, words: &[&[u8]]) -> Result<Line, AllocError>
+    ensures { IfOk result (λ l. l ≡ run_line (λ n ts. Call n ts) (map (λ w. w.now) words.now)) }
+{
+    match run_of(alloc, words)? {
+        Some((procedure, terms)) => {
+            Ok(Line::Do(Boxed::new(alloc, Command::Call(procedure, terms))?))
+        }
+        None => Ok(Line::Bad),
+    }
+}
+
+#[tactic(auto, unfolding(crate::specs::Form::handle_line))]
+fn handle_line(alloc: Global, words: &[&[u8]]) -> Result<Line, AllocError>
+    ensures { IfOk result (λ l. l ≡ handle_line (map (λ w. w.now) words.now)) }
+{
+    match words {
+        [pool, procedure] if is_name(pool) && is_name(procedure) => {
+            let pool = Name::new(alloc, pool)?;
+            let procedure = Name::new(alloc, procedure)?;
+            Ok(Line::Do(Boxed::new(alloc, Command::Handle(pool, procedure))?))
+        }
+        _ => Ok(Line::Bad),
+    }
+}
+
+/// What a line says that begins as a statement of one line.
+pub fn command_form(alloc: Global, word: &[u8], rest: &[&[u8]]) -> Result<Line, AllocError>
+    ensures { IfOk result (λ l. l ≡ command_form word.now (map (λ w. w.now) rest.now)) }
+{
+    if word == b"let".as_slice() {
+        let_line(alloc, rest)
+    } else if word == b"put".as_slice() {
+        put_line(alloc, rest)
+    } else if word == b"get".as_slice() {
+        get_line(alloc, rest)
+    } else if word == b"fork".as_slice() {
+        fork_line(alloc, rest)
+    } else if word == b"call".as_slice() {
+        call_line(alloc, rest)
+    } else if word == b"handle".as_slice() {
+        handle_line(alloc, rest)
+    } else if word == b"freeze".as_slice() {
+        freeze_line(alloc, rest)
+    } else {
+        Ok(Line::Bad)
+    }
+}

@@ -1,0 +1,74 @@
+ghost use Rattle.std.specs.Prelude.{◌≡◌, ◌==◌, IfOk, length, map, Option, None, if◌then◌else◌};
+ghost use Rattle.std.specs.Option.{option_map};
+ghost use Rattle.lvish_syntax.specs.declared.threshold.Threshold.TheVariants.{In, Has, Least};
+ghost use Rattle.lvish_checks.specs.Form.{only, numbers_of, term_of, threshold_after, threshold_of};
+
+use crate::form::term::{numbers_of, only_term};
+use lvish_syntax::Threshold;
+use std::alloc::{AllocError, Global};
+
+/// What stands after `in`: one or more numbers.
+fn in_of(alloc: Global, words: &[&[u8]]) -> Result<Option<Threshold>, AllocError>
+    ensures { IfOk result (λ r. r ≡ (if length (map (λ w. w.now) words.now) == 0 then None else option_map (λ zs. In zs) (numbers_of (map (λ w. w.now) words.now)))) }
+{
+    match words {
+        [] => Ok(None),
+        [_, ..] => match numbers_of(alloc, words)? {
+            Some(numbers) => Ok(Some(Threshold::In(numbers))),
+            None => Ok(None),
+        },
+    }
+}
+
+/// What stands after `has`: a term.
+fn has_of(alloc: Global, words: &[&[u8]]) -> Result<Option<Threshold>, AllocError>
+    ensures { IfOk result (λ r. r ≡ option_map (λ t. Has t) (only term_of (map (λ w. w.now) words.now))) }
+{
+    match only_term(alloc, words)? {
+        Some(term) => Ok(Some(Threshold::Has(term))),
+        None => Ok(None),
+    }
+}
+
+/// What stands after `least`: a term.
+fn least_of(alloc: Global, words: &[&[u8]]) -> Result<Option<Threshold>, AllocError>
+    ensures { IfOk result (λ r. r ≡ option_map (λ t. Least t) (only term_of (map (λ w. w.now) words.now))) }
+{
+    match only_term(alloc, words)? {
+        Some(term) => Ok(Some(Threshold::Least(term))),
+        None => Ok(None),
+    }
+}
+
+fn threshold_after(
+    alloc: Global,
+    word: &[u8],
+    rest: &[&[u8]],
+) -> Result<Option<Threshold>, AllocError>
+    ensures { IfOk result (λ r. r ≡ threshold_after word.now (map (λ w. w.now) rest.now)) }
+{
+    if word == b"any".as_slice() {
+        match rest {
+            [] => Ok(Some(Threshold::Any)),
+            [_, ..] => Ok(None),
+        }
+    } else if word == b"in".as_slice() {
+        in_of(alloc, rest)
+    } else if word == b"has".as_slice() {
+        has_of(alloc, rest)
+    } else if word == b"least".as_slice() {
+        least_of(alloc, rest)
+    } else {
+        Ok(None)
+    }
+}
+
+/// What a `get` waits for.
+pub fn threshold_of(alloc: Global, words: &[&[u8]]) -> Result<Option<Threshold>, AllocError>
+    ensures { IfOk result (λ r. r ≡ threshold_of (map (λ w. w.now) words.now)) }
+{
+    match words {
+        [] => Ok(None),
+        [word, rest @ ..] => threshold_after(alloc, word, rest),
+    }
+}

@@ -1,0 +1,35 @@
+//! The checks of a script: what the lines of a text say, and the first fault that they have.
+//!
+//! ```text
+//! let lines = lines_of(alloc, text)?;                  // the pieces between line feeds
+//! let said = line_of(alloc, words_of(alloc, line)?)?;  // what a line says: Line::Proc(name, parameters) ..
+//! first_fault(alloc, lines, bad_number, said)?         // the first check that fails, with its lowest line
+//! ```
+//!
+//! `lvish_script` nests the lines that pass into a script.
+#![tactic(auto)]
+
+mod boxed;
+mod check;
+mod declared;
+mod fault;
+mod fit;
+mod form;
+mod kinds;
+mod line;
+mod name_set;
+mod open_blocks;
+mod script_fault;
+mod table;
+mod text;
+mod verdict;
+mod word;
+
+pub use boxed::Boxed;
+pub use check::first_bad_number;
+pub use fault::Fault;
+pub use form::line_of;
+pub use line::Line;
+pub use script_fault::ScriptFault;
+pub use text::{lines_of, words_of};
+pub use verdict::first_fault;

@@ -1,0 +1,100 @@
+ghost use Rattle.std.specs.Prelude.{◌≡◌, ◌∷◌, [], OnOk, length};
+ghost use Rattle.lvish_checks.specs.Checks.{is_nil, takes_else, open_step};
+ghost use Rattle.lvish_checks.specs.Opened.{opener_of, closed};
+
+use crate::line::Line;
+use std::alloc::{AllocError, Global};
+use std::marker::Model;
+
+/// What a line opened.
+#[derive(Clone, Copy, Debug, PartialEq, Eq)]
+pub enum Opener {
+    /// A procedure.
+    Procedure,
+    /// The first part of an `if`.
+    If,
+    /// The other part of an `if`.
+    Else,
+    /// A `while`.
+    While,
+}
+
+/// What is open at a line: a stack, seen as a list with the innermost first.
+#[derive(Drop)]
+pub struct OpenBlocks {
+    openers: Vec<Opener>,
+}
+
+impl Model for OpenBlocks {
+    ghost use Rattle.std.specs.Prelude.{List};
+    ghost use Rattle.lvish_checks.specs.Checks.{Opener};
+    ghost use Rattle.lvish_checks.specs.Opened.{opened_by};
+
+    ghost Value = { List Opener };
+
+    ghost view = { λ o. opened_by o.openers.items };
+}
+
+impl OpenBlocks {
+    pub fn new(alloc: Global) -> OpenBlocks
+        ensures { result ≡ [] }
+    {
+        OpenBlocks {
+            openers: Vec::new(alloc),
+        }
+    }
+
+    /// How many are open.
+    pub fn depth(&self) -> usize
+        ensures { result ≡ length self.now }
+    {
+        self.openers.len()
+    }
+
+    pub fn is_empty(&self) -> bool
+        ensures { result ≡ is_nil self.now }
+    {
+        self.openers.is_empty()
+    }
+
+    /// Whether the innermost is an `if` without an `else`.
+    pub fn takes_else(&self) -> bool
+        ensures { result ≡ takes_else self.now }
+    {
+        match self.openers.last() {
+            Some(opener) => *opener == Opener::If,
+            None => false,
+        }
+    }
+
+    fn open(&mut self, opener: Opener) -> Result<(), AllocError>
+        ensures { OnOk result (self.new ≡ opener_of opener ∷ self.old) }
+    {
+        self.openers.push(opener)?;
+        Ok(())
+    }
+
+    fn close(&mut self)
+        ensures { self.new ≡ closed self.old }
+    {
+        self.openers.pop();
+    }
+
+    /// Takes a line: what is open after it.
+    pub fn add(&mut self, line: &Line) -> Result<(), AllocError>
+        ensures { OnOk result (self.new ≡ open_step self.old line.now) }
+    {
+        match line {
+            Line::Proc(_, _) => self.open(Opener::Procedure)?,
+            Line::If(_) if !self.is_empty() => self.open(Opener::If)?,
+            Line::While(_) if !self.is_empty() => self.open(Opener::While)?,
+            Line::Else if self.takes_else() => {
+                self.close();
+                self.open(Opener::Else)?;
+            }
+            Line::End => self.close(),
+            _ => {}
+        }
+        Ok(())
+    }
+}

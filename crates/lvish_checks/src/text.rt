@@ -1,0 +1,59 @@
+ghost use Rattle.std.specs.Prelude.{◌≡◌, ◌==◌, IfOk, map};
+ghost use Rattle.std.specs.List.{slice_split};
+ghost use Rattle.lvish_checks.specs.Text.{lines_of, words_of, is_separator, is_comment, without_last_feed};
+
+use std::alloc::{AllocError, Global};
+
+fn is_separator(b: u8) -> bool
+    ensures { result ≡ is_separator b }
+{
+    b == b' ' || b == b'\t' || b == b'\r'
+}
+
+fn is_comment(word: &[u8]) -> bool
+    ensures { result ≡ is_comment word.now }
+{
+    match word {
+        [] => false,
+        [b, ..] => *b == b'#',
+    }
+}
+
+/// The words of a line.
+pub fn words_of(alloc: Global, line: &[u8]) -> Result<Vec<&[u8]>, AllocError>
+    ensures { IfOk result (λ v. map (λ w. w.now) v.items ≡ words_of line.now) }
+{
+    line.split(|b| is_separator(*b))
+        .filter(|w| !w.is_empty())
+        .take_while(|w| !is_comment(w))
+        .collect(alloc)
+}
+
+/// A text without its last line feed, if it ends in one.
+fn without_last_feed(text: &[u8]) -> &[u8]
+    ensures { result.now ≡ without_last_feed text.now }
+{
+    let n = text.len();
+    if n > 0 && text[n - 1] == b'\n' {
+        &text[..n - 1]
+    } else {
+        text
+    }
+}
+
+/// The pieces of a text between line feeds.
+fn pieces(alloc: Global, text: &[u8]) -> Result<Vec<&[u8]>, AllocError>
+    ensures { IfOk result (λ v. map (λ w. w.now) v.items ≡ slice_split (λ b. b == 10) text.now) }
+{
+    text.split(|b| *b == b'\n').collect(alloc)
+}
+
+/// The lines of a text.
+pub fn lines_of(alloc: Global, text: &[u8]) -> Result<Vec<&[u8]>, AllocError>
+    ensures { IfOk result (λ v. map (λ w. w.now) v.items ≡ lines_of text.now) }
+{
+    if text.is_empty() {
+        return Ok(Vec::new(alloc));
+    }
+    pieces(alloc, without_last_feed(text))
+}

@@ -1,0 +1,91 @@
+ghost use Rattle.std.specs.Prelude.{◌≡◌};
+ghost use Rattle.std.specs.List.{list_all};
+ghost use Rattle.lvish_syntax.specs.Words.{is_digit, is_letter, is_name_byte, begins_name, is_reserved, is_name};
+ghost use Rattle.lvish_checks.specs.Form.{is_number_word, number_of, value_of_number, is_bad_number};
+
+const RESERVED: &[u8] =
+    b"cell set max map pair pool proc end let put get any in has least fork call handle freeze after each if else while";
+
+fn is_digit(b: u8) -> bool
+    ensures { result ≡ is_digit b }
+{
+    b >= b'0' && b <= b'9'
+}
+
+fn is_letter(b: u8) -> bool
+    ensures { result ≡ is_letter b }
+{
+    (b >= b'A' && b <= b'Z') || (b >= b'a' && b <= b'z')
+}
+
+fn is_name_byte(b: u8) -> bool
+    ensures { result ≡ is_name_byte b }
+{
+    is_letter(b) || is_digit(b) || b == b'_'
+}
+
+fn begins_name(word: &[u8]) -> bool
+    ensures { result ≡ begins_name word.now }
+{
+    match word {
+        [] => false,
+        [b, ..] => is_letter(*b),
+    }
+}
+
+fn has_name_bytes(word: &[u8]) -> bool
+    ensures { result ≡ list_all is_name_byte word.now }
+{
+    word.iter().all(|b| is_name_byte(*b))
+}
+
+fn is_reserved(word: &[u8]) -> bool
+    ensures { result ≡ is_reserved word.now }
+{
+    RESERVED.split(|b| *b == b' ').any(|r| r == word)
+}
+
+/// Whether a word is a name.
+#[tactic(auto, unfolding(lvish_syntax::specs::Words::is_name))]
+pub fn is_name(word: &[u8]) -> bool
+    ensures { result ≡ is_name word.now }
+{
+    begins_name(word) && word.len() <= 32 && has_name_bytes(word) && !is_reserved(word)
+}
+
+/// Whether a word stands for a number, be it one or not.
+pub fn is_number_word(word: &[u8]) -> bool
+    ensures { result ≡ is_number_word word.now }
+{
+    match word {
+        [] => false,
+        [b, rest @ ..] => is_digit(*b) || (*b == b'-' && !rest.is_empty()),
+    }
+}
+
+/// The number that a word writes, if it is one within 64 bits.
+pub fn number_of(word: &[u8]) -> Option<i64>
+    ensures { result ≡ number_of word.now }
+{
+    if word.starts_with(b"+") {
+        return None;
+    }
+    match str::from_utf8(word) {
+        Ok(text) => text.parse().ok(),
+        Err(_) => None,
+    }
+}
+
+/// The value of a number word; 0 for one that is no number, which is a fault before its value is used.
+pub fn value_of_number(word: &[u8]) -> i64
+    ensures { result ≡ value_of_number word.now }
+{
+    number_of(word).unwrap_or(0)
+}
+
+/// Whether a word stands for a number and is none.
+pub fn is_bad_number(word: &[u8]) -> bool
+    ensures { result ≡ is_bad_number word.now }
+{
+    is_number_word(word) && number_of(word).is_none()
+}

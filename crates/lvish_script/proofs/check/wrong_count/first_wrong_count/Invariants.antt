@@ -1,7 +1,0 @@
-use Rattle.std.proofs.Common.{◌≡◌, ◌≤◌, ℕ, false}
-use Rattle.lvish_script.specs.declared.fault.Fault.TheVariants.{WrongCount}
-use Rattle.lvish_script.specs.Checks.{on_line, line_fails}
-use Rattle.lvish_script.proofs.check.wrong_count.first_wrong_count.Given as goal
-
-abbrev pub invariant-loop-k : goal.invariant-loop-k
-invariant-loop-k l = (m : ℕ) → m ≤ l.k → on_line (line_fails WrongCount l.lines) l.lines m ≡ false

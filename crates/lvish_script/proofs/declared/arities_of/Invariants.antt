@@ -1,6 +1,0 @@
-use Rattle.std.proofs.Common.{take}
-use Rattle.lvish_script.specs.Known.{AreArities}
-use Rattle.lvish_script.proofs.declared.arities_of.Given as goal
-
-abbrev pub invariant-loop-line : goal.invariant-loop-line
-invariant-loop-line l = AreArities l.arities (take l.line-index l.lines)
