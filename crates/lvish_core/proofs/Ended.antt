@@ -1,8 +1,10 @@
 -- Whether a core is at an end, told by the tasks one after the other and by the cursors.
-use Rattle.std.proofs.Common.{◌≡◌, ◌↔◌, inl, inr, ℕ, Bool, true, false, if◌then◌else◌, List, [], ◌∷◌, Option, Some, None, is_some, sym, subst}
+use Rattle.std.proofs.Common.{◌≡◌, ◌↔◌, inl, inr, ℕ, Bool, true, false, if◌then◌else◌, List, [], ◌∷◌, Option, Some, None, is_some, sym, subst, ◌∙◌}
 use Rattle.std.proofs.lemmas.Bool.{cases_Bool, false≢true}
+use Rattle.std.proofs.lemmas.List.{nil_from_length}
 use Rattle.lvish_calculus.specs.Machine.{Machine}
-use Rattle.lvish_calculus.specs.Calculus.{Name, Handler, Task, State, IsReadyTask, IsEnd, IsEnded, same_name}
+use Rattle.lvish_calculus.specs.Calculus.{Name, Handler, Task, Absent, Live, Ended, State, IsLive, is_live, IsReadyTask, IsEnd, IsEnded, same_name}
+use Rattle.lvish_calculus.specs.Handing.{IsAmong}
 use Rattle.lvish_picture.specs.Picture.{task_of}
 use Rattle.lvish_picture.specs.Laws.{EndsByCursors}
 use Rattle.lvish_core.specs.declared.fault.Fault.{Fault}
@@ -53,3 +55,15 @@ module _ {P S E R A L : Type 0} (M : Machine S E R A L) (n running : ℕ) (place
     -- else it is
     pub is_end : AreDrained c.table → (rest : List (Name E × Task L)) → ReadyAhead M (state M c) c.table.tasks rest → rest ≡ [] → IsEnded M (picture M c)
     is_end drained rest so_far none = ended_is.1 (told.1 ((λ t z. subst (λ (xs : List (Name E × Task L)). IsReadyTask M (state M c) (task_of M.event_same xs t)) none (so_far t z)), drained))
+
+    -- so also where no task is counted
+    pub is_end_of_all : AreDrained c.table → running ≡ 0 → IsEnded M (picture M c)
+    is_end_of_all drained zero = ended_is.1 (told.1 ((λ t z. subst (λ ts. IsAmong t ts) nobody ((k.live.just t).1 (ready_is_live _ z))), drained))
+      where
+        nobody : k.live.names ≡ []
+        nobody = nil_from_length k.live.names (k.live.count ∙ zero)
+
+        ready_is_live : (x : Task L) → IsReadyTask M (state M c) x → IsLive x
+        ready_is_live (Live l f a p) z = is_live
+        ready_is_live Absent z = absurd z
+        ready_is_live Ended z = absurd z

@@ -103,6 +103,9 @@ impl<'p, P: Program> Core<'p, P> {
     }
 
     /// Whether this is an end: no label is enabled, and no step gave an error.
+    ///
+    /// The cursors tell what is still to hand, and the count of running tasks that none is left.
+    /// Where some are left they are asked, by name, up to the first that can go on.
     pub fn is_ended(&self, alloc: Global) -> Result<bool, AllocError>
         ensures { IfOk result (λ b. IsTrue b ↔ ⟦<P as Runs>⟧.is_ended self.now) }
     {
@@ -110,6 +113,9 @@ impl<'p, P: Program> Core<'p, P> {
         ends_by_cursors::<P>();
         if self.fault.is_some() || !self.is_drained() {
             return Ok(false);
+        }
+        if self.running == 0 {
+            return Ok(true);
         }
         for (_task, stage) in self.tasks.iter() {
             if self.is_at_ready(alloc, stage)? {

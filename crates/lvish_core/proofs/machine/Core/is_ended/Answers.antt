@@ -5,7 +5,7 @@ use Rattle.std.proofs.lemmas.Bool.{both_ways, false≢true}
 use Rattle.lvish_names.specs.OrderLaws.{name_ties, name_equiv}
 use Rattle.lvish_core.specs.Tasks.{standing, standings}
 use Rattle.lvish_core.proofs.Listing.{each_task}
-use Rattle.lvish_core.proofs.Ended.{ahead, error_is_no_end, cursor_is_no_end, task_is_no_end, is_end}
+use Rattle.lvish_core.proofs.Ended.{ahead, error_is_no_end, cursor_is_no_end, task_is_no_end, is_end, is_end_of_all}
 use Rattle.lvish_core.proofs.machine.Core.is_ended.Goals as goal
 use Rattle.lvish_core.proofs.machine.Core.is_ended.Goals.{then-is_some-via-then-is_some, then-is_some-via-else-is_some+then-not-is_drained}
 
@@ -23,6 +23,14 @@ returns-then-is_some g c = elim c.then-is_some.branch [
             (λ all. both_ways _ w.if-not-is_drained.true (drained.1 all)) z),
       )
 ]
+
+pub returns-then-self-eq0 : goal.returns-then-self-eq0
+returns-then-self-eq0 g c =
+    let drained = rw (← c.self.view_is) at (c.is_drained.ensures.0 c.if-not-is_drained.false) in
+    rw (← c.self.view_is) (
+      λ z. is_end_of_all _ _ _ _ _ c.self.invariant (sym c.is_some.ensures ∙ c.if-is_some.false) (c.ends_by_cursors.ensures c.self.inside.program.now) drained c.if-self-eq0.true,
+      λ z. refl,
+    )
 
 pub loop-task-init : goal.loop-task-init
 loop-task-init g c =
