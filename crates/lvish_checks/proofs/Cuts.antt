@@ -1,5 +1,6 @@
 -- Lists by their cuts: what holds of each item and the items before it.
 use Rattle.std.proofs.Common.{◌≡◌, ℕ, zero, suc, ◌<◌, ◌≤◌, Bool, true, false, ◌||◌, ◌&&◌, List, [], ◌∷◌, ◌++◌, length, map, refl, sym, ap, arith}
+use Rattle.std.proofs.lemmas.Bool.{or_from}
 use Rattle.std.specs.List.{list_any, list_all}
 use Rattle.std.specs.Str.{bytes_eq}
 use Rattle.std.proofs.lemmas.Slice.Eq.{bytes_eq-Decides}
@@ -15,10 +16,6 @@ left_fails false b e = refl
 pub right_fails : (a b : Bool) → (a || b) ≡ false → b ≡ false
 right_fails true b e = absurd cc
 right_fails false b e = e
-
-pub neither : (a b : Bool) → a ≡ false → b ≡ false → (a || b) ≡ false
-neither true b e h = absurd cc
-neither false b e h = h
 
 pub left_yes : (a b : Bool) → a ≡ true → (a || b) ≡ true
 left_yes true b e = refl
@@ -58,7 +55,7 @@ all_by_cut p (x ∷ xs) h = both_hold (p x) _ (h [] x xs refl) (all_by_cut p xs 
 
 pub none_by_cut : {X : Type 0} (p : X → Bool) (xs : List X) → ((b : List X) (x : X) (a : List X) → xs ≡ b ++ x ∷ a → p x ≡ false) → list_any p xs ≡ false
 none_by_cut p [] h = refl
-none_by_cut p (x ∷ xs) h = neither (p x) _ (h [] x xs refl) (none_by_cut p xs (λ b y a e. h (x ∷ b) y a (ap (λ t. x ∷ t) e)))
+none_by_cut p (x ∷ xs) h = or_from (p x) _ (h [] x xs refl) (none_by_cut p xs (λ b y a e. h (x ∷ b) y a (ap (λ t. x ∷ t) e)))
 
 -- no more than n items, where each has fewer than n before it
 pub few_by_cut : {X : Type 0} (n : ℕ) (xs : List X) → ((b : List X) (x : X) (a : List X) → xs ≡ b ++ x ∷ a → length b < n) → length xs ≤ n
@@ -71,12 +68,12 @@ few_by_cut (suc n) (x ∷ xs) h =
 module _ {X : Type 0} (name : X → Word) where
   apart : (x : X) (xs : List X) → ((b : List X) (y : X) (a : List X) → xs ≡ b ++ y ∷ a → bytes_eq (name x) (name y) ≡ false) → has_name (name x) (map name xs) ≡ false
   apart x [] h = refl
-  apart x (y ∷ xs) h = neither (bytes_eq (name y) (name x)) _ (differs (name y) (name x) _ refl (h [] y xs refl)) (apart x xs (λ b z a e. h (y ∷ b) z a (ap (λ t. y ∷ t) e)))
+  apart x (y ∷ xs) h = or_from (bytes_eq (name y) (name x)) _ (differs (name y) (name x) _ refl (h [] y xs refl)) (apart x xs (λ b z a e. h (y ∷ b) z a (ap (λ t. y ∷ t) e)))
 
   -- the names differ, where none is among those before it
   pub differ_by_cut : (xs : List X) → ((b : List X) (x : X) (a : List X) → xs ≡ b ++ x ∷ a → has_name (name x) (map name b) ≡ false) → has_repeat (map name xs) ≡ false
   differ_by_cut [] h = refl
   differ_by_cut (x ∷ xs) h =
-      neither (has_name (name x) (map name xs)) _
+      or_from (has_name (name x) (map name xs)) _
       (apart x xs (λ b y a e. left_fails (bytes_eq (name x) (name y)) _ (h (x ∷ b) y a (ap (λ t. x ∷ t) e))))
       (differ_by_cut xs (λ b y a e. right_fails (bytes_eq (name x) (name y)) _ (h (x ∷ b) y a (ap (λ t. x ∷ t) e))))

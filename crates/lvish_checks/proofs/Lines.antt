@@ -1,13 +1,12 @@
 -- Lines one after the other, as a loop sees them.
-use Rattle.std.proofs.Common.{◌≡◌, ℕ, zero, suc, ◌+◌, ◌<◌, ◌≤◌, Bool, true, false, ◌||◌, List, [], ◌∷◌, ◌++◌, length, take, get_or, Option, None, Some, refl, sym, ap, subst, ◌∙◌, arith, inl, inr}
+use Rattle.std.proofs.Common.{◌≡◌, ℕ, zero, suc, ◌+◌, ◌<◌, ◌≤◌, Bool, true, false, List, [], ◌∷◌, ◌++◌, length, take, get_or, Option, None, Some, refl, sym, ap, subst, ◌∙◌, arith, inl, inr}
 use Rattle.std.specs.Prelude.{slice_get, map, if◌then◌else◌}
 use Rattle.std.specs.Option.{option_map_or, option_or}
 use Rattle.std.proofs.lemmas.Option.{slice_get_past}
-use Rattle.std.specs.List.{list_any}
 use Rattle.std.proofs.lemmas.List.{take_more}
 use Rattle.std.proofs.lemmas.Bool.{cases_lt}
 use Rattle.lvish_checks.specs.declared.line.Line.{Line}
-use Rattle.lvish_checks.specs.Checks.{Opener}
+use Rattle.lvish_checks.specs.declared.open_blocks.Opener.{Opener}
 use Rattle.lvish_checks.specs.Checks.{on_line, IsLowest, IsFirstOn, open_after, open_step, locals_after, locals_step}
 
 pub open_after-push : (opened : List Opener) (ls : List Line) (l : Line) → open_after opened (ls ++ l ∷ []) ≡ open_step (open_after opened ls) l
@@ -17,10 +16,6 @@ open_after-push opened (x ∷ ls) l = open_after-push (open_step opened x) ls l
 pub locals_after-push : (found : Option (List (List ℕ))) (ls : List Line) (l : Line) → locals_after found (ls ++ l ∷ []) ≡ locals_step (locals_after found ls) l
 locals_after-push found [] l = refl
 locals_after-push found (x ∷ ls) l = locals_after-push (locals_step found x) ls l
-
-pub list_any-append : {X : Type 0} (p : X → Bool) (xs ys : List X) → list_any p (xs ++ ys) ≡ (list_any p xs || list_any p ys)
-list_any-append p [] ys = refl
-list_any-append p (x ∷ xs) ys = elim (p x) as (λ b. (b || list_any p (xs ++ ys)) ≡ ((b || list_any p xs) || list_any p ys)) [ true ↦ refl | false ↦ list_any-append p xs ys ]
 
 pub open_after-more : (ls : List Line) (i : ℕ) (x : Line) → i < length ls → x ≡ get_or ls i x → open_after [] (take (i + 1) ls) ≡ open_step (open_after [] (take i ls)) x
 open_after-more ls i x lt e = rw (take_more ls i x lt) (open_after-push [] (take i ls) (get_or ls i x) ∙ ap (open_step (open_after [] (take i ls))) (sym e))

@@ -1,8 +1,9 @@
 -- Loops that push a result for each item.
-use Rattle.std.proofs.Common.{◌≡◌, ℕ, zero, suc, ◌+◌, ◌<◌, Bool, true, false, ◌||◌, ◌&&◌, List, [], ◌∷◌, ◌++◌, length, get_or, take, map, refl, sym, ap, ◌∙◌, arith, take_all, length-drop, ◌-◌, drop}
+use Rattle.std.proofs.Common.{◌≡◌, ℕ, zero, suc, ◌+◌, ◌<◌, Bool, true, false, ◌||◌, List, [], ◌∷◌, ◌++◌, length, get_or, take, map, refl, sym, ap, ◌∙◌, arith, take_all, length-drop, ◌-◌, drop}
+use Rattle.std.proofs.Math.Bool.{and-false}
 use Rattle.std.specs.List.{list_any, list_all}
-use Rattle.std.proofs.lemmas.List.Folds.{list_any-append, list_all-append}
-use Rattle.lvish_checks.proofs.Cuts.{neither, both_hold, left_holds, right_holds}
+use Rattle.std.proofs.lemmas.List.Folds.{list_all-append}
+use Rattle.lvish_checks.proofs.Cuts.{both_hold, left_holds, right_holds}
 use Rattle.std.proofs.lemmas.List.{map_push, take_more}
 
 pub map_more : {X Y Z : Type 0} (f : X → Z) (g : Y → Z) (done : List X) (x : X) (ys : List Y) (i : ℕ) (d : Y) → i < length ys → f x ≡ g (get_or ys i d) → map f done ≡ map g (take i ys) → map f (done ++ x ∷ []) ≡ map g (take (i + 1) ys)
@@ -17,29 +18,15 @@ map_twice f g (x ∷ xs) = ap (λ t. g (f x) ∷ t) (map_twice f g xs)
 
 -- ---- a test of each item
 
-or_yes : (b : Bool) → (b || true) ≡ true
-or_yes true = refl
-or_yes false = refl
-
-and_no : (b : Bool) → (b && false) ≡ false
-and_no true = refl
-and_no false = refl
+pub list_any-map : {X Y : Type 0} (f : X → Y) (p : Y → Bool) (xs : List X) → list_any p (map f xs) ≡ list_any (λ x. p (f x)) xs
+list_any-map f p [] = refl
+list_any-map f p (x ∷ xs) = ap (λ b. p (f x) || b) (list_any-map f p xs)
 
 module _ {X Y : Type 0} (f : X → Y) (p : Y → Bool) where
-  pub any_at : (xs : List X) (i : ℕ) (d : X) → i < length xs → p (f (get_or xs i d)) ≡ true → list_any p (map f xs) ≡ true
-  any_at [] i d lt e = absurd (omega arith)
-  any_at (x ∷ xs) zero d lt e = rw e refl
-  any_at (x ∷ xs) (suc i) d lt e = rw (any_at xs i d (omega arith) e) (or_yes (p (f x)))
-
-  pub none_more : (xs : List X) (i : ℕ) (d : X) → i < length xs → list_any p (map f (take i xs)) ≡ false → p (f (get_or xs i d)) ≡ false → list_any p (map f (take (i + 1) xs)) ≡ false
-  none_more xs i d lt h e =
-      ap (λ t. list_any p (map f t)) (take_more xs i d lt) ∙ ap (list_any p) (map_push f (take i xs) (get_or xs i d))
-      ∙ list_any-append p (map f (take i xs)) (f (get_or xs i d) ∷ []) ∙ neither _ _ h (neither (p (f (get_or xs i d))) false e refl)
-
   pub not_all_at : (xs : List X) (i : ℕ) (d : X) → i < length xs → p (f (get_or xs i d)) ≡ false → list_all p (map f xs) ≡ false
   not_all_at [] i d lt e = absurd (omega arith)
   not_all_at (x ∷ xs) zero d lt e = rw e refl
-  not_all_at (x ∷ xs) (suc i) d lt e = rw (not_all_at xs i d (omega arith) e) (and_no (p (f x)))
+  not_all_at (x ∷ xs) (suc i) d lt e = rw (not_all_at xs i d (omega arith) e) (and-false (p (f x)))
 
   pub all_more : (xs : List X) (i : ℕ) (d : X) → i < length xs → list_all p (map f (take i xs)) ≡ true → p (f (get_or xs i d)) ≡ true → list_all p (map f (take (i + 1) xs)) ≡ true
   all_more xs i d lt h e =
@@ -50,7 +37,7 @@ module _ {X : Type 0} (p : X → Bool) where
   pub fails_item : (xs : List X) (i : ℕ) (x : X) → i < length xs → x ≡ get_or xs i x → p x ≡ false → list_all p xs ≡ false
   fails_item [] i x lt e h = absurd (omega arith)
   fails_item (y ∷ xs) zero x lt e h = let first : p y ≡ false = ap p (sym e) ∙ h in rw first refl
-  fails_item (y ∷ xs) (suc i) x lt e h = rw (fails_item xs i x (omega arith) e h) (and_no (p y))
+  fails_item (y ∷ xs) (suc i) x lt e h = rw (fails_item xs i x (omega arith) e h) (and-false (p y))
 
   pub all_items : (xs : List X) (i : ℕ) (x : X) → i < length xs → x ≡ get_or xs i x → list_all p (take i xs) ≡ true → p x ≡ true → list_all p (take (i + 1) xs) ≡ true
   all_items xs i x lt e h here =

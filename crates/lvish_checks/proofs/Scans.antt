@@ -6,6 +6,7 @@ use Rattle.std.specs.List.{list_any}
 use Rattle.std.specs.Str.{bytes_eq}
 use Rattle.std.proofs.lemmas.List.{append-nil, drop_all, take-append-drop}
 use Rattle.std.proofs.Math.Seq.{drop-cons}
+use Rattle.std.proofs.Math.Bool.{or-true}
 use Rattle.std.proofs.lemmas.List.Folds.{list_any-append}
 use Rattle.std.proofs.lemmas.List.Sums.{sum_by-append}
 use Rattle.std.proofs.lemmas.Grind.{flat_map-append}
@@ -20,10 +21,10 @@ use Rattle.lvish_checks.specs.declared.line.Line.{Line}
 use Rattle.lvish_checks.specs.declared.line.Line.TheVariants.{Declare, Proc}
 use Rattle.lvish_checks.specs.Checks.{declared_by, declarations, has_variable, has_pool, has_procedure, declares_procedure, parameters_of, is_procedure, binds, binds_until_procedure, locals_step, locals_after, locals_at, is_misplaced, is_nil, open_after, open_step, line_fails}
 use Rattle.lvish_checks.specs.declared.fault.Fault.TheVariants.{OpenBlock}
-use Rattle.std.proofs.lemmas.Bool.{eqb-true}
+use Rattle.std.proofs.lemmas.Bool.{eqb-true, or_from}
 use Rattle.lvish_checks.specs.Known.{AreVariables, ArePools, AreProcedures, AreArities, AreKinds, AreOfPools, HaveSameNames}
 use Rattle.lvish_checks.proofs.Seen.{bytes_eq_flip}
-use Rattle.lvish_checks.proofs.Cuts.{neither, left_fails, right_fails}
+use Rattle.lvish_checks.proofs.Cuts.{left_fails, right_fails}
 use Rattle.lvish_checks.proofs.Lines.{locals_after-more, open_after-more, taken_with}
 
 -- ---- names that lines declare
@@ -163,21 +164,13 @@ of_pools_past_variable variables n k ds known q = known q ∙ sym (variable_push
 
 found_later : (y x : Word) (xs ys : List Word) → bytes_eq y x ≡ true → has_name y (xs ++ x ∷ ys) ≡ true
 found_later y x [] ys e = rw (bytes_eq_flip x y, e) refl
-found_later y x (z ∷ xs) ys e = rw (found_later y x xs ys e) (or_yes (bytes_eq z y))
-  where
-    or_yes : (b : Bool) → (b || true) ≡ true
-    or_yes true = refl
-    or_yes false = refl
+found_later y x (z ∷ xs) ys e = rw (found_later y x xs ys e) (or-true (bytes_eq z y))
 
 either_twice : (y x : Word) (xs ys : List Word) (t : Bool) → bytes_eq y x ≡ t → (has_name x xs ≡ true → has_repeat (xs ++ x ∷ ys) ≡ true) → (bytes_eq y x || has_name x xs) ≡ true → (has_name y (xs ++ x ∷ ys) || has_repeat (xs ++ x ∷ ys)) ≡ true
 either_twice y x xs ys true e more h = rw (found_later y x xs ys e) refl
 either_twice y x xs ys false e more h =
     let later : has_name x xs ≡ true = rw e at h in
-    rw (more later) (or_yes (has_name y (xs ++ x ∷ ys)))
-  where
-    or_yes : (b : Bool) → (b || true) ≡ true
-    or_yes true = refl
-    or_yes false = refl
+    rw (more later) (or-true (has_name y (xs ++ x ∷ ys)))
 
 pub repeat_found : (x : Word) (xs ys : List Word) → has_name x xs ≡ true → has_repeat (xs ++ x ∷ ys) ≡ true
 repeat_found x [] ys h = absurd cc
@@ -187,8 +180,8 @@ pub no_repeat_more : (x : Word) (xs : List Word) → has_repeat xs ≡ false →
 no_repeat_more x [] r h = refl
 no_repeat_more x (y ∷ xs) r h =
     let apart : bytes_eq x y ≡ false = bytes_eq_flip x y ∙ left_fails (bytes_eq y x) (has_name x xs) h in
-    let first : has_name y (xs ++ x ∷ []) ≡ false = list_any-append (λ z. bytes_eq z y) xs (x ∷ []) ∙ neither (has_name y xs) _ (left_fails (has_name y xs) (has_repeat xs) r) (neither (bytes_eq x y) false apart refl) in
-    neither (has_name y (xs ++ x ∷ [])) _ first (no_repeat_more x xs (right_fails (has_name y xs) (has_repeat xs) r) (right_fails (bytes_eq y x) (has_name x xs) h))
+    let first : has_name y (xs ++ x ∷ []) ≡ false = list_any-append (λ z. bytes_eq z y) xs (x ∷ []) ∙ or_from (has_name y xs) _ (left_fails (has_name y xs) (has_repeat xs) r) (or_from (bytes_eq x y) false apart refl) in
+    or_from (has_name y (xs ++ x ∷ [])) _ first (no_repeat_more x xs (right_fails (has_name y xs) (has_repeat xs) r) (right_fails (bytes_eq y x) (has_name x xs) h))
 
 drop_at : {X : Type 0} (xs : List X) (k : ℕ) (x : X) → k < length xs → x ≡ get_or xs k x → drop k xs ≡ x ∷ drop (k + 1) xs
 drop_at xs k x lt e = rw add-one (drop-cons xs k x lt ∙ ap (λ y. y ∷ drop (suc k) xs) (sym e))

@@ -16,6 +16,8 @@ use Rattle.lvish_checks.specs.Text.{lines_of, words_of, is_foreign}
 use Rattle.lvish_checks.specs.Form.{line_of, is_bad_number}
 use Rattle.lvish_checks.specs.declared.line.Line.{Line}
 use Rattle.lvish_checks.specs.declared.line.Line.TheVariants.{Bad, Declare, Proc, Do, If, While, Else, End}
+use Rattle.lvish_checks.specs.declared.open_blocks.Opener.{Opener}
+use Rattle.lvish_checks.specs.declared.open_blocks.Opener.TheVariants.{Procedure as InProcedure, If as InIf, Else as InElse, While as InWhile}
 use Rattle.lvish_checks.specs.declared.fault.Fault.{Fault}
 use Rattle.lvish_checks.specs.declared.fault.Fault.TheVariants.{TooLong, NotAscii, BadLine, BadNumber, DoubleName, UnknownName, WrongKind, WrongCount, OpenBlock, Compatible, NoMain, TooMany}
 use Rattle.lvish_checks.specs.declared.script_fault.ScriptFault.{ScriptFault}
@@ -164,13 +166,6 @@ miscounts lines (Do c) = command_miscounts lines c
 miscounts lines l = false
 
 -- ---- blocks
-
--- what a line can open
-pub data Opener : Type 0 where
-  InProcedure : Opener
-  InIf : Opener
-  InElse : Opener
-  InWhile : Opener
 
 -- what is open after a line, the innermost first
 abbrev pub open_step : List Opener → Line → List Opener

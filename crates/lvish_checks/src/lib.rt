@@ -1,9 +1,10 @@
 //! The checks of a script: what the lines of a text say, and the first fault that they have.
 //!
 //! ```text
-//! let lines = lines_of(alloc, text)?;                  // the pieces between line feeds
-//! let said = line_of(alloc, words_of(alloc, line)?)?;  // what a line says: Line::Proc(name, parameters) ..
-//! first_fault(alloc, lines, bad_number, said)?         // the first check that fails, with its lowest line
+//! let lines = lines_of(alloc, text)?;             // the pieces between line feeds
+//! let words = words_of(alloc, line)?;             // those of a line, up to its comment
+//! let said = line_of(alloc, words.as_slice())?;   // what it says: Line::Proc(name, parameters) ..
+//! first_fault(alloc, lines, bad_number, said)?    // the first check that fails, with its lowest line
 //! ```
 //!
 //! `lvish_script` nests the lines that pass into a script.

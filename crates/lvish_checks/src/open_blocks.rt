@@ -1,6 +1,6 @@
 ghost use Rattle.std.specs.Prelude.{◌≡◌, ◌∷◌, [], OnOk, length};
 ghost use Rattle.lvish_checks.specs.Checks.{is_nil, takes_else, open_step};
-ghost use Rattle.lvish_checks.specs.Opened.{opener_of, closed};
+ghost use Rattle.lvish_checks.specs.Opened.{closed};
 
 use crate::line::Line;
 use std::alloc::{AllocError, Global};
@@ -26,13 +26,12 @@ pub struct OpenBlocks {
 }
 
 impl Model for OpenBlocks {
-    ghost use Rattle.std.specs.Prelude.{List};
-    ghost use Rattle.lvish_checks.specs.Checks.{Opener};
-    ghost use Rattle.lvish_checks.specs.Opened.{opened_by};
+    ghost use Rattle.std.specs.Prelude.{List, reverse};
+    ghost use Rattle.lvish_checks.specs.declared.open_blocks.Opener as opener;
 
-    ghost Value = { List Opener };
+    ghost Value = { List opener.Opener };
 
-    ghost view = { λ o. opened_by o.openers.items };
+    ghost view = { λ o. reverse o.openers.items };
 }
 
 impl OpenBlocks {
@@ -68,7 +67,7 @@ impl OpenBlocks {
     }
 
     fn open(&mut self, opener: Opener) -> Result<(), AllocError>
-        ensures { OnOk result (self.new ≡ opener_of opener ∷ self.old) }
+        ensures { OnOk result (self.new ≡ opener ∷ self.old) }
     {
         self.openers.push(opener)?;
         Ok(())

@@ -1,8 +1,7 @@
 -- Ascending lists as sets: a list is determined by its members, and a merge is a join.
 use Rattle.std.specs.Prelude.{◌≡◌, Bool, true, false, not, ◌||◌, ◌&&◌, List, [], ◌∷◌, ◌↔◌, ◌++◌, All, refl, filter, slice_index_or, Contains, Result, Ok, Err, is_ok, nat_lt}
 use Rattle.std.proofs.Common.{sym, ◌∙◌, ap, subst, true≢false, arith, zero, suc, length, ◌<◌, ◌≤◌, ℕ, take, drop}
-use Rattle.std.proofs.Math.ListN.{drop_of_length-le}
-use Rattle.std.proofs.lemmas.List.{append-nil, take-append-drop, take_at}
+use Rattle.std.proofs.lemmas.List.{append-nil, take_at}
 use Rattle.std.specs.declared.cmp.Ordering.{Ordering}
 use Rattle.std.specs.declared.cmp.Ordering.TheVariants.{Less, Equal, Greater}
 use Rattle.std.specs.Ordering.{eq_by_cmp, is_eq, is_lt, ordering_reverse, match_ordering}
@@ -279,9 +278,6 @@ merge_first_ends R xs ys e = rw e refl
 pub merge_second_ends : {K : Type 0} (R : K → K → Ordering) (xs ys : List K) → ys ≡ [] → sorted_merge R true xs ys ≡ xs ++ ys
 merge_second_ends R [] ys e = refl
 merge_second_ends R (x ∷ xs) ys e = rw e (sym (append-nil (x ∷ xs)))
-
-pub take_whole : {A : Type 0} (n : ℕ) (xs : List A) → length xs ≤ n → take n xs ≡ xs
-take_whole n xs h = sym (append-nil (take n xs)) ∙ ap (λ ys. take n xs ++ ys) (sym (drop_of_length-le xs h)) ∙ take-append-drop n xs
 
 pub rises_drop : {K : Type 0} (R : K → K → Ordering) (n : ℕ) (xs : List K) → IsStrictlySortedBy R xs → IsStrictlySortedBy R (drop n xs)
 unfolding IsStrictlySortedBy

@@ -1,6 +1,7 @@
 -- The order of names is total, and it tells all names apart where that of the events does.
 use Rattle.std.specs.Prelude.{◌≡◌, ℕ, Bool, true, false, ◌&&◌, List, [], ◌∷◌, ◌++◌, reverse, nat_eq, refl}
 use Rattle.std.proofs.Common.{sym, ◌∙◌, ap, subst}
+use Rattle.std.proofs.Math.Bool.{and-false}
 use Rattle.std.proofs.lemmas.Bool.{false≢true, and_from}
 use Rattle.std.proofs.lemmas.List.{reverse-append, reverse-reverse}
 use Rattle.std.specs.declared.cmp.Ordering.{Ordering}
@@ -105,18 +106,14 @@ module _ {K : Type 0} (test : K → K → Bool) where
   and_swap false true = refl
   and_swap false false = refl
 
-  and_none : (a : Bool) → (a && false) ≡ false
-  and_none true = refl
-  and_none false = refl
-
   none_swap : (a b : Bool) → b ≡ false → (a && b) ≡ false
-  none_swap a b e = ap (λ c. a && c) e ∙ and_none a
+  none_swap a b e = ap (λ c. a && c) e ∙ and-false a
 
   -- the last of each, and then the others
   pointwise-snoc : (xs ys : List K) (x y : K) → pointwise test (xs ++ x ∷ []) (ys ++ y ∷ []) ≡ (test x y && pointwise test xs ys)
   pointwise-snoc [] [] x y = refl
-  pointwise-snoc [] (b ∷ ys) x y = none_swap (test x b) _ (snoc_apart ys y) ∙ sym (and_none (test x y))
-  pointwise-snoc (a ∷ xs) [] x y = none_swap (test a y) _ (snoc_apart_left xs x) ∙ sym (and_none (test x y))
+  pointwise-snoc [] (b ∷ ys) x y = none_swap (test x b) _ (snoc_apart ys y) ∙ sym (and-false (test x y))
+  pointwise-snoc (a ∷ xs) [] x y = none_swap (test a y) _ (snoc_apart_left xs x) ∙ sym (and-false (test x y))
   pointwise-snoc (a ∷ xs) (b ∷ ys) x y = ap (λ c. test a b && c) (pointwise-snoc xs ys x y) ∙ and_turn (test a b) (test x y) (pointwise test xs ys)
 
   reverse_cons : (x : K) (xs : List K) → reverse (x ∷ xs) ≡ reverse xs ++ x ∷ []

@@ -1,5 +1,6 @@
 -- The lines of a sound script pass each check.
 use Rattle.std.proofs.Common.{◌≡◌, ℕ, zero, suc, ◌≤◌, Bool, true, false, not, ◌||◌, ◌&&◌, ◌==◌, List, [], ◌∷◌, ◌++◌, length, map, take, drop, None, refl, sym, ap, subst, ◌∙◌}
+use Rattle.std.proofs.lemmas.Bool.{or_from}
 use Rattle.std.specs.Prelude.{nat_le, nat_lt, slice_get}
 use Rattle.std.specs.Option.{option_map_or}
 use Rattle.std.specs.List.{list_any, list_all}
@@ -16,12 +17,13 @@ use Rattle.lvish_syntax.specs.declared.procedure.Procedure.{Procedure}
 use Rattle.lvish_syntax.specs.declared.statement.Statement.TheViews.{out-Statement}
 use Rattle.lvish_checks.specs.declared.line.Line.{Line}
 use Rattle.lvish_checks.specs.declared.line.Line.TheVariants.{Blank, Bad, Declare, Proc, Do, If, While, Else, End}
-use Rattle.lvish_checks.specs.Checks.{InProcedure, Parts, IsAccepted, on_line, on_whole, has_procedure, is_nil, is_main, is_procedure, binds_until_procedure, locals_after, locals_at, stands_badly, declares_again, names_unknown, misfits, miscounts, mixes, command_misfits, command_mixes, is_misplaced, is_past_limit, is_full, open_after}
+use Rattle.lvish_checks.specs.Checks.{Parts, IsAccepted, on_line, on_whole, has_procedure, is_nil, is_main, is_procedure, binds_until_procedure, locals_after, locals_at, stands_badly, declares_again, names_unknown, misfits, miscounts, mixes, command_misfits, command_mixes, is_misplaced, is_past_limit, is_full, open_after}
+use Rattle.lvish_checks.specs.declared.open_blocks.Opener.TheVariants.{Procedure as InProcedure}
 use Rattle.lvish_checks.specs.Text.{is_foreign}
 use Rattle.lvish_checks.specs.Form.{is_bad_number}
 use Rattle.lvish_script.specs.Spells.{body_lines, script_lines}
 use Rattle.lvish_script.specs.Canonical.{line_words}
-use Rattle.lvish_checks.proofs.Cuts.{neither, left_fails, right_fails}
+use Rattle.lvish_checks.proofs.Cuts.{left_fails, right_fails}
 use Rattle.lvish_script.proofs.Cleaned.{unknown_given, unknown_is}
 use Rattle.lvish_script.proofs.Cleared.{locals_in}
 use Rattle.lvish_script.proofs.Bodies.{is_inner, inner}
@@ -117,7 +119,7 @@ module _ (ds : List Declaration) (ps : List Procedure) (sound : IsSound ds ps) w
 
   fresh_procedure : (q : List Procedure) (r : Procedure) (more : List Procedure) → ps ≡ q ++ r ∷ more → declares_again (script_lines ds q) (Proc r.name r.parameters) ≡ false
   fresh_procedure q r more w =
-      neither (has_procedure r.name (script_lines ds q)) _
+      or_from (has_procedure r.name (script_lines ds q)) _
       (procedures_declared r.name ds q ∙ no_repeat_at (procedure_names q) r.name (procedure_names more) (ap has_repeat (sym (procedure_at q r more w)) ∙ sound.procedures_differ))
       (any_at_cut (λ (p : Procedure). has_repeat p.parameters) q r more (ap (list_any (λ (p : Procedure). has_repeat p.parameters)) (sym w) ∙ sound.parameters_differ))
 
@@ -235,7 +237,7 @@ module _ (ds : List Declaration) (ps : List Procedure) (sound : IsSound ds ps) w
 
   blocks_closed : (l : ℕ) → on_line (λ k x. is_misplaced (open_after [] (take k (script_lines ds ps))) x || (suc k == length (script_lines ds ps) && not (is_nil (open_after [] (script_lines ds ps))))) (script_lines ds ps) l ≡ false
   blocks_closed = passes_cuts _ (script_lines ds ps) (λ b x a e.
-      neither (is_misplaced (open_after [] (take (length b) (script_lines ds ps))) x) _
+      or_from (is_misplaced (open_after [] (take (length b) (script_lines ds ps))) x) _
       (ap (λ t. is_misplaced (open_after [] t) x) (ap (take (length b)) e ∙ take-append_seam b (x ∷ a)) ∙ placed ds ps (λ b x a. is_misplaced (open_after [] b) x ≡ false) lines_stand b x a e)
       (ap (λ os. suc (length b) == length (script_lines ds ps) && not (is_nil os)) (none_open ds ps) ∙ and_false (suc (length b) == length (script_lines ds ps))))
 

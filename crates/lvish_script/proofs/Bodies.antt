@@ -1,5 +1,6 @@
 -- What holds of the lines of statements, and of the statements.
 use Rattle.std.proofs.Common.{◌≡◌, ℕ, Bool, true, false, cond, ◌&&◌, List, [], ◌∷◌, ◌++◌, Some, refl, sym, ap, ◌∙◌, arith, append_assoc}
+use Rattle.std.proofs.lemmas.Bool.{or_from}
 use Rattle.std.specs.Prelude.{count_by}
 use Rattle.std.specs.List.{list_any, list_all, flat_map}
 use Rattle.std.proofs.lemmas.List.{append-nil}
@@ -15,7 +16,7 @@ use Rattle.lvish_checks.specs.declared.line.Line.{Line}
 use Rattle.lvish_checks.specs.declared.line.Line.TheVariants as line
 use Rattle.lvish_checks.specs.Checks.{is_procedure, binds, binds_until_procedure, locals_after, parameters_of}
 use Rattle.lvish_script.specs.Spells.{statement_lines, row_lines, body_lines}
-use Rattle.lvish_checks.proofs.Cuts.{left_fails, right_fails, neither, both_hold}
+use Rattle.lvish_checks.proofs.Cuts.{left_fails, right_fails, both_hold}
 use Rattle.lvish_script.proofs.Cleaned.{count_cons}
 
 -- the first line of a statement
@@ -141,7 +142,7 @@ inner (s ∷ ss) = join_all is_inner (statement_lines s) (body_lines ss) (inner_
 
 pub none_inner : (p : Line → Bool) → ((l : Line) → is_inner l ≡ true → p l ≡ false) → (ls : List Line) → list_all is_inner ls ≡ true → list_any p ls ≡ false
 none_inner p h [] e = refl
-none_inner p h (l ∷ ls) e = neither (p l) _ (h l (first_holds (is_inner l) _ e)) (none_inner p h ls (second_holds (is_inner l) _ e))
+none_inner p h (l ∷ ls) e = or_from (p l) _ (h l (first_holds (is_inner l) _ e)) (none_inner p h ls (second_holds (is_inner l) _ e))
 
 pub no_procedure : (l : Line) → is_inner l ≡ true → is_procedure l ≡ false
 no_procedure (line.Proc n xs) e = absurd cc

@@ -13,7 +13,9 @@ use Rattle.lvish_syntax.specs.declared.command.Command.{Command}
 use Rattle.lvish_syntax.specs.declared.command.Command.TheVariants.{Let, Put, PutAt, Get, GetAt, Fork, Call, Handle, Freeze, FreezeEach}
 use Rattle.lvish_checks.specs.declared.line.Line.{Line}
 use Rattle.lvish_checks.specs.declared.line.Line.TheVariants.{Blank, Bad, Declare, Proc, Do, If, While, Else, End}
-use Rattle.lvish_checks.specs.Checks.{Opener, InProcedure, InIf, InElse, InWhile, declarations, has_variable, has_pool, has_procedure, is_variable, is_pool, is_procedure, declares_procedure, declares_again, is_past_limit, binds, binds_until_procedure, locals_step, locals_after, locals_at, open_step, open_after, is_full, parameters_of, miscounts, command_miscounts, command_unknown, names_unknown, misfits, mixes, command_misfits, command_mixes}
+use Rattle.lvish_checks.specs.Checks.{declarations, has_variable, has_pool, has_procedure, is_variable, is_pool, is_procedure, declares_procedure, declares_again, is_past_limit, binds, binds_until_procedure, locals_step, locals_after, locals_at, open_step, open_after, is_full, parameters_of, miscounts, command_miscounts, command_unknown, names_unknown, misfits, mixes, command_misfits, command_mixes}
+use Rattle.lvish_checks.specs.declared.open_blocks.Opener.{Opener}
+use Rattle.lvish_checks.specs.declared.open_blocks.Opener.TheVariants.{Procedure as InProcedure, If as InIf, Else as InElse, While as InWhile}
 use Rattle.lvish_script.specs.Spells.{says_something}
 
 -- ---- what a check counts and looks up

@@ -1,5 +1,6 @@
 -- What the lines of declarations and procedures declare.
 use Rattle.std.proofs.Common.{◌≡◌, ℕ, zero, suc, ◌+◌, ◌≤◌, ◌<◌, Bool, true, false, not, cond, ◌||◌, ◌&&◌, ◌==◌, List, [], ◌∷◌, ◌++◌, length, map, Option, Some, refl, sym, ap, subst, ◌∙◌, arith, append_assoc}
+use Rattle.std.proofs.lemmas.Bool.{or_from}
 use Rattle.std.specs.Prelude.{count_by, codes, is_some, nat_le, if◌then◌else◌}
 use Rattle.std.specs.Option.{option_map_or}
 use Rattle.std.specs.List.{list_any, list_all, flat_map}
@@ -18,9 +19,10 @@ use Rattle.lvish_syntax.specs.declared.declaration.Declaration.TheVariants.{Vari
 use Rattle.lvish_syntax.specs.declared.procedure.Procedure.{Procedure}
 use Rattle.lvish_checks.specs.declared.line.Line.{Line}
 use Rattle.lvish_checks.specs.declared.line.Line.TheVariants.{Blank, Bad, Declare, Proc, End}
-use Rattle.lvish_checks.specs.Checks.{InProcedure, declared_by, declarations, has_procedure, is_nil, is_main, is_variable, is_pool, is_procedure, declares_procedure, declares_again, is_past_limit, parameters_of, open_after}
+use Rattle.lvish_checks.specs.Checks.{declared_by, declarations, has_procedure, is_nil, is_main, is_variable, is_pool, is_procedure, declares_procedure, declares_again, is_past_limit, parameters_of, open_after}
+use Rattle.lvish_checks.specs.declared.open_blocks.Opener.TheVariants.{Procedure as InProcedure}
 use Rattle.lvish_script.specs.Spells.{body_lines, procedure_lines, script_lines}
-use Rattle.lvish_checks.proofs.Cuts.{neither, both_hold, differ_by_cut}
+use Rattle.lvish_checks.proofs.Cuts.{both_hold, differ_by_cut}
 use Rattle.lvish_script.proofs.Cleaned.{count_cons}
 use Rattle.lvish_script.proofs.Bodies.{is_inner, inner, none_inner, no_procedures, none_counted, skipped}
 use Rattle.lvish_script.proofs.Levels.{open_append, balanced_body}
@@ -64,12 +66,12 @@ declared ds ps = declarations_append (heads ds) (flat_map procedure_lines ps) �
 
 pub any_heads : (p : Line → Bool) → ((d : Declaration) → p (Declare d) ≡ false) → (ds : List Declaration) → list_any p (heads ds) ≡ false
 any_heads p h [] = refl
-any_heads p h (d ∷ ds) = neither (p (Declare d)) _ (h d) (any_heads p h ds)
+any_heads p h (d ∷ ds) = or_from (p (Declare d)) _ (h d) (any_heads p h ds)
 
 module _ (p : Line → Bool) (q : Procedure → Bool) (head : (r : Procedure) → p (Proc r.name r.parameters) ≡ q r) (body : (l : Line) → is_inner l ≡ true → p l ≡ false) where
   any_procedure : (r : Procedure) → list_any p (procedure_lines r) ≡ q r
   any_procedure r =
-      let none : list_any p (body_lines (statements r.body) ++ End ∷ []) ≡ false = list_any-append p (body_lines (statements r.body)) (End ∷ []) ∙ neither _ _ (none_inner p body (body_lines (statements r.body)) (inner (statements r.body))) (neither (p End) false (body End refl) refl) in
+      let none : list_any p (body_lines (statements r.body) ++ End ∷ []) ≡ false = list_any-append p (body_lines (statements r.body)) (End ∷ []) ∙ or_from _ _ (none_inner p body (body_lines (statements r.body)) (inner (statements r.body))) (or_from (p End) false (body End refl) refl) in
       rw (head r, none) (or_false (q r))
 
   any_procedures : (ps : List Procedure) → list_any p (flat_map procedure_lines ps) ≡ list_any q ps
@@ -326,7 +328,7 @@ takes_here n k r ps false e more h m =
 taken_among : (n : Word) (k : ℕ) (ps : List Procedure) → has_name n (procedure_names ps) ≡ true → disagrees k (parameters_of n (flat_map procedure_lines ps)) ≡ false → list_any (takes n k) ps ≡ true
 taken_among n k [] h m = h
 taken_among n k (r ∷ ps) h m =
-    let body_none : list_any is_procedure (body_lines (statements r.body) ++ (End ∷ [])) ≡ false = list_any-append is_procedure (body_lines (statements r.body)) (End ∷ []) ∙ neither _ _ (no_procedures (statements r.body)) refl in
+    let body_none : list_any is_procedure (body_lines (statements r.body) ++ (End ∷ [])) ≡ false = list_any-append is_procedure (body_lines (statements r.body)) (End ∷ []) ∙ or_from _ _ (no_procedures (statements r.body)) refl in
     let skip = skipped n (body_lines (statements r.body) ++ (End ∷ [])) (flat_map procedure_lines ps) body_none in
     takes_here n k r ps (bytes_eq r.name n) refl (taken_among n k ps) h (ap (λ o. disagrees k (if bytes_eq r.name n then Some r.parameters else o)) (sym skip) ∙ m)
 

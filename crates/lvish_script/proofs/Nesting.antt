@@ -11,7 +11,9 @@ use Rattle.lvish_checks.specs.declared.line.Line.{Line}
 use Rattle.lvish_checks.specs.declared.line.Line.TheVariants.{Blank, Bad, Declare, Proc, Do, If, While, Else, End}
 use Rattle.lvish_checks.specs.declared.fault.Fault.TheVariants.{BadLine, OpenBlock}
 use Rattle.lvish_script.specs.declared.nest.OpenProcedure.{OpenProcedure}
-use Rattle.lvish_checks.specs.Checks.{Opener, InProcedure, InIf, InElse, InWhile, on_line, line_fails, open_after, open_step, is_nil, is_procedure, is_misplaced, stands_badly}
+use Rattle.lvish_checks.specs.Checks.{on_line, line_fails, open_after, open_step, is_nil, is_procedure, is_misplaced, stands_badly}
+use Rattle.lvish_checks.specs.declared.open_blocks.Opener.{Opener}
+use Rattle.lvish_checks.specs.declared.open_blocks.Opener.TheVariants.{Procedure as InProcedure, If as InIf, Else as InElse, While as InWhile}
 use Rattle.lvish_script.specs.Spells.{says_something}
 use Rattle.lvish_script.specs.Nested.{Fits, HasNone, opener, openers, what_is_said}
 use Rattle.lvish_checks.proofs.Lines.{open_after-more}

@@ -1,5 +1,6 @@
 -- What a sound script says of the checks of its lines.
 use Rattle.std.proofs.Common.{◌≡◌, ℕ, suc, ◌+◌, ◌≤◌, ◌<◌, Bool, true, false, not, ◌||◌, ◌&&◌, ◌==◌, List, [], ◌∷◌, ◌++◌, length, Option, Some, None, refl, sym, ap, ◌∙◌, arith, append_assoc, length-append}
+use Rattle.std.proofs.lemmas.Bool.{or_from}
 use Rattle.std.specs.Prelude.{is_some, nat_le, if◌then◌else◌}
 use Rattle.std.specs.Option.{option_map_or}
 use Rattle.std.specs.List.{list_any, list_all, flat_map}
@@ -25,7 +26,7 @@ use Rattle.lvish_syntax.specs.declared.statement.Statement.TheOpen as o
 use Rattle.lvish_checks.specs.declared.line.Line.TheVariants.{End}
 use Rattle.lvish_checks.specs.Checks.{has_variable, has_pool, has_procedure, has_other_count, command_unknown, command_misfits, command_miscounts, command_mixes, is_procedure, parameters_of}
 use Rattle.lvish_script.specs.Spells.{body_lines, procedure_lines, script_lines}
-use Rattle.lvish_checks.proofs.Cuts.{left_fails, right_fails, neither, both_hold}
+use Rattle.lvish_checks.proofs.Cuts.{left_fails, right_fails, both_hold}
 use Rattle.lvish_script.proofs.Bodies.{own_line, no_procedures, skipped, first_holds, second_holds}
 use Rattle.lvish_script.proofs.Declaring.{declared, procedures_declared, kind_known, disagrees, skip_heads}
 use Rattle.lvish_script.proofs.Soundness.{is_line_sound}
@@ -76,7 +77,7 @@ same_length n k r ps false named differ e more =
 agreed_among : (n : Word) (k : ℕ) (ps : List Procedure) → has_repeat (procedure_names ps) ≡ false → list_any (takes n k) ps ≡ true → disagrees k (parameters_of n (flat_map procedure_lines ps)) ≡ false
 agreed_among n k [] differ e = refl
 agreed_among n k (r ∷ ps) differ e =
-    let none : list_any is_procedure (body_lines (statements r.body) ++ (End ∷ [])) ≡ false = list_any-append is_procedure (body_lines (statements r.body)) (End ∷ []) ∙ neither _ _ (no_procedures (statements r.body)) refl in
+    let none : list_any is_procedure (body_lines (statements r.body) ++ (End ∷ [])) ≡ false = list_any-append is_procedure (body_lines (statements r.body)) (End ∷ []) ∙ or_from _ _ (no_procedures (statements r.body)) refl in
     let skip = skipped n (body_lines (statements r.body) ++ (End ∷ [])) (flat_map procedure_lines ps) none in
     ap (λ m. disagrees k (if bytes_eq r.name n then Some r.parameters else m)) skip ∙ same_length n k r ps (bytes_eq r.name n) refl differ e (agreed_among n k ps)
 
@@ -129,7 +130,7 @@ module _ (ds : List Declaration) (ps : List Procedure) (differ : has_repeat (pro
   command_passes locals (Put v t) e =
       let put = first_holds (is_put_sound ds v None) _ e in
       record {
-        unknown = neither (not (has_variable v (script_lines ds ps))) _ (there_passes v None put) (ap not (second_holds (is_put_sound ds v None) _ e));
+        unknown = or_from (not (has_variable v (script_lines ds ps))) _ (there_passes v None put) (ap not (second_holds (is_put_sound ds v None) _ e));
         kinds = ap not put;
         counts = refl;
         apart = refl;
@@ -138,7 +139,7 @@ module _ (ds : List Declaration) (ps : List Procedure) (differ : has_repeat (pro
       let two = first_holds (is_put_sound ds v (Some k) && is_known locals k) _ e in
       let put = first_holds (is_put_sound ds v (Some k)) _ two in
       record {
-        unknown = neither (not (has_variable v (script_lines ds ps)) || not (is_known locals k)) _ (neither (not (has_variable v (script_lines ds ps))) _ (there_passes v (Some k) put) (ap not (second_holds (is_put_sound ds v (Some k)) _ two))) (ap not (second_holds (is_put_sound ds v (Some k) && is_known locals k) _ e));
+        unknown = or_from (not (has_variable v (script_lines ds ps)) || not (is_known locals k)) _ (or_from (not (has_variable v (script_lines ds ps))) _ (there_passes v (Some k) put) (ap not (second_holds (is_put_sound ds v (Some k)) _ two))) (ap not (second_holds (is_put_sound ds v (Some k) && is_known locals k) _ e));
         kinds = ap not put;
         counts = refl;
         apart = refl;
@@ -147,7 +148,7 @@ module _ (ds : List Declaration) (ps : List Procedure) (differ : has_repeat (pro
       let two = first_holds (has_name x locals && is_get_sound ds v None r) _ e in
       let get = second_holds (has_name x locals) _ two in
       record {
-        unknown = neither (not (has_variable v (script_lines ds ps))) _ (there_passes v None (get_there v None r get)) (ap not (second_holds (has_name x locals && is_get_sound ds v None r) _ e));
+        unknown = or_from (not (has_variable v (script_lines ds ps))) _ (there_passes v None (get_there v None r get)) (ap not (second_holds (has_name x locals && is_get_sound ds v None r) _ e));
         kinds = ap not (get_kind (kind_there ds v None) r get);
         counts = refl;
         apart = ap not (get_apart (kind_there ds v None) r get);
@@ -157,25 +158,25 @@ module _ (ds : List Declaration) (ps : List Procedure) (differ : has_repeat (pro
       let two = first_holds (has_name x locals && is_get_sound ds v (Some k) r) _ three in
       let get = second_holds (has_name x locals) _ two in
       record {
-        unknown = neither (not (has_variable v (script_lines ds ps)) || not (is_known locals k)) _ (neither (not (has_variable v (script_lines ds ps))) _ (there_passes v (Some k) (get_there v (Some k) r get)) (ap not (second_holds (has_name x locals && is_get_sound ds v (Some k) r) _ three))) (ap not (second_holds (has_name x locals && is_get_sound ds v (Some k) r && is_known locals k) _ e));
+        unknown = or_from (not (has_variable v (script_lines ds ps)) || not (is_known locals k)) _ (or_from (not (has_variable v (script_lines ds ps))) _ (there_passes v (Some k) (get_there v (Some k) r get)) (ap not (second_holds (has_name x locals && is_get_sound ds v (Some k) r) _ three))) (ap not (second_holds (has_name x locals && is_get_sound ds v (Some k) r && is_known locals k) _ e));
         kinds = ap not (get_kind (kind_there ds v (Some k)) r get);
         counts = refl;
         apart = ap not (get_apart (kind_there ds v (Some k)) r get);
       }
   command_passes locals (Fork n ts) e =
       let there = first_holds (list_any (takes n (length ts)) ps) _ e in
-      record { unknown = neither (not (has_procedure n (script_lines ds ps))) _ (procedure_passes n (length ts) there) (ap not (second_holds (list_any (takes n (length ts)) ps) _ e)); kinds = refl; counts = count_passes n (length ts) there; apart = refl }
+      record { unknown = or_from (not (has_procedure n (script_lines ds ps))) _ (procedure_passes n (length ts) there) (ap not (second_holds (list_any (takes n (length ts)) ps) _ e)); kinds = refl; counts = count_passes n (length ts) there; apart = refl }
   command_passes locals (Call n ts) e =
       let there = first_holds (list_any (takes n (length ts)) ps) _ e in
-      record { unknown = neither (not (has_procedure n (script_lines ds ps))) _ (procedure_passes n (length ts) there) (ap not (second_holds (list_any (takes n (length ts)) ps) _ e)); kinds = refl; counts = count_passes n (length ts) there; apart = refl }
+      record { unknown = or_from (not (has_procedure n (script_lines ds ps))) _ (procedure_passes n (length ts) there) (ap not (second_holds (list_any (takes n (length ts)) ps) _ e)); kinds = refl; counts = count_passes n (length ts) there; apart = refl }
   command_passes locals (Handle p n) e =
       let there = second_holds (has_name p (pool_names ds)) _ e in
-      record { unknown = neither (not (has_pool p (script_lines ds ps))) _ (ap not (pool_passes p (first_holds (has_name p (pool_names ds)) _ e))) (procedure_passes n 2 there); kinds = refl; counts = count_passes n 2 there; apart = refl }
+      record { unknown = or_from (not (has_pool p (script_lines ds ps))) _ (ap not (pool_passes p (first_holds (has_name p (pool_names ds)) _ e))) (procedure_passes n 2 there); kinds = refl; counts = count_passes n 2 there; apart = refl }
   command_passes locals (Freeze x v pools) e =
       let two = first_holds (has_name x locals && is_some (kind_of v ds)) _ e in
       let on_it = second_holds (has_name x locals && is_some (kind_of v ds)) _ e in
       record {
-        unknown = neither (not (has_variable v (script_lines ds ps))) _ (kind_passes v (second_holds (has_name x locals) _ two)) (ap not (pools_pass v pools on_it));
+        unknown = or_from (not (has_variable v (script_lines ds ps))) _ (kind_passes v (second_holds (has_name x locals) _ two)) (ap not (pools_pass v pools on_it));
         kinds = ap not on_it;
         counts = refl;
         apart = refl;
@@ -186,7 +187,7 @@ module _ (ds : List Declaration) (ps : List Procedure) (differ : has_repeat (pro
       let two = first_holds (has_name x locals && is_some (kind_of v ds)) _ three in
       let on_it = second_holds (has_name x locals && is_some (kind_of v ds)) _ three in
       record {
-        unknown = neither (not (has_variable v (script_lines ds ps)) || not (list_all (λ p. has_pool p (script_lines ds ps)) pools)) _ (neither (not (has_variable v (script_lines ds ps))) _ (kind_passes v (second_holds (has_name x locals) _ two)) (ap not (pools_pass v pools on_it))) (procedure_passes n 2 there);
+        unknown = or_from (not (has_variable v (script_lines ds ps)) || not (list_all (λ p. has_pool p (script_lines ds ps)) pools)) _ (or_from (not (has_variable v (script_lines ds ps))) _ (kind_passes v (second_holds (has_name x locals) _ two)) (ap not (pools_pass v pools on_it))) (procedure_passes n 2 there);
         kinds = ap not on_it;
         counts = count_passes n 2 there;
         apart = refl;
@@ -206,7 +207,7 @@ no_repeat_at (x ∷ xs) y ys e =
     let apart : has_name x (xs ++ y ∷ ys) ≡ false = left_fails (has_name x (xs ++ y ∷ ys)) _ e in
     let there : (has_name x xs || (bytes_eq y x || has_name x ys)) ≡ false = sym (list_any-append (λ z. bytes_eq z x) xs (y ∷ ys)) ∙ apart in
     let no : bytes_eq y x ≡ false = left_fails (bytes_eq y x) _ (right_fails (has_name x xs) _ there) in
-    neither (bytes_eq x y) _ (differs (bytes_eq x y) refl no) (no_repeat_at xs y ys (right_fails (has_name x (xs ++ y ∷ ys)) _ e))
+    or_from (bytes_eq x y) _ (differs (bytes_eq x y) refl no) (no_repeat_at xs y ys (right_fails (has_name x (xs ++ y ∷ ys)) _ e))
   where
     differs : (b : Bool) → bytes_eq x y ≡ b → bytes_eq y x ≡ false → bytes_eq x y ≡ false
     differs true k h =

@@ -1,5 +1,6 @@
 -- Words that can stand in a line: no separator, no line feed and no comment's beginning in them.
 use Rattle.std.proofs.Common.{◌≡◌, cond, ℕ, suc, ◌^◌, ◌<◌, Bool, true, false, not, ◌||◌, ◌&&◌, List, [], ◌∷◌, ◌++◌, length, map, Option, Some, None, refl, ap, ◌∙◌, arith}
+use Rattle.std.proofs.lemmas.Bool.{or_from}
 use Rattle.std.specs.Prelude.{nat_le, nat_lt, ◌==◌, ℤ, pos, negsuc, filter, take_while}
 use Rattle.std.specs.List.{list_any, list_all, slice_split, onto_first}
 use Rattle.std.specs.Str.{all_ascii_digits}
@@ -20,7 +21,7 @@ use Rattle.lvish_syntax.specs.declared.term.Term.TheVariants.{Local, Number}
 use Rattle.lvish_checks.specs.Text.{is_separator, is_comment, is_foreign, words_of}
 use Rattle.lvish_checks.specs.Form.{is_number_word, is_numeral, number_of, value_of_number, number_word, term_of, is_bad_number, all_of}
 use Rattle.lvish_script.specs.Canonical.{term_word, spaced, joined}
-use Rattle.lvish_checks.proofs.Cuts.{neither, both_hold, left_fails, right_fails}
+use Rattle.lvish_checks.proofs.Cuts.{both_hold, left_fails, right_fails}
 use Rattle.lvish_script.proofs.Bodies.{first_holds, second_holds}
 
 -- a byte of a word
@@ -198,7 +199,7 @@ plain_feed b e = grind (arith, nat_tests)
 module _ (p : ℕ → Bool) (h : (b : ℕ) → is_plain_byte b ≡ true → p b ≡ false) where
   pub none_in : (w : List ℕ) → list_all is_plain_byte w ≡ true → list_any p w ≡ false
   none_in [] e = refl
-  none_in (b ∷ w) e = neither (p b) _ (h b (first_holds (is_plain_byte b) _ e)) (none_in w (second_holds (is_plain_byte b) _ e))
+  none_in (b ∷ w) e = or_from (p b) _ (h b (first_holds (is_plain_byte b) _ e)) (none_in w (second_holds (is_plain_byte b) _ e))
 
 bytes_of : (w : Word) → is_plain w ≡ true → list_all is_plain_byte w ≡ true
 bytes_of [] e = refl
@@ -248,11 +249,11 @@ module _ (p : ℕ → Bool) (h : (b : ℕ) → is_plain_byte b ≡ true → p b 
   none_spaced : (ws : List Word) → list_all is_plain ws ≡ true → list_any p (spaced ws) ≡ false
   none_spaced [] e = refl
   none_spaced (w ∷ ws) e =
-      neither (p 32) _ space (list_any-append p w (spaced ws) ∙ neither (list_any p w) _ (none_in p h w (bytes_of w (first_holds (is_plain w) _ e))) (none_spaced ws (second_holds (is_plain w) _ e)))
+      or_from (p 32) _ space (list_any-append p w (spaced ws) ∙ or_from (list_any p w) _ (none_in p h w (bytes_of w (first_holds (is_plain w) _ e))) (none_spaced ws (second_holds (is_plain w) _ e)))
 
   pub none_joined : (ws : List Word) → list_all is_plain ws ≡ true → list_any p (joined ws) ≡ false
   none_joined [] e = refl
-  none_joined (w ∷ ws) e = list_any-append p w (spaced ws) ∙ neither (list_any p w) _ (none_in p h w (bytes_of w (first_holds (is_plain w) _ e))) (none_spaced ws (second_holds (is_plain w) _ e))
+  none_joined (w ∷ ws) e = list_any-append p w (spaced ws) ∙ or_from (list_any p w) _ (none_in p h w (bytes_of w (first_holds (is_plain w) _ e))) (none_spaced ws (second_holds (is_plain w) _ e))
 
 plain_known : (b : ℕ) → is_plain_byte b ≡ true → is_foreign b ≡ false
 plain_known b e = grind (arith, nat_tests)

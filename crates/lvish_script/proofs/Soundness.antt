@@ -27,7 +27,8 @@ use Rattle.lvish_syntax.specs.declared.statement.Statement.TheOpen as o
 use Rattle.lvish_syntax.specs.declared.statement.Statement.TheViews.{out-Statement}
 use Rattle.lvish_checks.specs.declared.line.Line.{Line}
 use Rattle.lvish_checks.specs.declared.line.Line.TheVariants.{Blank, Bad, Declare, Proc, Do, If, While, Else, End}
-use Rattle.lvish_checks.specs.Checks.{InProcedure, on_line, has_variable, has_pool, has_procedure, is_main, is_procedure, declares_again, is_past_limit, binds, binds_until_procedure, locals_after, locals_step, miscounts, misfits, mixes, names_unknown, has_other_count, is_get_of_kind, is_get_apart, command_unknown, command_misfits, command_miscounts, command_mixes, open_after}
+use Rattle.lvish_checks.specs.Checks.{on_line, has_variable, has_pool, has_procedure, is_main, is_procedure, declares_again, is_past_limit, binds, binds_until_procedure, locals_after, locals_step, miscounts, misfits, mixes, names_unknown, has_other_count, is_get_of_kind, is_get_apart, command_unknown, command_misfits, command_miscounts, command_mixes, open_after}
+use Rattle.lvish_checks.specs.declared.open_blocks.Opener.TheVariants.{Procedure as InProcedure}
 use Rattle.lvish_script.specs.Spells.{body_lines, procedure_lines, script_lines, says_something}
 use Rattle.lvish_checks.proofs.Cuts.{left_fails, right_fails, both_hold, same_name, all_by_cut, none_by_cut, few_by_cut, differ_by_cut}
 use Rattle.lvish_script.proofs.Cleaned.{any_cleaned}

@@ -1,5 +1,6 @@
 -- The canonical text of a script says its lines.
 use Rattle.std.proofs.Common.{◌≡◌, cond, ℕ, ◌-◌, Bool, true, false, not, ◌&&◌, List, [], ◌∷◌, ◌++◌, length, map, take, refl, sym, ap, ◌∙◌, arith, append_assoc}
+use Rattle.std.proofs.lemmas.Bool.{or_from}
 use Rattle.std.specs.Prelude.{filter, codes, ◌==◌, slice_index, ℤ, if◌then◌else◌}
 use Rattle.std.specs.List.{list_any, list_all, slice_split, flat_map}
 use Rattle.std.proofs.Math.Seq.{take-append_seam}
@@ -30,7 +31,7 @@ use Rattle.lvish_checks.specs.Text.{is_foreign, lines_of, without_last_feed, wor
 use Rattle.lvish_checks.specs.Form.{line_of, is_bad_number}
 use Rattle.lvish_script.specs.Spells.{body_lines, procedure_lines, script_lines, says_something}
 use Rattle.lvish_script.specs.Canonical.{term_word, kind_word, operator_word, value_words, threshold_words, pool_words, command_words, line_words, joined, lines_text}
-use Rattle.lvish_checks.proofs.Cuts.{both_hold, neither}
+use Rattle.lvish_checks.proofs.Cuts.{both_hold}
 use Rattle.lvish_script.proofs.Bodies.{is_inner, inner, first_holds, second_holds, join_all}
 use Rattle.lvish_script.proofs.Declaring.{heads, not_true}
 use Rattle.lvish_script.proofs.Soundness.{is_line_written}
@@ -156,16 +157,16 @@ line_bytes l = joined (line_words l)
 -- no byte is foreign
 pub bytes_known : (ls : List Line) → list_all is_line_written ls ≡ true → list_any (λ line. list_any is_foreign line) (map line_bytes ls) ≡ false
 bytes_known [] e = refl
-bytes_known (l ∷ ls) e = neither (list_any is_foreign (line_bytes l)) _ (no_foreign (line_words l) (line_plain l (first_holds (is_line_written l) _ e))) (bytes_known ls (second_holds (is_line_written l) _ e))
+bytes_known (l ∷ ls) e = or_from (list_any is_foreign (line_bytes l)) _ (no_foreign (line_words l) (line_plain l (first_holds (is_line_written l) _ e))) (bytes_known ls (second_holds (is_line_written l) _ e))
 
 not_bad : (ws : List Word) → list_all is_fine ws ≡ true → list_any is_bad_number ws ≡ false
 not_bad [] e = refl
-not_bad (w ∷ ws) e = neither (is_bad_number w) _ (not_true _ (second_holds (is_plain w) _ (first_holds (is_fine w) _ e))) (not_bad ws (second_holds (is_fine w) _ e))
+not_bad (w ∷ ws) e = or_from (is_bad_number w) _ (not_true _ (second_holds (is_plain w) _ (first_holds (is_fine w) _ e))) (not_bad ws (second_holds (is_fine w) _ e))
 
 -- no number word is bad
 pub numbers_good : (ls : List Line) → list_all is_line_written ls ≡ true → list_any (λ words. list_any is_bad_number words) (map line_words ls) ≡ false
 numbers_good [] e = refl
-numbers_good (l ∷ ls) e = neither (list_any is_bad_number (line_words l)) _ (not_bad (line_words l) (line_fine l (first_holds (is_line_written l) _ e)).all) (numbers_good ls (second_holds (is_line_written l) _ e))
+numbers_good (l ∷ ls) e = or_from (list_any is_bad_number (line_words l)) _ (not_bad (line_words l) (line_fine l (first_holds (is_line_written l) _ e)).all) (numbers_good ls (second_holds (is_line_written l) _ e))
 
 -- ---- the lines of the text
 

@@ -9,7 +9,9 @@ use Rattle.lvish_script.specs.declared.open.OpenBlock.{OpenBlock}
 use Rattle.lvish_script.specs.declared.open.OpenBlock.TheVariants.{If, Else, While}
 use Rattle.lvish_script.specs.declared.nest.OpenProcedure.{OpenProcedure}
 use Rattle.lvish_script.specs.declared.nest.Draft.{Draft}
-use Rattle.lvish_checks.specs.Checks.{Opener, InProcedure, InIf, InElse, InWhile, is_misplaced}
+use Rattle.lvish_checks.specs.Checks.{is_misplaced}
+use Rattle.lvish_checks.specs.declared.open_blocks.Opener.{Opener}
+use Rattle.lvish_checks.specs.declared.open_blocks.Opener.TheVariants.{Procedure as InProcedure, If as InIf, Else as InElse, While as InWhile}
 use Rattle.lvish_script.specs.Spells.{body_lines, procedure_lines}
 
 -- the lines of an open block as far as they were read

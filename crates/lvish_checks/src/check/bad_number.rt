@@ -8,12 +8,7 @@ use crate::word::is_bad_number;
 fn has_bad_number(words: &[&[u8]]) -> bool
     ensures { result ≡ list_any is_bad_number (map (λ w. w.now) words.now) }
 {
-    for word in words {
-        if is_bad_number(word) {
-            return true;
-        }
-    }
-    false
+    words.iter().any(|word| is_bad_number(word))
 }
 
 /// The line that was found before, or else this one, where its words have a number word that is no

@@ -1,6 +1,7 @@
 use Rattle.std.proofs.Common.{◌≡◌, ◌∙◌, ◌+◌, ◌==◌, ◌&&◌, not, sym, ap, refl, take, length, add-one, [], suc}
+use Rattle.std.proofs.lemmas.Bool.{or_from}
 use Rattle.lvish_checks.specs.Checks.{is_nil, is_misplaced, open_after, open_step}
-use Rattle.lvish_checks.proofs.Cuts.{neither, left_yes, right_yes}
+use Rattle.lvish_checks.proofs.Cuts.{left_yes, right_yes}
 use Rattle.lvish_checks.proofs.Lines.{open_after-more, passed_on, fails_at, passes_all}
 use Rattle.lvish_checks.proofs.Scans.{open_fails}
 use Rattle.lvish_checks.proofs.check.open_block.first_open_block.Goals as goal
@@ -32,7 +33,7 @@ loop-k-preserved c =
       opened = after ∙ sym (open_after-more lines c.loop-k.k line c.loop-k-test.true c.index-lines-k.is);
       passed = passed_on _ _ c.loop-k.k line c.loop-k-test.true c.index-lines-k.is c.loop-k.invariant.passed
           (sym (open_fails lines c.loop-k.k line c.loop-k-test.true c.index-lines-k.is _ last)
-          ∙ neither _ _ (sym misplaced ∙ c.if-misplaced.false) (sym ends ∙ c.if-ends_open.false));
+          ∙ or_from _ _ (sym misplaced ∙ c.if-misplaced.false) (sym ends ∙ c.if-ends_open.false));
     }
 
 pub returns : goal.returns
