@@ -1,6 +1,6 @@
 -- Lists by their cuts: what holds of each item and the items before it.
 use Rattle.std.proofs.Common.{◌≡◌, ℕ, zero, suc, ◌<◌, ◌≤◌, Bool, true, false, ◌||◌, ◌&&◌, List, [], ◌∷◌, ◌++◌, length, map, refl, sym, ap, arith}
-use Rattle.std.proofs.lemmas.Bool.{or_from}
+use Rattle.std.proofs.lemmas.Bool.{and_from, or_from}
 use Rattle.std.specs.List.{list_any, list_all}
 use Rattle.std.specs.Str.{bytes_eq}
 use Rattle.std.proofs.lemmas.Slice.Eq.{bytes_eq-Decides}
@@ -25,10 +25,6 @@ pub right_yes : (a b : Bool) → b ≡ true → (a || b) ≡ true
 right_yes true b e = refl
 right_yes false b e = e
 
-pub both_hold : (a b : Bool) → a ≡ true → b ≡ true → (a && b) ≡ true
-both_hold true b e h = h
-both_hold false b e h = absurd cc
-
 pub left_holds : (a b : Bool) → (a && b) ≡ true → a ≡ true
 left_holds true b e = refl
 left_holds false b e = absurd cc
@@ -51,7 +47,7 @@ differs x y false k e = k
 
 pub all_by_cut : {X : Type 0} (p : X → Bool) (xs : List X) → ((b : List X) (x : X) (a : List X) → xs ≡ b ++ x ∷ a → p x ≡ true) → list_all p xs ≡ true
 all_by_cut p [] h = refl
-all_by_cut p (x ∷ xs) h = both_hold (p x) _ (h [] x xs refl) (all_by_cut p xs (λ b y a e. h (x ∷ b) y a (ap (λ t. x ∷ t) e)))
+all_by_cut p (x ∷ xs) h = and_from (p x) _ (h [] x xs refl) (all_by_cut p xs (λ b y a e. h (x ∷ b) y a (ap (λ t. x ∷ t) e)))
 
 pub none_by_cut : {X : Type 0} (p : X → Bool) (xs : List X) → ((b : List X) (x : X) (a : List X) → xs ≡ b ++ x ∷ a → p x ≡ false) → list_any p xs ≡ false
 none_by_cut p [] h = refl

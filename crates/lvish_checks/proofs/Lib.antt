@@ -7,3 +7,4 @@ pub mod Lines
 pub mod Forms
 pub mod Order
 pub mod Numbers
+pub mod Stacks

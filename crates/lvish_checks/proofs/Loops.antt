@@ -2,8 +2,9 @@
 use Rattle.std.proofs.Common.{◌≡◌, ℕ, zero, suc, ◌+◌, ◌<◌, Bool, true, false, ◌||◌, List, [], ◌∷◌, ◌++◌, length, get_or, take, map, refl, sym, ap, ◌∙◌, arith, take_all, length-drop, ◌-◌, drop}
 use Rattle.std.proofs.Math.Bool.{and-false}
 use Rattle.std.specs.List.{list_any, list_all}
+use Rattle.std.proofs.lemmas.Bool.{and_from}
 use Rattle.std.proofs.lemmas.List.Folds.{list_all-append}
-use Rattle.lvish_checks.proofs.Cuts.{both_hold, left_holds, right_holds}
+use Rattle.lvish_checks.proofs.Cuts.{left_holds, right_holds}
 use Rattle.std.proofs.lemmas.List.{map_push, take_more}
 
 pub map_more : {X Y Z : Type 0} (f : X → Z) (g : Y → Z) (done : List X) (x : X) (ys : List Y) (i : ℕ) (d : Y) → i < length ys → f x ≡ g (get_or ys i d) → map f done ≡ map g (take i ys) → map f (done ++ x ∷ []) ≡ map g (take (i + 1) ys)
@@ -31,7 +32,7 @@ module _ {X Y : Type 0} (f : X → Y) (p : Y → Bool) where
   pub all_more : (xs : List X) (i : ℕ) (d : X) → i < length xs → list_all p (map f (take i xs)) ≡ true → p (f (get_or xs i d)) ≡ true → list_all p (map f (take (i + 1) xs)) ≡ true
   all_more xs i d lt h e =
       ap (λ t. list_all p (map f t)) (take_more xs i d lt) ∙ ap (list_all p) (map_push f (take i xs) (get_or xs i d))
-      ∙ list_all-append p (map f (take i xs)) (f (get_or xs i d) ∷ []) ∙ both_hold _ _ h (both_hold (p (f (get_or xs i d))) true e refl)
+      ∙ list_all-append p (map f (take i xs)) (f (get_or xs i d) ∷ []) ∙ and_from _ _ h (and_from (p (f (get_or xs i d))) true e refl)
 
 module _ {X : Type 0} (p : X → Bool) where
   pub fails_item : (xs : List X) (i : ℕ) (x : X) → i < length xs → x ≡ get_or xs i x → p x ≡ false → list_all p xs ≡ false
@@ -42,7 +43,7 @@ module _ {X : Type 0} (p : X → Bool) where
   pub all_items : (xs : List X) (i : ℕ) (x : X) → i < length xs → x ≡ get_or xs i x → list_all p (take i xs) ≡ true → p x ≡ true → list_all p (take (i + 1) xs) ≡ true
   all_items xs i x lt e h here =
       ap (list_all p) (take_more xs i x lt) ∙ list_all-append p (take i xs) (get_or xs i x ∷ [])
-      ∙ both_hold _ _ h (both_hold (p (get_or xs i x)) true (ap p (sym e) ∙ here) refl)
+      ∙ and_from _ _ h (and_from (p (get_or xs i x)) true (ap p (sym e) ∙ here) refl)
 
 -- what holds of all holds of each
 pub all_at : {X Y : Type 0} (f : X → Y) (p : Y → Bool) (xs : List X) (i : ℕ) (d : X) → list_all p (map f xs) ≡ true → i < length xs → p (f (get_or xs i d)) ≡ true

@@ -4,4 +4,3 @@ pub mod Table
 pub mod Form
 pub mod Checks
 pub mod Known
-pub mod Opened

@@ -1,6 +1,6 @@
-ghost use Rattle.std.specs.Prelude.{◌≡◌, ◌∷◌, [], OnOk, length};
+ghost use Rattle.std.specs.Prelude.{◌≡◌, ◌∷◌, [], OnOk, OnErr, length, drop, ◌<◌};
 ghost use Rattle.lvish_checks.specs.Checks.{is_nil, takes_else, open_step};
-ghost use Rattle.lvish_checks.specs.Opened.{closed};
+ghost use Rattle.lvish_checks.specs.declared.open_blocks.Opener.TheVariants.{Else};
 
 use crate::line::Line;
 use std::alloc::{AllocError, Global};
@@ -67,30 +67,39 @@ impl OpenBlocks {
     }
 
     fn open(&mut self, opener: Opener) -> Result<(), AllocError>
-        ensures { OnOk result (self.new ≡ opener ∷ self.old) }
+        ensures opened { OnOk result (self.new ≡ opener ∷ self.old) }
+        ensures refused { OnErr result (self.new ≡ self.old) }
     {
         self.openers.push(opener)?;
         Ok(())
     }
 
     fn close(&mut self)
-        ensures { self.new ≡ closed self.old }
+        ensures { self.new ≡ drop 1 self.old }
     {
         self.openers.pop();
     }
 
-    /// Takes a line: what is open after it.
+    /// Goes on with the other part of the innermost.
+    #[tactic(auto, using(crate::proofs::Stacks::set_innermost, crate::proofs::Stacks::not_empty))]
+    fn turn(&mut self)
+        requires { 0 < length self.old }
+        ensures { self.new ≡ Else ∷ drop 1 self.old }
+    {
+        let innermost = self.openers.len() - 1;
+        self.openers[innermost] = Opener::Else;
+    }
+
+    /// Takes a line: what is open after it. Where the growth is refused nothing has changed.
     pub fn add(&mut self, line: &Line) -> Result<(), AllocError>
-        ensures { OnOk result (self.new ≡ open_step self.old line.now) }
+        ensures added { OnOk result (self.new ≡ open_step self.old line.now) }
+        ensures refused { OnErr result (self.new ≡ self.old) }
     {
         match line {
             Line::Proc(_, _) => self.open(Opener::Procedure)?,
             Line::If(_) if !self.is_empty() => self.open(Opener::If)?,
             Line::While(_) if !self.is_empty() => self.open(Opener::While)?,
-            Line::Else if self.takes_else() => {
-                self.close();
-                self.open(Opener::Else)?;
-            }
+            Line::Else if self.takes_else() => self.turn(),
             Line::End => self.close(),
             _ => {}
         }

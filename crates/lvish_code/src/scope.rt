@@ -180,17 +180,11 @@ impl Scope<'_, '_> {
             Command::PutAt(variable, place, term) => {
                 Ok(self.put(variable, self.part(variable, place), term))
             }
-            Command::Get(local, variable, threshold) => {
-                self.get(alloc, local, variable, self.whole(variable), threshold)
+            Command::Get(local, variable, read) => {
+                self.get(alloc, local, variable, self.whole(variable), read)
             }
-            Command::GetAt(local, variable, place, threshold) => {
-                self.get(
-                    alloc,
-                    local,
-                    variable,
-                    self.part(variable, place),
-                    threshold,
-                )
+            Command::GetAt(local, variable, place, read) => {
+                self.get(alloc, local, variable, self.part(variable, place), read)
             }
             Command::Fork(procedure, terms) => {
                 let operands = self.operands(alloc, terms.as_slice())?;
@@ -206,14 +200,8 @@ impl Scope<'_, '_> {
             Command::Freeze(local, variable, pools) => {
                 self.freeze(alloc, local, variable, pools, None)
             }
-            Command::FreezeEach(local, variable, pools, procedure) => {
-                self.freeze(
-                    alloc,
-                    local,
-                    variable,
-                    pools,
-                    Some(self.procedure(procedure)),
-                )
+            Command::FreezeEach(local, variable, pools, each) => {
+                self.freeze(alloc, local, variable, pools, Some(self.procedure(each)))
             }
         }
     }

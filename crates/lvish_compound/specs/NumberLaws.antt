@@ -1,6 +1,7 @@
 -- Reads of a cell, a set and a counter by numbers: when they are checked, and what they answer.
 use Rattle.std.specs.Prelude.{◌≡◌, ◌⊎◌, ◌↔◌, ℕ, ℤ, pos, negsuc, Bool, true, false, cond, ◌||◌, nat_le, List, [], ◌∷◌, Option, Some, None, Contains, find, is_some, refl}
 use Rattle.std.proofs.Common.{zero, suc, sym, ◌∙◌, ap, subst, inl, inr, ⊎_elim, arith}
+use Rattle.std.proofs.Math.Bool.{or-false}
 use Rattle.std.specs.List.{list_all}
 use Rattle.std.specs.Ordering.{int_eq}
 use Rattle.std.specs.Set.{is_member}
@@ -71,15 +72,11 @@ from_flat (At k) (Value x) n m = (only_of k x m.1 ∙ m.0, ap (λ (v : ℤ). Som
 pub cells_checked : (t : Test) → IsChecked (flat.joined int_eq) (ByNumber t cell_at)
 cells_checked t = checked_alike (to_flat t) (flat_checked int_eq int_identical int_eq_equiv (flat_of t))
 
-or_false : (b : Bool) → (b || false) ≡ b
-or_false true = refl
-or_false false = refl
-
 same_answer : (t : Test) (s : Flat ℤ) → flat.answer_of int_eq (flat_of t) s ≡ cell_answer t s
 same_answer t Bottom = refl
 same_answer Any (Value n) = refl
 same_answer (In xs) (Value n) = refl
-same_answer (At k) (Value n) = ap (λ b. cond b (Some n) None) (or_false (int_eq n k) ∙ int_eq_equiv.symm n k)
+same_answer (At k) (Value n) = ap (λ b. cond b (Some n) None) (or-false (int_eq n k) ∙ int_eq_equiv.symm n k)
 
 pub cells_answer : (t : Test) → IsAnswered (flat.joined int_eq) (ByNumber t cell_at) (cell_answer t)
 cells_answer t = subst (IsAnswered (flat.joined int_eq) (ByNumber t cell_at)) (λ i s. same_answer t s i)

@@ -1,6 +1,7 @@
 -- Ascending lists as sets: a list is determined by its members, and a merge is a join.
 use Rattle.std.specs.Prelude.{◌≡◌, Bool, true, false, not, ◌||◌, ◌&&◌, List, [], ◌∷◌, ◌↔◌, ◌++◌, All, refl, filter, slice_index_or, Contains, Result, Ok, Err, is_ok, nat_lt}
 use Rattle.std.proofs.Common.{sym, ◌∙◌, ap, subst, true≢false, arith, zero, suc, length, ◌<◌, ◌≤◌, ℕ, take, drop}
+use Rattle.std.proofs.Math.Bool.{or_comm, or_assoc, or-false}
 use Rattle.std.proofs.lemmas.List.{append-nil, take_at}
 use Rattle.std.specs.declared.cmp.Ordering.{Ordering}
 use Rattle.std.specs.declared.cmp.Ordering.TheVariants.{Less, Equal, Greater}
@@ -26,20 +27,6 @@ ties_are_same cmp same ties x y t = same x y (ties x y ∙ ap is_eq t)
 or_same : (a : Bool) → (a || a) ≡ a
 or_same true = refl
 or_same false = refl
-
-or_swaps : (a b : Bool) → (a || b) ≡ (b || a)
-or_swaps true true = refl
-or_swaps true false = refl
-or_swaps false true = refl
-or_swaps false false = refl
-
-or_regroups : (a b c : Bool) → ((a || b) || c) ≡ (a || (b || c))
-or_regroups true b c = refl
-or_regroups false b c = refl
-
-or_false : (a : Bool) → a ≡ (a || false)
-or_false true = refl
-or_false false = refl
 
 or_once : (t a b : Bool) → (t || (a || b)) ≡ ((t || a) || (t || b))
 or_once true a b = refl
@@ -165,9 +152,9 @@ module _ {K : Type 0} {R : K → K → Ordering} (o : IsTotalOrder R) where
   merge_rises (x ∷ xs) ys s t = rises_at x xs s (λ zs. merge_rises xs zs s.1) ys t
 
   union_at : (q x : K) (xs : List K) → ((ys : List K) → has (merge xs ys) q ≡ (has xs q || has ys q)) → (ys : List K) → has (merge (x ∷ xs) ys) q ≡ (has (x ∷ xs) q || has ys q)
-  union_at q x xs h [] = or_false (has (x ∷ xs) q)
+  union_at q x xs h [] = sym (or-false (has (x ∷ xs) q))
   union_at q x xs h (y ∷ ys) = by_rank (λ l. has l q ≡ (has (x ∷ xs) q || has (y ∷ ys) q)) (R x y) _ _ _
-      (λ k. ap (λ b. eq_by_cmp R q x || b) (h (y ∷ ys)) ∙ sym (or_regroups (eq_by_cmp R q x) (has xs q) (has (y ∷ ys) q)))
+      (λ k. ap (λ b. eq_by_cmp R q x || b) (h (y ∷ ys)) ∙ sym (or_assoc (eq_by_cmp R q x) (has xs q) (has (y ∷ ys) q)))
       (λ k. ap (λ b. eq_by_cmp R q x || b) (h ys) ∙ or_once (eq_by_cmp R q x) (has xs q) (has ys q) ∙ ap (λ r. has (x ∷ xs) q || (is_eq r || has ys q)) (alike_right o x y q k))
       (λ k. ap (λ b. eq_by_cmp R q y || b) (union_at q x xs h ys) ∙ or_ahead (eq_by_cmp R q y) (has (x ∷ xs) q) (has ys q))
 
@@ -201,14 +188,14 @@ module _ {K : Type 0} {R : K → K → Ordering} (o : IsTotalOrder R) where
 
     module _ (xs ys : List K) (s : IsStrictlySortedBy R xs) (t : IsStrictlySortedBy R ys) where
       pub merge_swaps : merge xs ys ≡ merge ys xs
-      merge_swaps = same_members _ _ (merge_rises xs ys s t) (merge_rises ys xs t s) (λ q. merge_has q xs ys ∙ or_swaps (has xs q) (has ys q) ∙ sym (merge_has q ys xs))
+      merge_swaps = same_members _ _ (merge_rises xs ys s t) (merge_rises ys xs t s) (λ q. merge_has q xs ys ∙ or_comm (has xs q) (has ys q) ∙ sym (merge_has q ys xs))
 
       pub merge_regroups : (zs : List K) → IsStrictlySortedBy R zs → merge (merge xs ys) zs ≡ merge xs (merge ys zs)
       merge_regroups zs u =
           let st = merge_rises xs ys s t in
           let tu = merge_rises ys zs t u in
           same_members _ _ (merge_rises _ zs st u) (merge_rises xs _ s tu) (λ q.
-          merge_has q (merge xs ys) zs ∙ ap (λ b. b || has zs q) (merge_has q xs ys) ∙ or_regroups (has xs q) (has ys q) (has zs q)
+          merge_has q (merge xs ys) zs ∙ ap (λ b. b || has zs q) (merge_has q xs ys) ∙ or_assoc (has xs q) (has ys q) (has zs q)
           ∙ sym (merge_has q xs (merge ys zs) ∙ ap (λ b. has xs q || b) (merge_has q ys zs)))
 
     -- an element below those of a list, put into the list merged with another

@@ -100,12 +100,6 @@ module _ {K : Type 0} (test : K → K → Bool) where
   and_turn false true c = refl
   and_turn false false c = refl
 
-  and_swap : (a b : Bool) → (a && b) ≡ (b && a)
-  and_swap true true = refl
-  and_swap true false = refl
-  and_swap false true = refl
-  and_swap false false = refl
-
   none_swap : (a b : Bool) → b ≡ false → (a && b) ≡ false
   none_swap a b e = ap (λ c. a && c) e ∙ and-false a
 

@@ -1,6 +1,6 @@
 -- What holds of the lines of statements, and of the statements.
 use Rattle.std.proofs.Common.{◌≡◌, ℕ, Bool, true, false, cond, ◌&&◌, List, [], ◌∷◌, ◌++◌, Some, refl, sym, ap, ◌∙◌, arith, append_assoc}
-use Rattle.std.proofs.lemmas.Bool.{or_from}
+use Rattle.std.proofs.lemmas.Bool.{and_from, or_from}
 use Rattle.std.specs.Prelude.{count_by}
 use Rattle.std.specs.List.{list_any, list_all, flat_map}
 use Rattle.std.proofs.lemmas.List.{append-nil}
@@ -16,7 +16,7 @@ use Rattle.lvish_checks.specs.declared.line.Line.{Line}
 use Rattle.lvish_checks.specs.declared.line.Line.TheVariants as line
 use Rattle.lvish_checks.specs.Checks.{is_procedure, binds, binds_until_procedure, locals_after, parameters_of}
 use Rattle.lvish_script.specs.Spells.{statement_lines, row_lines, body_lines}
-use Rattle.lvish_checks.proofs.Cuts.{left_fails, right_fails, both_hold}
+use Rattle.lvish_checks.proofs.Cuts.{left_fails, right_fails}
 use Rattle.lvish_script.proofs.Cleaned.{count_cons}
 
 -- the first line of a statement
@@ -41,7 +41,7 @@ pub back_all : {X : Type 0} (p : X → Bool) (xs ys : List X) → list_all p (xs
 back_all p xs ys e = second_holds (list_all p xs) (list_all p ys) (sym (list_all-append p xs ys) ∙ e)
 
 pub join_all : {X : Type 0} (p : X → Bool) (xs ys : List X) → list_all p xs ≡ true → list_all p ys ≡ true → list_all p (xs ++ ys) ≡ true
-join_all p xs ys e f = list_all-append p xs ys ∙ both_hold (list_all p xs) (list_all p ys) e f
+join_all p xs ys e f = list_all-append p xs ys ∙ and_from (list_all p xs) (list_all p ys) e f
 
 -- ---- what holds of each line holds of each statement
 
@@ -51,17 +51,17 @@ Follows p q = (s : Statement) → p (own_line (out-Statement s)) ≡ true → q 
 
 mutual
   pub all_in : (p : Line → Bool) (q : Statement → Bool) → Follows p q → (s : Statement) → list_all p (statement_lines s) ≡ true → list_all q (nested s) ≡ true
-  all_in p q h (Do c) e = both_hold (q (Do c)) true (h (Do c) (ap (λ u. p (own_line u)) (outs-Do c) ∙ first_holds (p (line.Do c)) true e)) refl
+  all_in p q h (Do c) e = and_from (q (Do c)) true (h (Do c) (ap (λ u. p (own_line u)) (outs-Do c) ∙ first_holds (p (line.Do c)) true e)) refl
   all_in p q h (If' t s a) e =
-      both_hold (q (If' t s a)) _ (h (If' t s a) (ap (λ u. p (own_line u)) (outs-If' t s a) ∙ first_holds (p (line.If t)) _ e))
+      and_from (q (If' t s a)) _ (h (If' t s a) (ap (λ u. p (own_line u)) (outs-If' t s a) ∙ first_holds (p (line.If t)) _ e))
       (all_in_row p q h a (front_all p (row_lines a) (line.End ∷ []) (second_holds (p (line.If t)) _ e)))
   all_in p q h (IfElse' t s a r b) e =
       let rest = second_holds (p (line.If t)) _ e in
       let tail = second_holds (p line.Else) _ (back_all p (row_lines a) (line.Else ∷ (row_lines b ++ line.End ∷ [])) rest) in
-      both_hold (q (IfElse' t s a r b)) _ (h (IfElse' t s a r b) (ap (λ u. p (own_line u)) (outs-IfElse' t s a r b) ∙ first_holds (p (line.If t)) _ e))
+      and_from (q (IfElse' t s a r b)) _ (h (IfElse' t s a r b) (ap (λ u. p (own_line u)) (outs-IfElse' t s a r b) ∙ first_holds (p (line.If t)) _ e))
       (join_all q (row_nested a) (row_nested b) (all_in_row p q h a (front_all p (row_lines a) _ rest)) (all_in_row p q h b (front_all p (row_lines b) (line.End ∷ []) tail)))
   all_in p q h (While' t s a) e =
-      both_hold (q (While' t s a)) _ (h (While' t s a) (ap (λ u. p (own_line u)) (outs-While' t s a) ∙ first_holds (p (line.While t)) _ e))
+      and_from (q (While' t s a)) _ (h (While' t s a) (ap (λ u. p (own_line u)) (outs-While' t s a) ∙ first_holds (p (line.While t)) _ e))
       (all_in_row p q h a (front_all p (row_lines a) (line.End ∷ []) (second_holds (p (line.While t)) _ e)))
 
   pub all_in_row : (p : Line → Bool) (q : Statement → Bool) → Follows p q → {m : _} (r : Row_of-Statement m) → list_all p (row_lines r) ≡ true → list_all q (row_nested r) ≡ true

@@ -1,6 +1,6 @@
 -- What the lines of declarations and procedures declare.
 use Rattle.std.proofs.Common.{◌≡◌, ℕ, zero, suc, ◌+◌, ◌≤◌, ◌<◌, Bool, true, false, not, cond, ◌||◌, ◌&&◌, ◌==◌, List, [], ◌∷◌, ◌++◌, length, map, Option, Some, refl, sym, ap, subst, ◌∙◌, arith, append_assoc}
-use Rattle.std.proofs.lemmas.Bool.{or_from}
+use Rattle.std.proofs.lemmas.Bool.{and_from, or_from}
 use Rattle.std.specs.Prelude.{count_by, codes, is_some, nat_le, if◌then◌else◌}
 use Rattle.std.specs.Option.{option_map_or}
 use Rattle.std.specs.List.{list_any, list_all, flat_map}
@@ -22,7 +22,7 @@ use Rattle.lvish_checks.specs.declared.line.Line.TheVariants.{Blank, Bad, Declar
 use Rattle.lvish_checks.specs.Checks.{declared_by, declarations, has_procedure, is_nil, is_main, is_variable, is_pool, is_procedure, declares_procedure, declares_again, is_past_limit, parameters_of, open_after}
 use Rattle.lvish_checks.specs.declared.open_blocks.Opener.TheVariants.{Procedure as InProcedure}
 use Rattle.lvish_script.specs.Spells.{body_lines, procedure_lines, script_lines}
-use Rattle.lvish_checks.proofs.Cuts.{both_hold, differ_by_cut}
+use Rattle.lvish_checks.proofs.Cuts.{differ_by_cut}
 use Rattle.lvish_script.proofs.Cleaned.{count_cons}
 use Rattle.lvish_script.proofs.Bodies.{is_inner, inner, none_inner, no_procedures, none_counted, skipped}
 use Rattle.lvish_script.proofs.Levels.{open_append, balanced_body}
@@ -293,7 +293,7 @@ known_further b (Pool p v) a e =
 pub follow_by_cut : (before rest : List Declaration) → ((b : List Declaration) (d : Declaration) (a : List Declaration) → rest ≡ b ++ d ∷ a → is_pool_known (before ++ b) d ≡ true) → follow_variables before rest ≡ true
 follow_by_cut before [] h = refl
 follow_by_cut before (d ∷ ds) h =
-    both_hold (is_pool_known before d) _ (ap (λ t. is_pool_known t d) (sym (append-nil before)) ∙ h [] d ds refl)
+    and_from (is_pool_known before d) _ (ap (λ t. is_pool_known t d) (sym (append-nil before)) ∙ h [] d ds refl)
     (follow_by_cut (before ++ d ∷ []) ds (λ b e a g. ap (λ t. is_pool_known t e) (append_assoc before (d ∷ []) b) ∙ h (d ∷ b) e a (ap (λ t. d ∷ t) g)))
 
 pub kind_known : (v : Word) (ds : List Declaration) → is_some (kind_of v ds) ≡ has_name v (variable_names ds)

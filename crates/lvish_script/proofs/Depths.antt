@@ -1,6 +1,7 @@
 -- The lines of statements keep to their places and to the limit of depth.
 use Rattle.std.proofs.Common.{◌≡◌, ℕ, suc, ◌+◌, ◌≤◌, ◌<◌, Bool, true, false, not, ◌&&◌, List, [], ◌∷◌, ◌++◌, length, refl, sym, subst, arith}
 use Rattle.std.specs.Prelude.{nat_le, max}
+use Rattle.std.proofs.lemmas.Bool.{and_from}
 use Rattle.std.proofs.lemmas.Bool.Decides.{nat_tests}
 use Rattle.lvish_syntax.specs.Nested.{depth, row_depth, all_depth}
 use Rattle.lvish_syntax.specs.declared.statement.Statement.{Statement, Do, If', IfElse', While', Row_of-Statement, end_of-Statement, more_of-Statement}
@@ -10,7 +11,6 @@ use Rattle.lvish_checks.specs.Checks.{open_step, open_after, is_full, is_misplac
 use Rattle.lvish_checks.specs.declared.open_blocks.Opener.{Opener}
 use Rattle.lvish_checks.specs.declared.open_blocks.Opener.TheVariants.{If as InIf, Else as InElse, While as InWhile}
 use Rattle.lvish_script.specs.Spells.{statement_lines, row_lines, body_lines}
-use Rattle.lvish_checks.proofs.Cuts.{both_hold}
 use Rattle.lvish_script.proofs.Bodies.{first_holds, second_holds}
 use Rattle.lvish_script.proofs.Declaring.{not_true}
 use Rattle.lvish_script.proofs.Levels.{opens_block, stays_shallow, balanced, balanced_row}
@@ -24,7 +24,7 @@ stands_well os (l ∷ ls) = not (is_misplaced os l) && stands_well (open_step os
 
 join_well : (os : List Opener) (xs ys : List Line) → stands_well os xs ≡ true → stands_well (open_after os xs) ys ≡ true → stands_well os (xs ++ ys) ≡ true
 join_well os [] ys e f = f
-join_well os (x ∷ xs) ys e f = both_hold (not (is_misplaced os x)) _ (first_holds (not (is_misplaced os x)) _ e) (join_well (open_step os x) xs ys (second_holds (not (is_misplaced os x)) _ e) f)
+join_well os (x ∷ xs) ys e f = and_from (not (is_misplaced os x)) _ (first_holds (not (is_misplaced os x)) _ e) (join_well (open_step os x) xs ys (second_holds (not (is_misplaced os x)) _ e) f)
 
 closes_well : (o : Opener) (os : List Opener) (ls : List Line) → open_after (o ∷ os) ls ≡ o ∷ os → stands_well (o ∷ os) ls ≡ true → stands_well (o ∷ os) (ls ++ line.End ∷ []) ≡ true
 closes_well o os ls b e = join_well (o ∷ os) ls (line.End ∷ []) e (subst (λ w. stands_well w (line.End ∷ []) ≡ true) (sym b) refl)
@@ -57,7 +57,7 @@ well_at os (y ∷ b) x a e = well_at (open_step os y) b x a (second_holds (not (
 
 join_shallow : (os : List Opener) (xs ys : List Line) → stays_shallow os xs ≡ true → stays_shallow (open_after os xs) ys ≡ true → stays_shallow os (xs ++ ys) ≡ true
 join_shallow os [] ys e f = f
-join_shallow os (x ∷ xs) ys e f = both_hold (not (opens_block x && is_full os)) _ (first_holds (not (opens_block x && is_full os)) _ e) (join_shallow (open_step os x) xs ys (second_holds (not (opens_block x && is_full os)) _ e) f)
+join_shallow os (x ∷ xs) ys e f = and_from (not (opens_block x && is_full os)) _ (first_holds (not (opens_block x && is_full os)) _ e) (join_shallow (open_step os x) xs ys (second_holds (not (opens_block x && is_full os)) _ e) f)
 
 room : (n : ℕ) → n < 64 → not (true && nat_le 64 n) ≡ true
 room n h = grind (arith, nat_tests)
@@ -72,15 +72,15 @@ mutual
   shallow_in : (o : Opener) (os : List Opener) (s : Statement) → depth s + suc (length os) ≤ 64 → stays_shallow (o ∷ os) (statement_lines s) ≡ true
   shallow_in o os (Do c) le = refl
   shallow_in o os (If' t s a) le =
-      both_hold (not (is_full (o ∷ os))) _ (room (suc (length os)) (omega (arith, le)))
+      and_from (not (is_full (o ∷ os))) _ (room (suc (length os)) (omega (arith, le)))
       (join_shallow (InIf ∷ (o ∷ os)) (row_lines a) (line.End ∷ []) (shallow_row InIf (o ∷ os) a (omega (arith, le))) refl)
   shallow_in o os (IfElse' t s a r b) le =
       let both : max (row_depth a) (row_depth b) + suc (suc (length os)) ≤ 64 = omega (arith, le) in
-      both_hold (not (is_full (o ∷ os))) _ (room (suc (length os)) (omega (arith, le)))
+      and_from (not (is_full (o ∷ os))) _ (room (suc (length os)) (omega (arith, le)))
       (join_shallow (InIf ∷ (o ∷ os)) (row_lines a) (line.Else ∷ (row_lines b ++ line.End ∷ [])) (shallow_row InIf (o ∷ os) a (left_room (row_depth a) (row_depth b) (suc (suc (length os))) both))
       (subst (λ w. stays_shallow w (line.Else ∷ (row_lines b ++ line.End ∷ [])) ≡ true) (sym (balanced_row InIf (o ∷ os) a)) (join_shallow (InElse ∷ (o ∷ os)) (row_lines b) (line.End ∷ []) (shallow_row InElse (o ∷ os) b (right_room (row_depth a) (row_depth b) (suc (suc (length os))) both)) refl)))
   shallow_in o os (While' t s a) le =
-      both_hold (not (is_full (o ∷ os))) _ (room (suc (length os)) (omega (arith, le)))
+      and_from (not (is_full (o ∷ os))) _ (room (suc (length os)) (omega (arith, le)))
       (join_shallow (InWhile ∷ (o ∷ os)) (row_lines a) (line.End ∷ []) (shallow_row InWhile (o ∷ os) a (omega (arith, le))) refl)
 
   shallow_row : (o : Opener) (os : List Opener) {m : _} (r : Row_of-Statement m) → row_depth r + suc (length os) ≤ 64 → stays_shallow (o ∷ os) (row_lines r) ≡ true

@@ -1,6 +1,7 @@
 -- How deep blocks stand, by what is open at their lines.
 use Rattle.std.proofs.Common.{◌≡◌, ℕ, suc, ◌+◌, ◌≤◌, ◌<◌, Bool, true, false, not, ◌&&◌, List, [], ◌∷◌, ◌++◌, length, refl, sym, ap, subst, ◌∙◌, arith, append_assoc}
 use Rattle.std.specs.Prelude.{nat_le, max}
+use Rattle.std.proofs.lemmas.Bool.{and_from}
 use Rattle.std.proofs.lemmas.Bool.Decides.{nat_tests}
 use Rattle.std.proofs.lemmas.List.{append-nil}
 use Rattle.lvish_syntax.specs.Nested.{depth, row_depth, all_depth}
@@ -11,7 +12,6 @@ use Rattle.lvish_checks.specs.Checks.{open_step, open_after, is_full, is_past_li
 use Rattle.lvish_checks.specs.declared.open_blocks.Opener.{Opener}
 use Rattle.lvish_checks.specs.declared.open_blocks.Opener.TheVariants.{Procedure as InProcedure, If as InIf, Else as InElse, While as InWhile}
 use Rattle.lvish_script.specs.Spells.{statement_lines, row_lines, body_lines}
-use Rattle.lvish_checks.proofs.Cuts.{both_hold}
 use Rattle.lvish_script.proofs.Bodies.{first_holds, second_holds}
 
 -- ---- what is open after a statement is what was open before it
@@ -66,7 +66,7 @@ stays_shallow os (l ∷ ls) = not (opens_block l && is_full os) && stays_shallow
 stays_front : (os : List Opener) (xs ys : List Line) → stays_shallow os (xs ++ ys) ≡ true → stays_shallow os xs ≡ true
 stays_front os [] ys e = refl
 stays_front os (x ∷ xs) ys e =
-    both_hold (not (opens_block x && is_full os)) _ (first_holds (not (opens_block x && is_full os)) _ e) (stays_front (open_step os x) xs ys (second_holds (not (opens_block x && is_full os)) _ e))
+    and_from (not (opens_block x && is_full os)) _ (first_holds (not (opens_block x && is_full os)) _ e) (stays_front (open_step os x) xs ys (second_holds (not (opens_block x && is_full os)) _ e))
 
 stays_back : (os : List Opener) (xs ys : List Line) → stays_shallow os (xs ++ ys) ≡ true → stays_shallow (open_after os xs) ys ≡ true
 stays_back os [] ys e = e
@@ -132,4 +132,4 @@ within_limits before (x ∷ ls) h =
     let here : is_past_limit before x ≡ false = ap (λ t. is_past_limit t x) (sym (append-nil before)) ∙ h [] x ls refl in
     let stepped : open_after [] (before ++ x ∷ []) ≡ open_step (open_after [] before) x = open_append [] before (x ∷ []) in
     let more : stays_shallow (open_after [] (before ++ x ∷ [])) ls ≡ true = within_limits (before ++ x ∷ []) ls (λ b y a e. ap (λ t. is_past_limit t y) (append_assoc before (x ∷ []) b) ∙ h (x ∷ b) y a (ap (λ t. x ∷ t) e)) in
-    both_hold (not (opens_block x && is_full (open_after [] before))) _ (limit_here before x here) (subst (λ os. stays_shallow os ls ≡ true) stepped more)
+    and_from (not (opens_block x && is_full (open_after [] before))) _ (limit_here before x here) (subst (λ os. stays_shallow os ls ≡ true) stepped more)

@@ -1,4 +1,5 @@
 -- What holds of the statements of a sound script holds of its lines.
+use Rattle.std.proofs.lemmas.Bool.{and_from}
 use Rattle.std.proofs.Common.{◌≡◌, Bool, true, ◌&&◌, List, [], ◌∷◌, ◌++◌, refl, sym, ap, ◌∙◌}
 use Rattle.std.specs.List.{list_all, flat_map}
 use Rattle.lvish_syntax.specs.Words.{is_name}
@@ -13,7 +14,6 @@ use Rattle.lvish_syntax.specs.declared.statement.Statement.TheViews.{out-Stateme
 use Rattle.lvish_checks.specs.declared.line.Line.{Line}
 use Rattle.lvish_checks.specs.declared.line.Line.TheVariants as line
 use Rattle.lvish_script.specs.Spells.{statement_lines, row_lines, body_lines, procedure_lines, script_lines}
-use Rattle.lvish_checks.proofs.Cuts.{both_hold}
 use Rattle.lvish_script.proofs.Bodies.{own_line, first_holds, second_holds, front_all, back_all, join_all}
 use Rattle.lvish_script.proofs.Declaring.{heads}
 use Rattle.lvish_script.proofs.Soundness.{is_line_written}
@@ -25,21 +25,21 @@ pub record Comes (p : Line → Bool) (q : Statement → Bool) : Type 0 where
   pub end : p line.End ≡ true
 
 closed_all : (p : Line → Bool) → p line.End ≡ true → (ls : List Line) → list_all p ls ≡ true → list_all p (ls ++ line.End ∷ []) ≡ true
-closed_all p e ls h = join_all p ls (line.End ∷ []) h (both_hold (p line.End) true e refl)
+closed_all p e ls h = join_all p ls (line.End ∷ []) h (and_from (p line.End) true e refl)
 
 mutual
   pub all_out : (p : Line → Bool) (q : Statement → Bool) → Comes p q → (s : Statement) → list_all q (nested s) ≡ true → list_all p (statement_lines s) ≡ true
-  all_out p q h (Do c) e = both_hold (p (line.Do c)) true (ap (λ u. p (own_line u)) (sym (outs-Do c)) ∙ h.own (Do c) (first_holds (q (Do c)) true e)) refl
+  all_out p q h (Do c) e = and_from (p (line.Do c)) true (ap (λ u. p (own_line u)) (sym (outs-Do c)) ∙ h.own (Do c) (first_holds (q (Do c)) true e)) refl
   all_out p q h (If' t s a) e =
-      both_hold (p (line.If t)) _ (ap (λ u. p (own_line u)) (sym (outs-If' t s a)) ∙ h.own (If' t s a) (first_holds (q (If' t s a)) _ e))
+      and_from (p (line.If t)) _ (ap (λ u. p (own_line u)) (sym (outs-If' t s a)) ∙ h.own (If' t s a) (first_holds (q (If' t s a)) _ e))
       (closed_all p h.end (row_lines a) (all_out_row p q h a (second_holds (q (If' t s a)) _ e)))
   all_out p q h (IfElse' t s a r b) e =
       let rest = second_holds (q (IfElse' t s a r b)) _ e in
-      both_hold (p (line.If t)) _ (ap (λ u. p (own_line u)) (sym (outs-IfElse' t s a r b)) ∙ h.own (IfElse' t s a r b) (first_holds (q (IfElse' t s a r b)) _ e))
+      and_from (p (line.If t)) _ (ap (λ u. p (own_line u)) (sym (outs-IfElse' t s a r b)) ∙ h.own (IfElse' t s a r b) (first_holds (q (IfElse' t s a r b)) _ e))
       (join_all p (row_lines a) (line.Else ∷ (row_lines b ++ line.End ∷ [])) (all_out_row p q h a (front_all q (row_nested a) (row_nested b) rest))
-      (both_hold (p line.Else) _ h.else (closed_all p h.end (row_lines b) (all_out_row p q h b (back_all q (row_nested a) (row_nested b) rest)))))
+      (and_from (p line.Else) _ h.else (closed_all p h.end (row_lines b) (all_out_row p q h b (back_all q (row_nested a) (row_nested b) rest)))))
   all_out p q h (While' t s a) e =
-      both_hold (p (line.While t)) _ (ap (λ u. p (own_line u)) (sym (outs-While' t s a)) ∙ h.own (While' t s a) (first_holds (q (While' t s a)) _ e))
+      and_from (p (line.While t)) _ (ap (λ u. p (own_line u)) (sym (outs-While' t s a)) ∙ h.own (While' t s a) (first_holds (q (While' t s a)) _ e))
       (closed_all p h.end (row_lines a) (all_out_row p q h a (second_holds (q (While' t s a)) _ e)))
 
   pub all_out_row : (p : Line → Bool) (q : Statement → Bool) → Comes p q → {m : _} (r : Row_of-Statement m) → list_all q (row_nested r) ≡ true → list_all p (row_lines r) ≡ true
@@ -59,11 +59,11 @@ own_line_written (o.While t a) e = e
 
 heads_are_written : (ds : List Declaration) → list_all is_declaration_written ds ≡ true → list_all is_line_written (heads ds) ≡ true
 heads_are_written [] e = refl
-heads_are_written (d ∷ ds) e = both_hold (is_declaration_written d) _ (first_holds (is_declaration_written d) _ e) (heads_are_written ds (second_holds (is_declaration_written d) _ e))
+heads_are_written (d ∷ ds) e = and_from (is_declaration_written d) _ (first_holds (is_declaration_written d) _ e) (heads_are_written ds (second_holds (is_declaration_written d) _ e))
 
 procedure_is_written : (r : Procedure) → is_procedure_written r ≡ true → list_all is_line_written (procedure_lines r) ≡ true
 procedure_is_written r e =
-    both_hold (is_name r.name && list_all is_name r.parameters) _ (first_holds (is_name r.name && list_all is_name r.parameters) _ e)
+    and_from (is_name r.name && list_all is_name r.parameters) _ (first_holds (is_name r.name && list_all is_name r.parameters) _ e)
     (closed_all is_line_written refl (body_lines (statements r.body)) (all_lines is_line_written (λ s. is_own_written (out-Statement s)) (record { own = λ s. own_line_written (out-Statement s); else = refl; end = refl }) (statements r.body) (second_holds (is_name r.name && list_all is_name r.parameters) _ e)))
 
 procedures_are_written : (ps : List Procedure) → list_all is_procedure_written ps ≡ true → list_all is_line_written (flat_map procedure_lines ps) ≡ true

@@ -1,6 +1,6 @@
 -- What a sound script says of the checks of its lines.
 use Rattle.std.proofs.Common.{◌≡◌, ℕ, suc, ◌+◌, ◌≤◌, ◌<◌, Bool, true, false, not, ◌||◌, ◌&&◌, ◌==◌, List, [], ◌∷◌, ◌++◌, length, Option, Some, None, refl, sym, ap, ◌∙◌, arith, append_assoc, length-append}
-use Rattle.std.proofs.lemmas.Bool.{or_from}
+use Rattle.std.proofs.lemmas.Bool.{and_from, or_from}
 use Rattle.std.specs.Prelude.{is_some, nat_le, if◌then◌else◌}
 use Rattle.std.specs.Option.{option_map_or}
 use Rattle.std.specs.List.{list_any, list_all, flat_map}
@@ -26,7 +26,7 @@ use Rattle.lvish_syntax.specs.declared.statement.Statement.TheOpen as o
 use Rattle.lvish_checks.specs.declared.line.Line.TheVariants.{End}
 use Rattle.lvish_checks.specs.Checks.{has_variable, has_pool, has_procedure, has_other_count, command_unknown, command_misfits, command_miscounts, command_mixes, is_procedure, parameters_of}
 use Rattle.lvish_script.specs.Spells.{body_lines, procedure_lines, script_lines}
-use Rattle.lvish_checks.proofs.Cuts.{left_fails, right_fails, both_hold}
+use Rattle.lvish_checks.proofs.Cuts.{left_fails, right_fails}
 use Rattle.lvish_script.proofs.Bodies.{own_line, no_procedures, skipped, first_holds, second_holds}
 use Rattle.lvish_script.proofs.Declaring.{declared, procedures_declared, kind_known, disagrees, skip_heads}
 use Rattle.lvish_script.proofs.Soundness.{is_line_sound}
@@ -121,7 +121,7 @@ module _ (ds : List Declaration) (ps : List Procedure) (differ : has_repeat (pro
   pools_pass : (v : Word) (pools : List Word) → list_all (is_pool_of ds v) pools ≡ true → list_all (λ p. has_pool p (script_lines ds ps)) pools ≡ true
   pools_pass v [] e = refl
   pools_pass v (p ∷ pools) e =
-      both_hold (has_pool p (script_lines ds ps)) _ (pool_passes p (sym (pool_known p ds) ∙ test_there (variable_of p ds) _ (first_holds (is_pool_of ds v p) _ e)))
+      and_from (has_pool p (script_lines ds ps)) _ (pool_passes p (sym (pool_known p ds) ∙ test_there (variable_of p ds) _ (first_holds (is_pool_of ds v p) _ e)))
       (pools_pass v pools (second_holds (is_pool_of ds v p) _ e))
 
   -- a sound command passes

@@ -1,6 +1,6 @@
 -- Words that can stand in a line: no separator, no line feed and no comment's beginning in them.
 use Rattle.std.proofs.Common.{◌≡◌, cond, ℕ, suc, ◌^◌, ◌<◌, Bool, true, false, not, ◌||◌, ◌&&◌, List, [], ◌∷◌, ◌++◌, length, map, Option, Some, None, refl, ap, ◌∙◌, arith}
-use Rattle.std.proofs.lemmas.Bool.{or_from}
+use Rattle.std.proofs.lemmas.Bool.{and_from, or_from}
 use Rattle.std.specs.Prelude.{nat_le, nat_lt, ◌==◌, ℤ, pos, negsuc, filter, take_while}
 use Rattle.std.specs.List.{list_any, list_all, slice_split, onto_first}
 use Rattle.std.specs.Str.{all_ascii_digits}
@@ -21,7 +21,7 @@ use Rattle.lvish_syntax.specs.declared.term.Term.TheVariants.{Local, Number}
 use Rattle.lvish_checks.specs.Text.{is_separator, is_comment, is_foreign, words_of}
 use Rattle.lvish_checks.specs.Form.{is_number_word, is_numeral, number_of, value_of_number, number_word, term_of, is_bad_number, all_of}
 use Rattle.lvish_script.specs.Canonical.{term_word, spaced, joined}
-use Rattle.lvish_checks.proofs.Cuts.{both_hold, left_fails, right_fails}
+use Rattle.lvish_checks.proofs.Cuts.{left_fails, right_fails}
 use Rattle.lvish_script.proofs.Bodies.{first_holds, second_holds}
 
 -- a byte of a word
@@ -40,7 +40,7 @@ name_byte_plain b e = grind (arith, nat_tests)
 
 name_bytes_plain : (w : Word) → list_all is_name_byte w ≡ true → list_all is_plain_byte w ≡ true
 name_bytes_plain [] e = refl
-name_bytes_plain (b ∷ w) e = both_hold (is_plain_byte b) _ (name_byte_plain b (first_holds (is_name_byte b) _ e)) (name_bytes_plain w (second_holds (is_name_byte b) _ e))
+name_bytes_plain (b ∷ w) e = and_from (is_plain_byte b) _ (name_byte_plain b (first_holds (is_name_byte b) _ e)) (name_bytes_plain w (second_holds (is_name_byte b) _ e))
 
 letter_begins : (b : ℕ) → is_letter b ≡ true → not (b == 35) ≡ true
 letter_begins b e = grind (arith, nat_tests)
@@ -56,7 +56,7 @@ name_plain (b ∷ w) e =
     let all : (is_letter b && nat_le (length (b ∷ w)) 32 && list_all is_name_byte (b ∷ w) && not (is_reserved (b ∷ w))) ≡ true = e in
     let three = first_holds (is_letter b && nat_le (length (b ∷ w)) 32 && list_all is_name_byte (b ∷ w)) _ all in
     let two = first_holds (is_letter b && nat_le (length (b ∷ w)) 32) _ three in
-    both_hold (not (b == 35)) _ (letter_begins b (first_holds (is_letter b) _ two)) (name_bytes_plain (b ∷ w) (second_holds (is_letter b && nat_le (length (b ∷ w)) 32) _ three))
+    and_from (not (b == 35)) _ (letter_begins b (first_holds (is_letter b) _ two)) (name_bytes_plain (b ∷ w) (second_holds (is_letter b && nat_le (length (b ∷ w)) 32) _ three))
 
 pub name_no_number : (w : Word) → is_name w ≡ true → is_number_word w ≡ false
 unfolding is_name
@@ -82,7 +82,7 @@ digit_plain d false e = grind (arith, nat_tests)
 
 digits_plain : (ds : List ℕ) → all_ascii_digits ds ≡ true → list_all is_plain_byte ds ≡ true
 digits_plain [] e = refl
-digits_plain (d ∷ ds) e = both_hold (is_plain_byte d) _ (digit_plain d (all_ascii_digits ds) e) (digits_plain ds (second_holds _ (all_ascii_digits ds) e))
+digits_plain (d ∷ ds) e = and_from (is_plain_byte d) _ (digit_plain d (all_ascii_digits ds) e) (digits_plain ds (second_holds _ (all_ascii_digits ds) e))
 
 below : (n : ℕ) → nat_lt n (2 ^ 63) ≡ true → n < 2 ^ 64
 below n e = grind (arith, nat_tests)
@@ -94,7 +94,7 @@ up_to : (n : ℕ) → nat_lt n (2 ^ 63) ≡ true → nat_le (suc n) (2 ^ 63) ≡
 up_to n e = grind (arith, nat_tests)
 
 decimal_numeral : (n : ℕ) → n < 2 ^ 64 → is_numeral (decimal n) ≡ true
-decimal_numeral n h = both_hold (not (length (decimal n) == 0)) _ (some_length (decimal n) (decimal_is_IsNumeral n h).0.0) (digits_decimal own n h)
+decimal_numeral n h = and_from (not (length (decimal n) == 0)) _ (some_length (decimal n) (decimal_is_IsNumeral n h).0.0) (digits_decimal own n h)
 
 decimal_value : (n : ℕ) → n < 2 ^ 64 → digits_value 10 (decimal n) ≡ n
 decimal_value n h = digits_value-decimal own n h
@@ -104,7 +104,7 @@ digits_number : (ds : List ℕ) → is_numeral ds ≡ true → nat_lt (digits_va
 digits_number [] e f = absurd cc
 digits_number (d ∷ ds) e f =
     let no_minus : (d == 45) ≡ false = no_sign d (all_ascii_digits ds) (second_holds (not (length (d ∷ ds) == 0)) _ e) in
-    let test : (is_numeral (d ∷ ds) && nat_lt (digits_value 10 (d ∷ ds)) (2 ^ 63)) ≡ true = both_hold (is_numeral (d ∷ ds)) _ e f in
+    let test : (is_numeral (d ∷ ds) && nat_lt (digits_value 10 (d ∷ ds)) (2 ^ 63)) ≡ true = and_from (is_numeral (d ∷ ds)) _ e f in
     rw no_minus (ap (λ b. cond b (Some (pos (digits_value 10 (d ∷ ds)))) None) test)
   where
     no_sign : (d : ℕ) (t : Bool) → ((nat_le 48 d && nat_le d 57) && t) ≡ true → (d == 45) ≡ false
@@ -124,7 +124,7 @@ digits_begin : (ds : List ℕ) → is_numeral ds ≡ true → is_plain ds ≡ tr
 digits_begin [] e = absurd cc
 digits_begin (d ∷ ds) e =
     let all = second_holds (not (length (d ∷ ds) == 0)) _ e in
-    both_hold (not (d == 35)) _ (no_hash d (all_ascii_digits ds) all) (digits_plain (d ∷ ds) all)
+    and_from (not (d == 35)) _ (no_hash d (all_ascii_digits ds) all) (digits_plain (d ∷ ds) all)
   where
     no_hash : (d : ℕ) (t : Bool) → ((nat_le 48 d && nat_le d 57) && t) ≡ true → not (d == 35) ≡ true
     no_hash d true e = grind (arith, nat_tests)
@@ -137,7 +137,7 @@ number_back (pos n) e =
     digits_number (decimal n) (decimal_numeral n small) (ap (λ m. nat_lt m (2 ^ 63)) (decimal_value n small) ∙ e) ∙ ap (λ m. Some (pos m)) (decimal_value n small)
 number_back (negsuc n) e =
     let small = above n e in
-    let test : (is_numeral (decimal (suc n)) && nat_le (digits_value 10 (decimal (suc n))) (2 ^ 63)) ≡ true = both_hold (is_numeral (decimal (suc n))) _ (decimal_numeral (suc n) small) (ap (λ m. nat_le m (2 ^ 63)) (decimal_value (suc n) small) ∙ up_to n e) in
+    let test : (is_numeral (decimal (suc n)) && nat_le (digits_value 10 (decimal (suc n))) (2 ^ 63)) ≡ true = and_from (is_numeral (decimal (suc n))) _ (decimal_numeral (suc n) small) (ap (λ m. nat_le m (2 ^ 63)) (decimal_value (suc n) small) ∙ up_to n e) in
     ap (λ b. cond b (Some (neg_ℤ (pos (digits_value 10 (decimal (suc n)))))) None) test ∙ ap (λ m. Some (neg_ℤ (pos m))) (decimal_value (suc n) small)
 
 pub number_is_word : (z : ℤ) → is_within z ≡ true → is_number_word (signed_decimal z) ≡ true
@@ -182,11 +182,11 @@ all_back f g p h (x ∷ xs) e = rw (h x (first_holds (p x) _ e), all_back f g p 
 
 pub all_map : {X : Type 0} (g : X → Word) (p : X → Bool) (q : Word → Bool) → ((x : X) → p x ≡ true → q (g x) ≡ true) → (xs : List X) → list_all p xs ≡ true → list_all q (map g xs) ≡ true
 all_map g p q h [] e = refl
-all_map g p q h (x ∷ xs) e = both_hold (q (g x)) _ (h x (first_holds (p x) _ e)) (all_map g p q h xs (second_holds (p x) _ e))
+all_map g p q h (x ∷ xs) e = and_from (q (g x)) _ (h x (first_holds (p x) _ e)) (all_map g p q h xs (second_holds (p x) _ e))
 
 pub all_same : {X : Type 0} (p q : X → Bool) → ((x : X) → p x ≡ true → q x ≡ true) → (xs : List X) → list_all p xs ≡ true → list_all q xs ≡ true
 all_same p q h [] e = refl
-all_same p q h (x ∷ xs) e = both_hold (q x) _ (h x (first_holds (p x) _ e)) (all_same p q h xs (second_holds (p x) _ e))
+all_same p q h (x ∷ xs) e = and_from (q x) _ (h x (first_holds (p x) _ e)) (all_same p q h xs (second_holds (p x) _ e))
 
 -- ---- the words of a line that is written
 

@@ -4,6 +4,7 @@ use Rattle.std.specs.Prelude.{filter, is_some, take, nat_le}
 use Rattle.std.specs.Option.{option_map_or}
 use Rattle.std.specs.List.{list_any, list_all, flat_map}
 use Rattle.std.specs.Str.{bytes_eq}
+use Rattle.std.proofs.lemmas.Bool.{and_from}
 use Rattle.std.proofs.lemmas.List.{append-nil, map-append}
 use Rattle.std.proofs.lemmas.List.Folds.{list_any-append, list_all-append}
 use Rattle.std.proofs.lemmas.Grind.{flat_map-append}
@@ -30,7 +31,7 @@ use Rattle.lvish_checks.specs.declared.line.Line.TheVariants.{Blank, Bad, Declar
 use Rattle.lvish_checks.specs.Checks.{on_line, has_variable, has_pool, has_procedure, is_main, is_procedure, declares_again, is_past_limit, binds, binds_until_procedure, locals_after, locals_step, miscounts, misfits, mixes, names_unknown, has_other_count, is_get_of_kind, is_get_apart, command_unknown, command_misfits, command_miscounts, command_mixes, open_after}
 use Rattle.lvish_checks.specs.declared.open_blocks.Opener.TheVariants.{Procedure as InProcedure}
 use Rattle.lvish_script.specs.Spells.{body_lines, procedure_lines, script_lines, says_something}
-use Rattle.lvish_checks.proofs.Cuts.{left_fails, right_fails, both_hold, same_name, all_by_cut, none_by_cut, few_by_cut, differ_by_cut}
+use Rattle.lvish_checks.proofs.Cuts.{left_fails, right_fails, same_name, all_by_cut, none_by_cut, few_by_cut, differ_by_cut}
 use Rattle.lvish_script.proofs.Cleaned.{any_cleaned}
 use Rattle.lvish_script.proofs.Cleared.{locals_in, again_at, limit_at, count_at, fit_at, apart_at, unknown_at}
 use Rattle.lvish_script.proofs.Bodies.{own_line, given, all_statements, no_procedures, locals_inside, binds_inside, first_holds, second_holds}
@@ -41,7 +42,7 @@ use Rattle.lvish_script.proofs.Declaring.{heads, declared, declared_heads, proce
 
 get_fits : (kind : Option SimpleKind) (r : Threshold) → option_map_or (λ k. is_of_kind k r) kind false ≡ true → option_map_or (λ k. is_apart k r) kind true ≡ true → option_map_or (λ k. is_of_kind k r && is_apart k r) kind false ≡ true
 get_fits None r e f = absurd cc
-get_fits (Some k) r e f = both_hold (is_of_kind k r) (is_apart k r) e f
+get_fits (Some k) r e f = and_from (is_of_kind k r) (is_apart k r) e f
 
 module _ (ds : List Declaration) (ps : List Procedure) where
   variable_there : (v : Word) → not (has_variable v (script_lines ds ps)) ≡ false → has_name v (variable_names ds) ≡ true
@@ -57,32 +58,32 @@ module _ (ds : List Declaration) (ps : List Procedure) where
   gets v at r e f = get_fits (kind_there ds v at) r (not_false _ e) (not_false _ f)
 
   command_sound : (locals : List Word) (c : Command) → command_unknown (script_lines ds ps) locals c ≡ false → command_misfits ds c ≡ false → command_miscounts (script_lines ds ps) c ≡ false → command_mixes ds c ≡ false → list_all (λ x. has_name x locals) (command_binds c) ≡ true → is_command_sound ds ps locals c ≡ true
-  command_sound locals (Let x v) un mis count mix bound = both_hold (has_name x locals) _ (first_holds (has_name x locals) true bound) (not_false _ un)
-  command_sound locals (Put v t) un mis count mix bound = both_hold (is_put_sound ds v None) _ (not_false _ mis) (not_false _ (right_fails (not (has_variable v (script_lines ds ps))) _ un))
+  command_sound locals (Let x v) un mis count mix bound = and_from (has_name x locals) _ (first_holds (has_name x locals) true bound) (not_false _ un)
+  command_sound locals (Put v t) un mis count mix bound = and_from (is_put_sound ds v None) _ (not_false _ mis) (not_false _ (right_fails (not (has_variable v (script_lines ds ps))) _ un))
   command_sound locals (PutAt v k t) un mis count mix bound =
       let a : (not (has_variable v (script_lines ds ps)) || not (is_known locals k)) ≡ false = left_fails _ (not (is_known locals t)) un in
-      both_hold (is_put_sound ds v (Some k) && is_known locals k) _ (both_hold (is_put_sound ds v (Some k)) _ (not_false _ mis) (not_false _ (right_fails (not (has_variable v (script_lines ds ps))) _ a))) (not_false _ (right_fails _ (not (is_known locals t)) un))
+      and_from (is_put_sound ds v (Some k) && is_known locals k) _ (and_from (is_put_sound ds v (Some k)) _ (not_false _ mis) (not_false _ (right_fails (not (has_variable v (script_lines ds ps))) _ a))) (not_false _ (right_fails _ (not (is_known locals t)) un))
   command_sound locals (Get x v r) un mis count mix bound =
-      both_hold (has_name x locals && is_get_sound ds v None r) _ (both_hold (has_name x locals) _ (first_holds (has_name x locals) true bound) (gets v None r mis mix)) (not_false _ (right_fails (not (has_variable v (script_lines ds ps))) _ un))
+      and_from (has_name x locals && is_get_sound ds v None r) _ (and_from (has_name x locals) _ (first_holds (has_name x locals) true bound) (gets v None r mis mix)) (not_false _ (right_fails (not (has_variable v (script_lines ds ps))) _ un))
   command_sound locals (GetAt x v k r) un mis count mix bound =
       let a : (not (has_variable v (script_lines ds ps)) || not (is_known locals k)) ≡ false = left_fails _ (not (is_threshold_known locals r)) un in
-      both_hold (has_name x locals && is_get_sound ds v (Some k) r && is_known locals k) _
-      (both_hold (has_name x locals && is_get_sound ds v (Some k) r) _ (both_hold (has_name x locals) _ (first_holds (has_name x locals) true bound) (gets v (Some k) r mis mix)) (not_false _ (right_fails (not (has_variable v (script_lines ds ps))) _ a)))
+      and_from (has_name x locals && is_get_sound ds v (Some k) r && is_known locals k) _
+      (and_from (has_name x locals && is_get_sound ds v (Some k) r) _ (and_from (has_name x locals) _ (first_holds (has_name x locals) true bound) (gets v (Some k) r mis mix)) (not_false _ (right_fails (not (has_variable v (script_lines ds ps))) _ a)))
       (not_false _ (right_fails _ (not (is_threshold_known locals r)) un))
   command_sound locals (Fork n ts) un mis count mix bound =
-      both_hold (list_any (takes n (length ts)) ps) _ (taken n (length ts) (left_fails _ (not (list_all (is_known locals) ts)) un) count) (not_false _ (right_fails (not (has_procedure n (script_lines ds ps))) _ un))
+      and_from (list_any (takes n (length ts)) ps) _ (taken n (length ts) (left_fails _ (not (list_all (is_known locals) ts)) un) count) (not_false _ (right_fails (not (has_procedure n (script_lines ds ps))) _ un))
   command_sound locals (Call n ts) un mis count mix bound =
-      both_hold (list_any (takes n (length ts)) ps) _ (taken n (length ts) (left_fails _ (not (list_all (is_known locals) ts)) un) count) (not_false _ (right_fails (not (has_procedure n (script_lines ds ps))) _ un))
+      and_from (list_any (takes n (length ts)) ps) _ (taken n (length ts) (left_fails _ (not (list_all (is_known locals) ts)) un) count) (not_false _ (right_fails (not (has_procedure n (script_lines ds ps))) _ un))
   command_sound locals (Handle p n) un mis count mix bound =
-      both_hold (has_name p (pool_names ds)) _ (pool_there p (left_fails _ (not (has_procedure n (script_lines ds ps))) un)) (taken n 2 (right_fails (not (has_pool p (script_lines ds ps))) _ un) count)
+      and_from (has_name p (pool_names ds)) _ (pool_there p (left_fails _ (not (has_procedure n (script_lines ds ps))) un)) (taken n 2 (right_fails (not (has_pool p (script_lines ds ps))) _ un) count)
   command_sound locals (Freeze x v pools) un mis count mix bound =
       let there = variable_there v (left_fails (not (has_variable v (script_lines ds ps))) _ un) in
-      both_hold (has_name x locals && is_some (kind_of v ds)) _ (both_hold (has_name x locals) _ (first_holds (has_name x locals) true bound) (kind_known v ds ∙ there)) (not_false _ mis)
+      and_from (has_name x locals && is_some (kind_of v ds)) _ (and_from (has_name x locals) _ (first_holds (has_name x locals) true bound) (kind_known v ds ∙ there)) (not_false _ mis)
   command_sound locals (FreezeEach x v pools n) un mis count mix bound =
       let a : (not (has_variable v (script_lines ds ps)) || not (list_all (λ p. has_pool p (script_lines ds ps)) pools)) ≡ false = left_fails _ (not (has_procedure n (script_lines ds ps))) un in
       let there = variable_there v (left_fails (not (has_variable v (script_lines ds ps))) _ a) in
-      both_hold (has_name x locals && is_some (kind_of v ds) && list_all (is_pool_of ds v) pools) _
-      (both_hold (has_name x locals && is_some (kind_of v ds)) _ (both_hold (has_name x locals) _ (first_holds (has_name x locals) true bound) (kind_known v ds ∙ there)) (not_false _ mis))
+      and_from (has_name x locals && is_some (kind_of v ds) && list_all (is_pool_of ds v) pools) _
+      (and_from (has_name x locals && is_some (kind_of v ds)) _ (and_from (has_name x locals) _ (first_holds (has_name x locals) true bound) (kind_known v ds ∙ there)) (not_false _ mis))
       (taken n 2 (right_fails (not (has_variable v (script_lines ds ps)) || not (list_all (λ p. has_pool p (script_lines ds ps)) pools)) _ un) count)
 
 -- ---- the locals at a line of a procedure
@@ -98,7 +99,7 @@ among_all (y ∷ front) rest x = ap (λ b. bytes_eq y x || b) (among_all front r
 all_among : (front mid rest : List Word) → list_all (λ x. has_name x (front ++ (mid ++ rest))) mid ≡ true
 all_among front [] rest = refl
 all_among front (x ∷ mid) rest =
-    both_hold (has_name x (front ++ (x ∷ (mid ++ rest)))) _ (among_all front (mid ++ rest) x)
+    and_from (has_name x (front ++ (x ∷ (mid ++ rest)))) _ (among_all front (mid ++ rest) x)
     (ap (λ t. list_all (λ y. has_name y t) mid) (sym (append_assoc front (x ∷ []) (mid ++ rest))) ∙ all_among (front ++ x ∷ []) mid rest)
 
 locals_append : (found : Option (List Word)) (xs ys : List Line) → locals_after found (xs ++ ys) ≡ locals_after (locals_after found xs) ys
@@ -203,17 +204,17 @@ back_written xs ys e = second_holds (list_all is_line_written xs) (list_all is_l
 
 heads_written : (ds : List Declaration) → list_all is_line_written (heads ds) ≡ true → list_all is_declaration_written ds ≡ true
 heads_written [] e = refl
-heads_written (d ∷ ds) e = both_hold (is_declaration_written d) _ (first_holds (is_declaration_written d) _ e) (heads_written ds (second_holds (is_declaration_written d) _ e))
+heads_written (d ∷ ds) e = and_from (is_declaration_written d) _ (first_holds (is_declaration_written d) _ e) (heads_written ds (second_holds (is_declaration_written d) _ e))
 
 procedure_written : (r : Procedure) → list_all is_line_written (procedure_lines r) ≡ true → is_procedure_written r ≡ true
 procedure_written r e =
-    both_hold (is_name r.name && list_all is_name r.parameters) _ (first_holds (is_name r.name && list_all is_name r.parameters) _ e)
+    and_from (is_name r.name && list_all is_name r.parameters) _ (first_holds (is_name r.name && list_all is_name r.parameters) _ e)
     (all_statements is_line_written (λ s. is_own_written (out-Statement s)) (λ s. own_written (out-Statement s)) (statements r.body) (front_written (body_lines (statements r.body)) (End ∷ []) (second_holds (is_name r.name && list_all is_name r.parameters) _ e)))
 
 procedures_written : (ps : List Procedure) → list_all is_line_written (flat_map procedure_lines ps) ≡ true → list_all is_procedure_written ps ≡ true
 procedures_written [] e = refl
 procedures_written (r ∷ ps) e =
-    both_hold (is_procedure_written r) _ (procedure_written r (front_written (procedure_lines r) (flat_map procedure_lines ps) e)) (procedures_written ps (back_written (procedure_lines r) (flat_map procedure_lines ps) e))
+    and_from (is_procedure_written r) _ (procedure_written r (front_written (procedure_lines r) (flat_map procedure_lines ps) e)) (procedures_written ps (back_written (procedure_lines r) (flat_map procedure_lines ps) e))
 
 -- ---- all of it
 

@@ -1,6 +1,6 @@
 -- The canonical text of a script says its lines.
 use Rattle.std.proofs.Common.{◌≡◌, cond, ℕ, ◌-◌, Bool, true, false, not, ◌&&◌, List, [], ◌∷◌, ◌++◌, length, map, take, refl, sym, ap, ◌∙◌, arith, append_assoc}
-use Rattle.std.proofs.lemmas.Bool.{or_from}
+use Rattle.std.proofs.lemmas.Bool.{and_from, or_from}
 use Rattle.std.specs.Prelude.{filter, codes, ◌==◌, slice_index, ℤ, if◌then◌else◌}
 use Rattle.std.specs.List.{list_any, list_all, slice_split, flat_map}
 use Rattle.std.proofs.Math.Seq.{take-append_seam}
@@ -31,7 +31,6 @@ use Rattle.lvish_checks.specs.Text.{is_foreign, lines_of, without_last_feed, wor
 use Rattle.lvish_checks.specs.Form.{line_of, is_bad_number}
 use Rattle.lvish_script.specs.Spells.{body_lines, procedure_lines, script_lines, says_something}
 use Rattle.lvish_script.specs.Canonical.{term_word, kind_word, operator_word, value_words, threshold_words, pool_words, command_words, line_words, joined, lines_text}
-use Rattle.lvish_checks.proofs.Cuts.{both_hold}
 use Rattle.lvish_script.proofs.Bodies.{is_inner, inner, first_holds, second_holds, join_all}
 use Rattle.lvish_script.proofs.Declaring.{heads, not_true}
 use Rattle.lvish_script.proofs.Soundness.{is_line_written}
@@ -45,13 +44,13 @@ abbrev pub is_fine : Word → Bool
 is_fine w = is_plain w && not (is_bad_number w)
 
 name_fine : (w : Word) → is_name w ≡ true → is_fine w ≡ true
-name_fine w e = both_hold (is_plain w) _ (name_plain w e) (ap not (name_good w e))
+name_fine w e = and_from (is_plain w) _ (name_plain w e) (ap not (name_good w e))
 
 number_fine : (z : ℤ) → is_within z ≡ true → is_fine (signed_decimal z) ≡ true
-number_fine z e = both_hold (is_plain (signed_decimal z)) _ (number_plain z e) (ap not (number_good z e))
+number_fine z e = and_from (is_plain (signed_decimal z)) _ (number_plain z e) (ap not (number_good z e))
 
 term_fine : (t : Term) → is_term_written t ≡ true → is_fine (term_word t) ≡ true
-term_fine t e = both_hold (is_plain (term_word t)) _ (term_plain t e) (ap not (term_good t e))
+term_fine t e = and_from (is_plain (term_word t)) _ (term_plain t e) (ap not (term_good t e))
 
 -- words that are all fine
 pub record AreFine (ws : List Word) : Type 0 where
@@ -59,7 +58,7 @@ pub record AreFine (ws : List Word) : Type 0 where
 
 join_words : (p : Word → Bool) (xs ys : List Word) → list_all p xs ≡ true → list_all p ys ≡ true → list_all p (xs ++ ys) ≡ true
 join_words p [] ys e f = f
-join_words p (x ∷ xs) ys e f = both_hold (p x) _ (first_holds (p x) _ e) (join_words p xs ys (second_holds (p x) _ e) f)
+join_words p (x ∷ xs) ys e f = and_from (p x) _ (first_holds (p x) _ e) (join_words p xs ys (second_holds (p x) _ e) f)
 
 no_words : AreFine []
 no_words = record { all = refl }
@@ -82,7 +81,7 @@ operator_fine Less = refl
 operator_fine Equal = refl
 
 and_more : (w : Word) {ws : List Word} → is_fine w ≡ true → AreFine ws → AreFine (w ∷ ws)
-and_more w e f = record { all = both_hold (is_fine w) _ e f.all }
+and_more w e f = record { all = and_from (is_fine w) _ e f.all }
 
 value_fine : (v : Value) → is_value_written v ≡ true → AreFine (value_words v)
 value_fine (Same t) e = and_more (term_word t) (term_fine t e) no_words
@@ -236,7 +235,7 @@ heads_good (d ∷ ds) = heads_good ds
 
 inner_good : (ls : List Line) → list_all is_inner ls ≡ true → list_all is_good ls ≡ true
 inner_good [] e = refl
-inner_good (l ∷ ls) e = both_hold (is_good l) _ (good l (first_holds (is_inner l) _ e)) (inner_good ls (second_holds (is_inner l) _ e))
+inner_good (l ∷ ls) e = and_from (is_good l) _ (good l (first_holds (is_inner l) _ e)) (inner_good ls (second_holds (is_inner l) _ e))
   where
     good : (l : Line) → is_inner l ≡ true → is_good l ≡ true
     good (line.Do c) e = refl

@@ -6,6 +6,7 @@ use Rattle.std.specs.Option.{option_map}
 use Rattle.std.specs.List.{list_all}
 use Rattle.std.specs.Str.{bytes_eq}
 use Rattle.std.specs.Str.Parse.{digits_value}
+use Rattle.std.proofs.lemmas.Bool.{and_from}
 use Rattle.std.proofs.lemmas.Bool.Decides.{nat_tests}
 use Rattle.std.proofs.lemmas.List.Sums.{take_while-cons}
 use Rattle.lvish_syntax.specs.Words.{Word, is_name}
@@ -20,7 +21,6 @@ use Rattle.lvish_syntax.specs.declared.command.Command.TheVariants as command
 use Rattle.lvish_checks.specs.declared.line.Line.{Line}
 use Rattle.lvish_checks.specs.declared.line.Line.TheVariants.{Bad, Do, If, While, Else, End}
 use Rattle.lvish_checks.specs.Form.{is_number_word, is_numeral, number_of, value_of_number, number_word, term_of, all_of, terms_of, numbers_of, only, operator_of, or_bad, variable_line, pair_kind, pair_line, pool_line, proc_line, value_of, let_line, put_of, put_line, threshold_after, threshold_of, get_of, get_line, run_line, handle_line, freeze_each, freeze_after, freeze_of, freeze_line, block_line, bare_line, declaration_form, command_form, block_form, begins_declaration, begins_command, line_of}
-use Rattle.lvish_checks.proofs.Cuts.{both_hold}
 use Rattle.lvish_script.proofs.Bodies.{second_holds}
 use Rattle.lvish_script.proofs.Soundness.{is_line_written}
 
@@ -47,7 +47,7 @@ any_option (Some x) = refl
 
 holds_all : {X : Type 0} (p : X → Bool) (f : Word → Option X) → ((w : Word) → Holds p (f w)) → (ws : List Word) → Holds (list_all p) (all_of f ws)
 holds_all p f h [] = refl
-holds_all p f h (w ∷ ws) = holds_then p (list_all p) (λ x. option_map (λ xs. x ∷ xs) (all_of f ws)) (f w) (h w) (λ x e. holds_map (list_all p) (list_all p) (λ xs. x ∷ xs) (all_of f ws) (holds_all p f h ws) (λ xs g. both_hold (p x) _ e g))
+holds_all p f h (w ∷ ws) = holds_then p (list_all p) (λ x. option_map (λ xs. x ∷ xs) (all_of f ws)) (f w) (h w) (λ x e. holds_map (list_all p) (list_all p) (λ xs. x ∷ xs) (all_of f ws) (holds_all p f h ws) (λ xs g. and_from (p x) _ e g))
 
 holds_only : {X : Type 0} (p : X → Bool) (f : Word → Option X) → ((w : Word) → Holds p (f w)) → (ws : List Word) → Holds p (only f ws)
 holds_only p f h [] = tt
@@ -99,7 +99,7 @@ terms_written : (ws : List Word) → Holds (list_all is_term_written) (terms_of 
 terms_written ws = holds_all is_term_written term_of term_written ws
 
 taken_on : (w : Word) (ws : List Word) (b : Bool) → is_name w ≡ b → list_all is_name ws ≡ true → list_all is_name (if b then w ∷ ws else []) ≡ true
-taken_on w ws true e h = both_hold (is_name w) _ e h
+taken_on w ws true e h = and_from (is_name w) _ e h
 taken_on w ws false e h = refl
 
 names_taken : (ws : List Word) → list_all is_name (take_while is_name ws) ≡ true
@@ -146,20 +146,20 @@ value_written (a ∷ op ∷ []) = tt
 value_written (a ∷ op ∷ b ∷ []) =
     holds_then is_term_written is_value_written _ (term_of a) (term_written a) (λ s e.
     holds_then (λ x. true) is_value_written _ (operator_of op) (any_option (operator_of op)) (λ p f.
-    holds_map is_term_written is_value_written _ (term_of b) (term_written b) (λ t g. both_hold (is_term_written s) _ e g)))
+    holds_map is_term_written is_value_written _ (term_of b) (term_written b) (λ t g. and_from (is_term_written s) _ e g)))
 value_written (a ∷ op ∷ b ∷ c ∷ ws) = tt
 
 let_written : (ws : List Word) → W (let_line ws)
 unfolding let_line
 let_written [] = refl
-let_written (x ∷ ws) = w_if (is_name x) _ Bad (λ e. w_or_bad _ (holds_map is_value_written is_line_written _ (value_of ws) (value_written ws) (λ v f. both_hold (is_name x) _ e f))) refl
+let_written (x ∷ ws) = w_if (is_name x) _ Bad (λ e. w_or_bad _ (holds_map is_value_written is_line_written _ (value_of ws) (value_written ws) (λ v f. and_from (is_name x) _ e f))) refl
 
 put_of_written : (v : Word) → is_name v ≡ true → (ws : List Word) → Holds is_command_written (put_of v ws)
 put_of_written v e [] = tt
-put_of_written v e (t ∷ []) = holds_map is_term_written is_command_written _ (term_of t) (term_written t) (λ a f. both_hold (is_name v) _ e f)
+put_of_written v e (t ∷ []) = holds_map is_term_written is_command_written _ (term_of t) (term_written t) (λ a f. and_from (is_name v) _ e f)
 put_of_written v e (k ∷ t ∷ []) =
     holds_then is_term_written is_command_written _ (term_of k) (term_written k) (λ a f.
-    holds_map is_term_written is_command_written _ (term_of t) (term_written t) (λ b g. both_hold (is_name v) _ e (both_hold (is_term_written a) _ f g)))
+    holds_map is_term_written is_command_written _ (term_of t) (term_written t) (λ b g. and_from (is_name v) _ e (and_from (is_term_written a) _ f g)))
 put_of_written v e (k ∷ t ∷ u ∷ ws) = tt
 
 put_written : (ws : List Word) → W (put_line ws)
@@ -168,7 +168,7 @@ put_written [] = refl
 put_written (v ∷ ws) = w_if (is_name v) _ Bad (λ e. done (put_of v ws) (put_of_written v e ws)) refl
 
 members_written : (w : Word) (ws : List Word) → Holds are_members_written (numbers_of (w ∷ ws))
-members_written w ws = holds_then is_within are_members_written _ (number_word w) (word_within w) (λ z e. holds_map (list_all is_within) are_members_written (λ zs. z ∷ zs) (numbers_of ws) (holds_all is_within number_word word_within ws) (λ zs g. both_hold (is_within z) _ e g))
+members_written w ws = holds_then is_within are_members_written _ (number_word w) (word_within w) (λ z e. holds_map (list_all is_within) are_members_written (λ zs. z ∷ zs) (numbers_of ws) (holds_all is_within number_word word_within ws) (λ zs g. and_from (is_within z) _ e g))
 
 none_or : {X : Type 0} (p : X → Bool) (b : Bool) (m : Option X) → Holds p m → Holds p (if b then None else m)
 none_or p true m h = tt
@@ -194,8 +194,8 @@ get_of_written x v e [] = tt
 get_of_written x v e (w ∷ ws) =
     holds_if is_command_written (is_some (term_of w)) _ _
     (λ f. holds_then is_term_written is_command_written _ (term_of w) (term_written w) (λ t g.
-    holds_map is_threshold_written is_command_written _ (threshold_of ws) (threshold_written ws) (λ r h. both_hold (is_name x && is_name v) _ e (both_hold (is_term_written t) _ g h))))
-    (holds_map is_threshold_written is_command_written _ (threshold_of (w ∷ ws)) (threshold_written (w ∷ ws)) (λ r h. both_hold (is_name x && is_name v) _ e h))
+    holds_map is_threshold_written is_command_written _ (threshold_of ws) (threshold_written ws) (λ r h. and_from (is_name x && is_name v) _ e (and_from (is_term_written t) _ g h))))
+    (holds_map is_threshold_written is_command_written _ (threshold_of (w ∷ ws)) (threshold_written (w ∷ ws)) (λ r h. and_from (is_name x && is_name v) _ e h))
 
 get_written : (ws : List Word) → W (get_line ws)
 unfolding get_line
@@ -206,7 +206,7 @@ get_written (x ∷ v ∷ ws) = w_if (is_name x && is_name v) _ Bad (λ e. done (
 run_written : (f : Word → List Term → Command) → ((n : Word) (ts : List Term) → is_command_written (f n ts) ≡ (is_name n && list_all is_term_written ts)) → (ws : List Word) → W (run_line f ws)
 unfolding run_line
 run_written f h [] = refl
-run_written f h (n ∷ ts) = w_if (is_name n) _ Bad (λ e. w_or_bad _ (holds_map (list_all is_term_written) is_line_written _ (terms_of ts) (terms_written ts) (λ xs g. h n xs ∙ both_hold (is_name n) _ e g))) refl
+run_written f h (n ∷ ts) = w_if (is_name n) _ Bad (λ e. w_or_bad _ (holds_map (list_all is_term_written) is_line_written _ (terms_of ts) (terms_written ts) (λ xs g. h n xs ∙ and_from (is_name n) _ e g))) refl
 
 handle_written : (ws : List Word) → W (handle_line ws)
 unfolding handle_line
@@ -216,16 +216,16 @@ handle_written (p ∷ n ∷ []) = w_if (is_name p && is_name n) _ Bad (λ e. e) 
 handle_written (p ∷ n ∷ m ∷ ws) = refl
 
 each_written : (x v : Word) (ps : List Word) → (is_name x && is_name v) ≡ true → list_all is_name ps ≡ true → (ws : List Word) → Holds is_command_written (freeze_each x v ps ws)
-each_written x v ps e f [] = both_hold (is_name x && is_name v) _ e f
+each_written x v ps e f [] = and_from (is_name x && is_name v) _ e f
 each_written x v ps e f (k ∷ []) = tt
-each_written x v ps e f (k ∷ n ∷ []) = holds_if is_command_written (bytes_eq k (codes "each") && is_name n) _ None (λ g. both_hold (is_name x && is_name v) _ e (both_hold (list_all is_name ps) _ f (second_holds (bytes_eq k (codes "each")) _ g))) tt
+each_written x v ps e f (k ∷ n ∷ []) = holds_if is_command_written (bytes_eq k (codes "each") && is_name n) _ None (λ g. and_from (is_name x && is_name v) _ e (and_from (list_all is_name ps) _ f (second_holds (bytes_eq k (codes "each")) _ g))) tt
 each_written x v ps e f (k ∷ n ∷ m ∷ ws) = tt
 
 after_written : (x v : Word) → (is_name x && is_name v) ≡ true → (ws : List Word) → Holds is_command_written (freeze_after x v ws)
 after_written x v e ws = none_or is_command_written (length (take_while is_name ws) == 0) _ (each_written x v (take_while is_name ws) e (names_taken ws) (drop (length (take_while is_name ws)) ws))
 
 freeze_of_written : (x v : Word) → (is_name x && is_name v) ≡ true → (ws : List Word) → Holds is_command_written (freeze_of x v ws)
-freeze_of_written x v e [] = both_hold (is_name x && is_name v) _ e refl
+freeze_of_written x v e [] = and_from (is_name x && is_name v) _ e refl
 freeze_of_written x v e (k ∷ ws) = holds_if is_command_written (bytes_eq k (codes "after")) _ _ (λ f. after_written x v e ws) (each_written x v [] e refl (k ∷ ws))
 
 freeze_written : (ws : List Word) → W (freeze_line ws)
@@ -281,4 +281,4 @@ line_written (k ∷ ws) = w_if (begins_declaration k) _ _ (λ e. declaration_for
 -- what the lines of a text say
 pub said_written : (words : List (List Word)) → list_all is_line_written (map line_of words) ≡ true
 said_written [] = refl
-said_written (ws ∷ words) = both_hold (is_line_written (line_of ws)) _ (line_written ws) (said_written words)
+said_written (ws ∷ words) = and_from (is_line_written (line_of ws)) _ (line_written ws) (said_written words)

@@ -47,18 +47,14 @@ impl Command {
             Command::PutAt(variable, place, term) => {
                 Command::PutAt(variable.copy(alloc)?, place.copy(alloc)?, term.copy(alloc)?)
             }
-            Command::Get(local, variable, threshold) => {
-                Command::Get(
-                    local.copy(alloc)?,
-                    variable.copy(alloc)?,
-                    threshold.copy(alloc)?,
-                )
+            Command::Get(local, variable, read) => {
+                Command::Get(local.copy(alloc)?, variable.copy(alloc)?, read.copy(alloc)?)
             }
-            Command::GetAt(local, variable, place, threshold) => Command::GetAt(
+            Command::GetAt(local, variable, place, read) => Command::GetAt(
                 local.copy(alloc)?,
                 variable.copy(alloc)?,
                 place.copy(alloc)?,
-                threshold.copy(alloc)?,
+                read.copy(alloc)?,
             ),
             Command::Fork(procedure, terms) => {
                 Command::Fork(procedure.copy(alloc)?, terms.copy(alloc)?)

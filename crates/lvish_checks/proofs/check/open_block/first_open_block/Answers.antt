@@ -12,7 +12,7 @@ returns-then-misplaced c =
     let lines = c.args.lines.now in
     let line = c.index-lines-k.result in
     let last : (c.loop-k.k + 1 == length lines) ≡ (suc c.loop-k.k == length lines) = rw add-one refl in
-    let after : c.add.new.self ≡ open_step (open_after [] (take c.loop-k.k lines)) line = c.in_ok-add.ensures ∙ ap (λ o. open_step o line) c.loop-k.invariant.opened in
+    let after : c.add.new.self ≡ open_step (open_after [] (take c.loop-k.k lines)) line = c.in_ok-add.ensures.added ∙ ap (λ o. open_step o line) c.loop-k.invariant.opened in
     let misplaced = c.is_misplaced-misplaced.ensures ∙ ap (λ o. is_misplaced o line) c.loop-k.invariant.opened in
     let fails = sym (open_fails lines c.loop-k.k line c.loop-k-test.true c.index-lines-k.is _ last) in
     fails_at _ _ c.loop-k.k line c.loop-k-test.true c.index-lines-k.is c.loop-k.invariant.passed
@@ -26,7 +26,7 @@ loop-k-preserved c =
     let lines = c.args.lines.now in
     let line = c.index-lines-k.result in
     let last : (c.loop-k.k + 1 == length lines) ≡ (suc c.loop-k.k == length lines) = rw add-one refl in
-    let after : c.add.new.self ≡ open_step (open_after [] (take c.loop-k.k lines)) line = c.in_ok-add.ensures ∙ ap (λ o. open_step o line) c.loop-k.invariant.opened in
+    let after : c.add.new.self ≡ open_step (open_after [] (take c.loop-k.k lines)) line = c.in_ok-add.ensures.added ∙ ap (λ o. open_step o line) c.loop-k.invariant.opened in
     let misplaced = c.is_misplaced-misplaced.ensures ∙ ap (λ o. is_misplaced o line) c.loop-k.invariant.opened in
     let ends = c.ends_open.ensures ∙ ap (λ o. (c.loop-k.k + 1 == length lines) && not (is_nil o)) after in
     record {
