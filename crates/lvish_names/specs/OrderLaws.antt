@@ -1,8 +1,8 @@
 -- The order of names is total, and it tells all names apart where that of the events does.
 use Rattle.std.specs.Prelude.{◌≡◌, ℕ, Bool, true, false, ◌&&◌, List, [], ◌∷◌, ◌++◌, reverse, nat_eq, refl}
 use Rattle.std.proofs.Common.{sym, ◌∙◌, ap, subst}
-use Rattle.std.proofs.Math.Bool.{and-false}
-use Rattle.std.proofs.lemmas.Bool.{false≢true, and_from}
+use Rattle.std.proofs.Math.Bool.{and-false, and_assoc, and_comm}
+use Rattle.std.proofs.lemmas.Bool.{false≢true, and_from, and_right}
 use Rattle.std.proofs.lemmas.List.{reverse-append, reverse-reverse}
 use Rattle.std.specs.declared.cmp.Ordering.{Ordering}
 use Rattle.std.specs.declared.cmp.Ordering.TheVariants.{Less, Equal}
@@ -16,10 +16,6 @@ use Rattle.lvish_names.specs.NameOrder.{part_eq, part_cmp, name_cmp, handler_cmp
 
 -- ---- equality
 
-and_regroup : (a b c : Bool) → (a && (b && c)) ≡ ((a && b) && c)
-and_regroup true b c = refl
-and_regroup false b c = refl
-
 -- one name is the other where their parts are
 pub same_name-pointwise : {E : Type 0} (eq : E → E → Bool) (t u : Name E) → same_name eq t u ≡ pointwise (part_eq eq) t u
 same_name-pointwise eq main main = refl
@@ -31,7 +27,7 @@ same_name-pointwise eq (forked t i) (handed u k f) = refl
 same_name-pointwise eq (handed t i e) main = refl
 same_name-pointwise eq (handed t i e) (forked u k) = refl
 same_name-pointwise eq (handed t i e) (handed u k f) =
-    ap (λ b. nat_eq i k && (eq e f && b)) (same_name-pointwise eq t u) ∙ and_regroup (nat_eq i k) (eq e f) (pointwise (part_eq eq) t u)
+    ap (λ b. nat_eq i k && (eq e f && b)) (same_name-pointwise eq t u) ∙ sym (and_assoc (nat_eq i k) (eq e f) (pointwise (part_eq eq) t u))
 
 module _ {E : Type 0} (eq : E → E → Bool) (own : (e : E) → eq e e ≡ true) where
   pub same_name-refl : (t : Name E) → same_name eq t t ≡ true
@@ -95,19 +91,13 @@ module _ {K : Type 0} (test : K → K → Bool) where
   snoc_apart_left (y ∷ ys) x = refl
 
   and_turn : (a b c : Bool) → (a && (b && c)) ≡ (b && (a && c))
-  and_turn true true c = refl
-  and_turn true false c = refl
-  and_turn false true c = refl
-  and_turn false false c = refl
-
-  none_swap : (a b : Bool) → b ≡ false → (a && b) ≡ false
-  none_swap a b e = ap (λ c. a && c) e ∙ and-false a
+  and_turn a b c = sym (and_assoc a b c) ∙ ap (λ x. x && c) (and_comm a b) ∙ and_assoc b a c
 
   -- the last of each, and then the others
   pointwise-snoc : (xs ys : List K) (x y : K) → pointwise test (xs ++ x ∷ []) (ys ++ y ∷ []) ≡ (test x y && pointwise test xs ys)
   pointwise-snoc [] [] x y = refl
-  pointwise-snoc [] (b ∷ ys) x y = none_swap (test x b) _ (snoc_apart ys y) ∙ sym (and-false (test x y))
-  pointwise-snoc (a ∷ xs) [] x y = none_swap (test a y) _ (snoc_apart_left xs x) ∙ sym (and-false (test x y))
+  pointwise-snoc [] (b ∷ ys) x y = and_right (test x b) _ (snoc_apart ys y) ∙ sym (and-false (test x y))
+  pointwise-snoc (a ∷ xs) [] x y = and_right (test a y) _ (snoc_apart_left xs x) ∙ sym (and-false (test x y))
   pointwise-snoc (a ∷ xs) (b ∷ ys) x y = ap (λ c. test a b && c) (pointwise-snoc xs ys x y) ∙ and_turn (test a b) (test x y) (pointwise test xs ys)
 
   reverse_cons : (x : K) (xs : List K) → reverse (x ∷ xs) ≡ reverse xs ++ x ∷ []

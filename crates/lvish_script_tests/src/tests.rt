@@ -10,15 +10,16 @@ mod order;
 mod parts;
 mod readings;
 
+use crate::fault_in;
 use lvish_script::{Fault, ScriptFault, read_script, write_script};
 use std::alloc::AllocError;
 use std::test::*;
 
 /// The name and the line of the fault of a text, or `script`.
 fn fault_of(rt: &HostRuntime, text: &[u8]) -> (&'static str, usize) {
-    match read_script(rt.alloc(), text) {
-        Ok(_) => ("script", 0),
-        Err(e) => (e.fault.name(), e.line),
+    match fault_in(rt.alloc(), text) {
+        None => ("script", 0),
+        Some(e) => (e.fault.name(), e.line),
     }
 }
 
