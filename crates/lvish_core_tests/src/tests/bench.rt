@@ -267,8 +267,26 @@ where
     Ok(text)
 }
 
+/// What the step answers, and again where a growth was refused: no step was made.
+fn stepped<P: Program>(
+    rt: &impl Abort,
+    alloc: Global,
+    core: &mut Core<'_, P>,
+    label: &Label<<P::Lat as Lattice>::Event>,
+) -> Result<Stepped, StepFault> {
+    let steps = core.steps();
+    match core.step(alloc, label) {
+        Err(StepFault::Memory) => {
+            assert_eq!(rt; core.steps(), steps);
+            core.step(alloc, label)
+        }
+        answer => answer,
+    }
+}
+
 /// How many of so many steps with the label are made, and what one more answers.
 pub fn many<P: Program>(
+    rt: &impl Abort,
     alloc: Global,
     program: &P,
     label: &Label<<P::Lat as Lattice>::Event>,
@@ -277,9 +295,9 @@ pub fn many<P: Program>(
     let mut core = Core::new(alloc, program)?;
     let mut made = 0u64;
     for _ in 0..count {
-        if core.step(alloc, label)? == Stepped::Done {
+        if stepped(rt, alloc, &mut core, label)? == Stepped::Done {
             made = made.saturating_add(1);
         }
     }
-    Ok((made, core.step(alloc, label)))
+    Ok((made, stepped(rt, alloc, &mut core, label)))
 }

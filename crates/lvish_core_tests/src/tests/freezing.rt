@@ -139,7 +139,7 @@ fn a_put_after_the_freeze_is_an_error(rt: HostRuntime) -> Result<(), Fail> {
 fn a_million_steps_are_made_and_no_more(rt: HostRuntime) -> Result<(), Fail> {
     let alloc = rt.alloc();
     let main = act(alloc, &[])?;
-    let answers = many(alloc, &Freezing { start: 7 }, &main, 1_000_000)?;
+    let answers = many(&rt, alloc, &Freezing { start: 7 }, &main, 1_000_000)?;
     assert_eq!(rt; answers, (1_000_000, Err(StepFault::Full)));
     Ok(())
 }
