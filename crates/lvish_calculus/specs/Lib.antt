@@ -4,4 +4,5 @@ pub mod Calculus
 pub mod Laws
 pub mod Handing
 pub mod Live
+pub mod Waiting
 pub mod Examples

@@ -5,6 +5,7 @@ ghost use Rattle.lvish_calculus.specs.Machine.{IsLawful};
 ghost use Rattle.lvish_calculus.specs.Calculus.{Running, start};
 ghost use Rattle.lvish_names.specs.Names.{Name};
 ghost use Rattle.lvish_calculus.specs.Handing.{HandingKept, ErrsLast};
+ghost use Rattle.lvish_calculus.specs.Waiting.{WaitsForItsVariable, AllWait};
 ghost use Rattle.lvish_calculus.specs.Laws.{MovesCommute, DoomedStays, SameEndIf, IsCrossed, FreezesAllBy, NeverErrs, NoLateError};
 
 use crate::meaning::Meaning;
@@ -61,6 +62,18 @@ pub fn handing_kept<P: Program>()
     ensures kept { (p : P) → HandingKept (⟦<P as Meaning>⟧.machine p) }
     // A run in error is such a run, and one step more.
     ensures in_error { (p : P) → ErrsLast (⟦<P as Meaning>⟧.machine p) }
+{
+    lawful::<P>();
+}
+
+/// What a waiting task waits for.
+pub fn waiting<P: Program>()
+    // It stays as it is at every step but its own, and its request is let pass by none but a put
+    // into the variable of its get; or, for a freeze, an event that is handed on its variable, or
+    // the end of a task that handles one.
+    ensures its_variable { (p : P) → WaitsForItsVariable (⟦<P as Meaning>⟧.machine p) }
+    // Where as many tasks wait as haven't ended, no task can go on.
+    ensures all { (p : P) → AllWait (⟦<P as Meaning>⟧.machine p) }
 {
     lawful::<P>();
 }

@@ -28,3 +28,4 @@ pub mod Ended
 pub mod NextHanded
 pub mod Begins
 pub mod Takes
+pub mod Waiting

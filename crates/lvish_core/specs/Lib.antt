@@ -9,3 +9,4 @@ pub mod Acts
 pub mod Handed
 pub mod Beside
 pub mod CoreLaws
+pub mod Waiting

@@ -1,10 +1,11 @@
 //! What the labels of a core are to its runs, as contracts of functions with no code.
 
 ghost use Rattle.lvish_core.specs.CoreLaws.{TakesCoreRuns, TakesSomething};
+ghost use Rattle.lvish_core.specs.Waiting.{WaitsUntilTouched, EndsByCounts};
 
-use lvish_calculus::laws::lawful;
+use lvish_calculus::laws::{lawful, waiting};
 use lvish_calculus::{Meaning, Program};
-use lvish_picture::laws::{handed_next, ordered};
+use lvish_picture::laws::{ends_by_cursors, handed_next, ordered};
 
 /// A core can take just the labels that are enabled and with which its run hands each handler the
 /// events in the order of their introduction.
@@ -23,4 +24,17 @@ pub fn takes_something<P: Program>()
     lawful::<P>();
     ordered::<P>();
     handed_next::<P>();
+}
+
+/// What the tasks that wait have to be asked again for, and what an end is told from.
+pub fn waiting_tasks<P: Program>()
+    // A task's request that isn't ready is let pass by no step of another but one that concerned
+    // its variable.
+    ensures until_touched { (p : P) → WaitsUntilTouched P (⟦<P as Meaning>⟧.machine p) }
+    // Where as many tasks wait as are running, the cursors tell an end.
+    ensures ends { (p : P) → EndsByCounts P (⟦<P as Meaning>⟧.machine p) }
+{
+    lawful::<P>();
+    waiting::<P>();
+    ends_by_cursors::<P>();
 }

@@ -5,6 +5,9 @@ ghost use Rattle.lvish_core.specs.Changes.{touching};
 use crate::place::Place;
 
 /// What the last step concerned, as far as something else may wait for it.
+///
+/// A task that waits has to be asked again after no step but one that concerned its variable
+/// ([`waiting_tasks`](crate::laws::waiting_tasks)).
 #[derive(Clone, Copy, Debug, PartialEq, Eq)]
 pub enum Touched {
     /// A put into this variable.

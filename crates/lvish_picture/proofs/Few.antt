@@ -5,6 +5,7 @@ use Rattle.lvish_calculus.specs.Machine.{Machine, IsLawful}
 use Rattle.lvish_calculus.specs.Calculus.{Name, main, Task, Absent, Live, State, Change, IsLive, IsEnabled, changed, same_name, start}
 use Rattle.lvish_calculus.specs.Handing.{IsAmong, NoRepeats}
 use Rattle.lvish_calculus.proofs.Names.{same_name-other}
+use Rattle.lvish_calculus.proofs.Among.{without, among_without, once_without, gone, one_less}
 use Rattle.lvish_calculus.proofs.Steps.{Makes}
 use Rattle.lvish_calculus.proofs.Sound.{IsSound, first}
 use Rattle.lvish_calculus.proofs.Keeps.{sound_after, sound_start, present_before}
@@ -12,7 +13,6 @@ use Rattle.lvish_calculus.proofs.Ends.{Way, here, goes}
 use Rattle.lvish_calculus.proofs.Runs.{walked}
 use Rattle.lvish_picture.specs.Picture.{picture}
 use Rattle.lvish_picture.specs.Counts.{pool_of, FewRun, SomeRun}
-use Rattle.lvish_picture.proofs.Running.{without, among_without, once_without, gone, one_less}
 
 absent_not_live : {L : Type 0} (k : Task L) → IsLive k → k ≡ Absent → ⊥
 absent_not_live k z e = elim (subst (λ q. IsLive q) e z) [ ]

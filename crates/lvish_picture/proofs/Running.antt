@@ -1,119 +1,15 @@
 -- How many tasks run in a pool, as tasks start and end.
-use Rattle.std.proofs.Common.{◌≡◌, ◌⊎◌, ◌↔◌, inl, inr, ℕ, suc, ◌+◌, ◌-◌, Bool, true, false, List, [], ◌∷◌, length, Option, Some, None, nat_eq, if◌then◌else◌, refl, sym, ap, ◌∙◌, subst, arith}
+use Rattle.std.proofs.Common.{◌≡◌, ◌⊎◌, ◌↔◌, inl, inr, ℕ, ◌+◌, ◌-◌, Bool, true, Option, Some, None, nat_eq, if◌then◌else◌, refl, sym, ap, ◌∙◌, subst, arith}
 use Rattle.std.proofs.lemmas.Bool.{cases_Bool, both_ways}
-use Rattle.lvish_calculus.specs.Calculus.{Name, Task, Absent, Live, Ended, State, IsLive, is_live, same_name, with_task}
-use Rattle.lvish_calculus.specs.Handing.{IsAmong, NoRepeats}
-use Rattle.lvish_calculus.proofs.Names.{cases_name, nat_eq-true, nat_eq-refl, same_name-true, same_name-refl, with_task-same, with_task-other}
+use Rattle.lvish_calculus.specs.Calculus.{Name, Task, Absent, Live, Ended, State, IsLive, is_live, with_task}
+use Rattle.lvish_calculus.proofs.Names.{cases_name, nat_eq-true, nat_eq-refl, with_task-same, with_task-other}
+use Rattle.lvish_calculus.proofs.Among.{Count, count_same, count_more, count_fewer}
 use Rattle.lvish_picture.specs.Counts.{pool_of, HasRunning, is_pool, one_in, starts, ends}
 
 abbrev as_one : Bool → ℕ
 as_one b = if b then 1 else 0
 
--- ---- names in a list
-
 module _ {E : Type 0} (eq : E → E → Bool) (is : (a b : E) → (eq a b ≡ true) ↔ (a ≡ b)) where
-  -- the list without its first t
-  abbrev pub without : Name E → List (Name E) → List (Name E)
-  without t [] = []
-  without t (u ∷ us) = if same_name eq u t then us else u ∷ without t us
-
-  pub among_without : (t u : Name E) (us : List (Name E)) → IsAmong u (without t us) → IsAmong u us
-  among_without t u [] h = h
-  among_without t u (x ∷ us) h = by (λ z. among_without t u us z) (same_name eq x t) h
-    where
-      by : (IsAmong u (without t us) → IsAmong u us) → (b : Bool) → IsAmong u (if b then us else x ∷ without t us) → IsAmong u (x ∷ us)
-      by ih true h = inr h
-      by ih false (inl e) = inl e
-      by ih false (inr h) = inr (ih h)
-
-  stays_among : (t u : Name E) (us : List (Name E)) → (u ≡ t → ⊥) → IsAmong u us → IsAmong u (without t us)
-  stays_among t u [] ne h = h
-  stays_among t u (x ∷ us) ne h = by (λ z. stays_among t u us ne z) (same_name eq x t) refl h
-    where
-      by : (IsAmong u us → IsAmong u (without t us)) → (b : Bool) → same_name eq x t ≡ b → IsAmong u (x ∷ us) → IsAmong u (if b then us else x ∷ without t us)
-      by ih true e (inl q) = absurd (ne (q ∙ same_name-true eq is x t e))
-      by ih true e (inr h) = h
-      by ih false e (inl q) = inl q
-      by ih false e (inr h) = inr (ih h)
-
-  pub once_without : (t : Name E) (us : List (Name E)) → NoRepeats us → NoRepeats (without t us)
-  once_without t [] h = h
-  once_without t (x ∷ us) h = by (once_without t us h.1) (same_name eq x t)
-    where
-      by : NoRepeats (without t us) → (b : Bool) → NoRepeats (if b then us else x ∷ without t us)
-      by ih true = h.1
-      by ih false = (λ z. h.0 (among_without t x us z), ih)
-
-  pub gone : (t : Name E) (us : List (Name E)) → NoRepeats us → IsAmong t (without t us) → ⊥
-  gone t [] once h = h
-  gone t (x ∷ us) once h = by (λ z. gone t us once.1 z) (same_name eq x t) refl h
-    where
-      by : (IsAmong t (without t us) → ⊥) → (b : Bool) → same_name eq x t ≡ b → IsAmong t (if b then us else x ∷ without t us) → ⊥
-      by ih true e h = once.0 (subst (λ z. IsAmong z us) (sym (same_name-true eq is x t e)) h)
-      by ih false e (inl q) = both_ways _ e (subst (λ z. same_name eq z t ≡ true) q (same_name-refl eq is t))
-      by ih false e (inr h) = ih h
-
-  pub one_less : (t : Name E) (us : List (Name E)) → IsAmong t us → length us ≡ suc (length (without t us))
-  one_less t [] h = absurd h
-  one_less t (x ∷ us) h = by (λ z. one_less t us z) (same_name eq x t) refl h
-    where
-      by : (IsAmong t us → length us ≡ suc (length (without t us))) → (b : Bool) → same_name eq x t ≡ b → IsAmong t (x ∷ us) → suc (length us) ≡ suc (length (if b then us else x ∷ without t us))
-      by ih true e h = refl
-      by ih false e (inl q) = absurd (both_ways _ e (subst (λ z. same_name eq z t ≡ true) q (same_name-refl eq is t)))
-      by ih false e (inr h) = ap suc (ih h)
-
-  -- ---- how many names a property holds of
-
-  record Count (P : Name E → Type 0) (n : ℕ) : Type 0 where
-    names : List (Name E)
-    once : NoRepeats names
-    just : (t : Name E) → IsAmong t names ↔ P t
-    count : length names ≡ n
-
-  module _ (P Q : Name E → Type 0) (n : ℕ) where
-    count_same : ((u : Name E) → P u ↔ Q u) → Count P n → Count Q n
-    count_same same h = record {
-      names = h.names;
-      once = h.once;
-      just = λ u. (λ x. (same u).0 ((h.just u).0 x), λ x. (h.just u).1 ((same u).1 x));
-      count = h.count;
-    }
-
-    count_more : (t : Name E) → (P t → ⊥) → Q t → ((u : Name E) → (u ≡ t → ⊥) → P u ↔ Q u) → Count P n → Count Q (n + 1)
-    count_more t fresh made same h = record {
-      names = t ∷ h.names;
-      once = (λ x. fresh ((h.just t).0 x), h.once);
-      just = λ u. (into u, out u);
-      count = let e : length h.names ≡ n = h.count in omega arith;
-    }
-      where
-        into : (u : Name E) → IsAmong u (t ∷ h.names) → Q u
-        into u (inl e) = subst Q (sym e) made
-        into u (inr x) = (same u (λ e. fresh (subst P e ((h.just u).0 x)))).0 ((h.just u).0 x)
-
-        out : (u : Name E) → Q u → IsAmong u (t ∷ h.names)
-        out u x = elim (cases_name eq is u t) [ inl e ↦ inl e | inr ne ↦ inr ((h.just u).1 ((same u ne).1 x)) ]
-
-    count_fewer : (t : Name E) → P t → (Q t → ⊥) → ((u : Name E) → (u ≡ t → ⊥) → P u ↔ Q u) → Count P n → Count Q (n - 1)
-    count_fewer t was ended same h = record {
-      names = without t h.names;
-      once = once_without t h.names h.once;
-      just = λ u. (into u, out u);
-      count = let e : length h.names ≡ n = h.count in let f : length h.names ≡ suc (length (without t h.names)) = one_less t h.names ((h.just t).1 was) in omega arith;
-    }
-      where
-        into : (u : Name E) → IsAmong u (without t h.names) → Q u
-        into u x = elim (cases_name eq is u t) [
-          | inl e ↦ absurd (gone t h.names h.once (subst (λ z. IsAmong z (without t h.names)) e x))
-          | inr ne ↦ (same u ne).0 ((h.just u).0 (among_without t u h.names x))
-        ]
-
-        out : (u : Name E) → Q u → IsAmong u (without t h.names)
-        out u x = elim (cases_name eq is u t) [
-          | inl e ↦ absurd (ended (subst Q e x))
-          | inr ne ↦ stays_among t u h.names ne ((h.just u).1 ((same u ne).1 x))
-        ]
-
   -- ---- tasks that start and end
 
   module _ {S L : Type 0} (c : State S E L) (p : ℕ) where
@@ -149,7 +45,7 @@ module _ {E : Type 0} (eq : E → E → Bool) (is : (a b : E) → (eq a b ≡ tr
       started : (IsLive (old t) → ⊥) → IsLive k → Count (Runs old) n → Count (Runs (with_task eq (Some (t, k)) old)) (n + one_in c t p)
       started fresh live h = elim (pool_cases t) [
         | inl z ↦ subst (λ m. Count (Runs (with_task eq (Some (t, k)) old)) (n + m)) (sym z.1)
-            (count_more (Runs old) (Runs (with_task eq (Some (t, k)) old)) n t (λ y. fresh y.0) (subst (λ (q : Task L). IsLive q) (sym here) live, z.0) others h)
+            (count_more eq is (Runs old) (Runs (with_task eq (Some (t, k)) old)) n t (λ y. fresh y.0) (subst (λ (q : Task L). IsLive q) (sym here) live, z.0) others h)
         | inr z ↦ subst (λ m. Count (Runs (with_task eq (Some (t, k)) old)) m) (let e : one_in c t p ≡ 0 = z.1 in omega arith)
             (count_same (Runs old) (Runs (with_task eq (Some (t, k)) old)) n (λ u. elim (cases_name eq is u t) [
               | inl e ↦ (λ y. absurd (z.0 (subst (λ q. pool_of c q ≡ Some p) e y.1)), λ y. absurd (z.0 (subst (λ q. pool_of c q ≡ Some p) e y.1)))
@@ -169,7 +65,7 @@ module _ {E : Type 0} (eq : E → E → Bool) (is : (a b : E) → (eq a b ≡ tr
       stopped : IsLive (old t) → (IsLive k → ⊥) → Count (Runs old) n → Count (Runs (with_task eq (Some (t, k)) old)) (n - one_in c t p)
       stopped was dead h = elim (pool_cases t) [
         | inl z ↦ subst (λ m. Count (Runs (with_task eq (Some (t, k)) old)) (n - m)) (sym z.1)
-            (count_fewer (Runs old) (Runs (with_task eq (Some (t, k)) old)) n t (was, z.0) (λ y. dead (subst (λ (q : Task L). IsLive q) here y.0)) others h)
+            (count_fewer eq is (Runs old) (Runs (with_task eq (Some (t, k)) old)) n t (was, z.0) (λ y. dead (subst (λ (q : Task L). IsLive q) here y.0)) others h)
         | inr z ↦ subst (λ m. Count (Runs (with_task eq (Some (t, k)) old)) m) (let e : one_in c t p ≡ 0 = z.1 in omega arith)
             (count_same (Runs old) (Runs (with_task eq (Some (t, k)) old)) n (λ u. elim (cases_name eq is u t) [
               | inl e ↦ (λ y. absurd (z.0 (subst (λ q. pool_of c q ≡ Some p) e y.1)), λ y. absurd (z.0 (subst (λ q. pool_of c q ≡ Some p) e y.1)))
