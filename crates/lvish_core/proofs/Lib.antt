@@ -20,6 +20,7 @@ pub mod Ready
 pub mod Shown
 pub mod Index
 pub mod Seats
+pub mod Coming
 pub mod Seated
 pub mod Drained
 pub mod Listing

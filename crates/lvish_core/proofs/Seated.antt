@@ -1,51 +1,27 @@
 -- Where a handler is, and what comes next for it.
-use Rattle.std.proofs.Common.{◌≡◌, ◌↔◌, inl, inr, ◌<◌, ℕ, suc, Bool, true, false, List, [], ◌∷◌, Option, Some, None, refl, sym, ap, subst, ◌∙◌, is_some, option_map, option_and_then, if◌then◌else◌, arith}
+use Rattle.std.proofs.Common.{◌≡◌, ◌↔◌, ◌<◌, ℕ, Bool, false, List, Option, Some, None, refl, sym, ap, subst, ◌∙◌, is_some, option_map}
 use Rattle.std.specs.Option.{MatchOption}
 use Rattle.std.specs.Bool.{IsTrue}
 use Rattle.std.specs.List.{Contains, slice_get}
-use Rattle.std.proofs.lemmas.Bool.{cases_Bool}
 use Rattle.lvish_calculus.specs.Machine.{Machine, IsLawful}
 use Rattle.lvish_calculus.specs.declared.label.Label.TheVariants.{Hand}
-use Rattle.lvish_calculus.specs.Calculus.{Handler, Post, IsEnabled, same_handler}
-use Rattle.lvish_calculus.proofs.Names.{same_handler-true}
-use Rattle.lvish_variable.specs.Variable.{View as Variable, logged}
+use Rattle.lvish_calculus.specs.Calculus.{Handler, Post, IsEnabled}
+use Rattle.lvish_variable.specs.Variable.{View as Variable}
 use Rattle.lvish_handlers.specs.declared.held.Held.{Held}
-use Rattle.lvish_handlers.specs.Handlers.{View as Handlers, held_as, next_of}
+use Rattle.lvish_handlers.specs.Handlers.{View as Handlers, next_of}
 use Rattle.lvish_picture.specs.Laws.{IsSeated, PostsAreHeld, HandsTheNext}
 use Rattle.lvish_core.specs.declared.place.Place.{Place}
 use Rattle.lvish_picture.proofs.Cursors.{seat_with}
 use Rattle.lvish_core.specs.Reads.{AreHandlers}
 use Rattle.lvish_core.proofs.Shown.{can_step}
+use Rattle.lvish_core.proofs.Coming.{same, coming, next_one as one_next}
 use Rattle.lvish_core.specs.Core.{View, IsNext, CanTake, state}
 use Rattle.lvish_core.specs.Places.{place_at, post_of}
 use Rattle.lvish_core.specs.Kept.{IsKept}
 
-same : {X : Type 0} {a b : X} → Some a ≡ Some b → a ≡ b
-same e = cc e
-
--- where something is found there was something to look through
-and_then_some : {X Y : Type 0} (f : X → Option Y) (o : Option X) (y : Y) → option_and_then f o ≡ Some y → (x : X) × (o ≡ Some x) × (f x ≡ Some y)
-and_then_some f None y e = absurd (cc e)
-and_then_some f (Some x) y e = (x, refl, e)
-
 map_some : {X Y : Type 0} (f : X → Y) (o : Option X) (y : Y) → option_map f o ≡ Some y → (x : X) × (o ≡ Some x) × (f x ≡ y)
 map_some f None y e = absurd (cc e)
 map_some f (Some x) y e = (x, refl, cc e)
-
-later : {X : Type 0} (x y : X) (ys : List X) → Contains ys x → Contains (y ∷ ys) x
-later x y ys z = (suc z.0, omega (arith, z.1), z.2)
-
--- the handler that is found under a name has it
-pub found : {E : Type 0} (eq : E → E → Bool) → ((a b : E) → (eq a b ≡ true) ↔ (a ≡ b)) → (held : List (Held E)) (name : Handler E) (h : Held E) → held_as eq held name ≡ Some h → Contains held h × (h.name ≡ name)
-found eq is [] name h e = absurd (cc e)
-found {E} eq is (y ∷ ys) name h e = elim (cases_Bool (same_handler eq name y.name)) [
-  | inl b ↦
-      let here : y ≡ h = same (sym (ap (λ q. if q then Some y else held_as eq ys name) b) ∙ e) in
-      ((0, omega arith, here), ap (λ (x : Held E). x.name) (sym here) ∙ sym (same_handler-true eq is name y.name b))
-  | inr b ↦
-      let z = found eq is ys name h (sym (ap (λ q. if q then Some y else held_as eq ys name) b) ∙ e) in
-      (later h y ys z.0, z.1)
-]
 
 module _ {P S E R A L : Type 0} (M : Machine S E R A L) (n running : ℕ) (places : List (Handler E × Place)) (c : View P S E L) (k : IsKept M n running places c) where
   -- a place is on a variable of the program
@@ -78,10 +54,9 @@ module _ {P S E R A L : Type 0} (M : Machine S E R A L) (n running : ℕ) (place
     -- what comes next for a handler comes next at its place
     pub next_place : (name : Handler E) (e : E) (z : IsNext M.event_same c.table name e) → (p : Place) × (place_at M.event_same places name ≡ Some p) × (p.variable ≡ z.variable)
     next_place name e z =
-        let one = and_then_some (λ (h : Held E). slice_get (logged (z.at).log) h.handed) (held_as M.event_same (z.beside).held name) e z.next in
-        let there = found M.event_same ok.event_same_is (z.beside).held name one.0 one.1 in
-        let i : IsIndexed z.variable one.0 = indexed z.variable z.at z.beside one.0 (record { at = z.at_is; beside = z.beside_is; held = there.0 }) in
-        (i.place, ap (λ h. place_at M.event_same places h) (sym there.1) ∙ i.at, i.variable)
+        let h = coming M ok c.table name e z in
+        let i : IsIndexed z.variable h.0 = indexed z.variable z.at z.beside h.0 h.1 in
+        (i.place, ap (λ g. place_at M.event_same places g) (sym h.2) ∙ i.at, i.variable)
 
     -- what comes next at the place of a handler comes next for it, and nothing else
     pub next_there : (name : Handler E) (p : Place) → place_at M.event_same places name ≡ Some p → (x : Variable S E) → slice_get c.table.variables p.variable ≡ Some x → (hs : Handlers E) → slice_get c.table.handlers p.variable ≡ Some hs
@@ -101,22 +76,15 @@ module _ {P S E R A L : Type 0} (M : Machine S E R A L) (n running : ℕ) (place
 
     -- only one event comes next
     pub next_one : (name : Handler E) (e f : E) → IsNext M.event_same c.table name e → IsNext M.event_same c.table name f → e ≡ f
-    next_one name e f y z =
-        let p = next_place name e y in
-        let q = next_place name f z in
-        let v : y.variable ≡ z.variable = sym p.2 ∙ ap (λ (r : Place). r.variable) (same (sym p.1 ∙ q.1)) ∙ q.2 in
-        let xx : y.at ≡ z.at = same (sym y.at_is ∙ ap (λ u. slice_get c.table.variables u) v ∙ z.at_is) in
-        let hh : y.beside ≡ z.beside = same (sym y.beside_is ∙ ap (λ u. slice_get c.table.handlers u) v ∙ z.beside_is) in
-        same (sym y.next ∙ ap (λ (x : Variable S E). next_of M.event_same x.log (y.beside).held name) xx ∙ ap (λ (hs : Handlers E). next_of M.event_same (z.at).log hs.held name) hh ∙ z.next)
+    next_one = one_next M ok c.table posts k.standing.run k.standing.pictured
 
     -- what comes next can be handed
     pub next_enabled : HandsTheNext M → (name : Handler E) (e : E) → IsNext M.event_same c.table name e → IsEnabled M (state M c) (Hand name e)
     next_enabled hands name e z =
-        let one = and_then_some (λ (h : Held E). slice_get (logged (z.at).log) h.handed) (held_as M.event_same (z.beside).held name) e z.next in
-        let there = found M.event_same ok.event_same_is (z.beside).held name one.0 one.1 in
-        let next : next_of M.event_same (z.at).log (z.beside).held (one.0).name ≡ Some e = ap (λ h. next_of M.event_same (z.at).log (z.beside).held h) there.1 ∙ z.next in
-        let both = (hands k.standing.run c.table z.variable z.at z.beside one.0 k.standing.pictured (record { at = z.at_is; beside = z.beside_is; held = there.0 }) e).0 next in
-        subst (λ h. IsEnabled M (state M c) (Hand h e)) there.1 both.0
+        let h = coming M ok c.table name e z in
+        let next : next_of M.event_same (z.at).log (z.beside).held (h.0).name ≡ Some e = ap (λ g. next_of M.event_same (z.at).log (z.beside).held g) h.2 ∙ z.next in
+        let both = (hands k.standing.run c.table z.variable z.at z.beside h.0 k.standing.pictured h.1 e).0 next in
+        subst (λ g. IsEnabled M (state M c) (Hand g e)) h.2 both.0
 
     -- the core hands what comes next, where there is no error
     pub next_can : HandsTheNext M → is_some c.fault ≡ false → (name : Handler E) (e : E) → IsNext M.event_same c.table name e → CanTake M c (Hand name e)

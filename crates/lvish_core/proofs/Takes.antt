@@ -1,45 +1,32 @@
 -- Which labels a core can take.
-use Rattle.std.proofs.Common.{◌≡◌, ◌↔◌, ℕ, ◌<◌, cond, List, [], ◌∷◌, ◌++◌, length, Option, Some, None, slice_get, refl, sym, ap, ◌∙◌, subst, arith, inl, inr}
-use Rattle.std.specs.Prelude.{option_and_then}
-use Rattle.std.proofs.lemmas.Bool.{cases_Bool}
+use Rattle.std.proofs.Common.{◌≡◌, ◌↔◌, ℕ, ◌<◌, List, [], ◌∷◌, ◌++◌, length, Option, Some, None, slice_get, refl, sym, ◌∙◌, subst, arith}
 use Rattle.lvish_calculus.specs.declared.label.Label.{Label}
 use Rattle.lvish_calculus.specs.declared.label.Label.TheVariants.{Task as Act, Hand}
 use Rattle.lvish_calculus.specs.Machine.{Machine, IsLawful}
-use Rattle.lvish_calculus.specs.Calculus.{Handler, Running, CanStep, IsEnabled, IsRun, start, same_handler}
-use Rattle.lvish_calculus.specs.Handing.{IsCoreRun, IsAmong}
-use Rattle.lvish_names.proofs.NameLaws.{same_handler-true}
+use Rattle.lvish_calculus.specs.Calculus.{Handler, Running, CanStep, IsEnabled}
+use Rattle.lvish_calculus.specs.Handing.{IsCoreRun}
 use Rattle.lvish_variable.specs.Variable.{View as Variable, logged}
 use Rattle.lvish_handlers.specs.declared.held.Held.{Held}
-use Rattle.lvish_handlers.specs.Handlers.{View as Handlers, held_as, next_of}
+use Rattle.lvish_handlers.specs.Handlers.{View as Handlers, next_of}
 use Rattle.lvish_picture.specs.Picture.{IsPictured}
-use Rattle.lvish_picture.specs.Laws.{IsOrdered, IsSeated, HandsBelowTheEnd, HandsTheNext, HandsTheHeld}
+use Rattle.lvish_picture.specs.Laws.{IsOrdered, IsSeated, PostsAreHeld, HandsBelowTheEnd, HandsTheNext, HandsTheHeld}
 use Rattle.lvish_picture.proofs.Orders.{core_act}
-use Rattle.lvish_picture.proofs.Slots.{contained, among, get_there}
+use Rattle.lvish_picture.proofs.Slots.{among, get_there}
 use Rattle.lvish_picture.proofs.Tables.{logged_len}
 use Rattle.lvish_picture.proofs.Hands.{next_is}
 use Rattle.lvish_core.specs.declared.fault.Fault.{Fault}
 use Rattle.lvish_core.specs.Core.{View, picture, state, at_fault, IsRunTo, IsNext, CanTake}
-use Rattle.lvish_core.specs.CoreLaws.{TakesCoreRuns, TakesSomething}
+use Rattle.lvish_core.specs.CoreLaws.{TakesCoreRuns, TakesSomething, HandsOneEvent}
+use Rattle.lvish_core.proofs.Coming.{coming, next_one}
+use Rattle.lvish_core.proofs.Goes.{at_state, pictured_by}
 
 module _ {S E R A L : Type 0} (M : Machine S E R A L) (ok : IsLawful M) where
-  -- the handler whose next entry is found is one of them, of that name
-  next_held : (log : List E) (held : List (Held E)) (name : Handler E) (o : Option (Held E)) (e : E) → held_as M.event_same held name ≡ o → option_and_then (λ h. slice_get log h.handed) o ≡ Some e → (h : Held E) × IsAmong h held × (h.name ≡ name)
-  next_held log [] name None e is s = absurd cc
-  next_held log [] name (Some h) e is s = absurd cc
-  next_held log (x ∷ xs) name o e is s = elim (cases_Bool (same_handler M.event_same name x.name)) [
-    | inl y ↦ (x, inl refl, sym (same_handler-true {eq = M.event_same} (λ a b. (ok.event_same_is a b).0) name x.name y))
-    | inr n ↦
-        let f : held_as M.event_same xs name ≡ o = sym (ap (λ b. cond b (Some x) (held_as M.event_same xs name)) n) ∙ is in
-        let g = next_held log xs name o e f s in
-        (g.0, inr g.1, g.2)
-  ]
-
   module _ {P : Type 0} (c : View P S E L) (xs : List (Label E)) (k : IsRunTo M c xs) (none : c.fault ≡ None) (ord : IsOrdered M) (below : HandsBelowTheEnd M) (next : HandsTheNext M) (held : HandsTheHeld M) where
     running : picture M c ≡ Running (state M c)
-    running = ap (at_fault (state M c)) none
+    running = at_state M c none
 
-    pub pictured : IsPictured M c.table xs
-    pictured = record { reached = subst (λ d. IsRun M (Running (start M)) xs d) running k.reached; core = k.core; logs = k.logs; table = k.table }
+    pictured : IsPictured M c.table xs
+    pictured = pictured_by M c xs none k
 
     can : (l : Label E) → CanStep M (picture M c) l → IsEnabled M (state M c) l
     can l h = subst (λ d. CanStep M d l) running h
@@ -59,10 +46,9 @@ module _ {S E R A L : Type 0} (M : Machine S E R A L) (ok : IsLawful M) where
     in_core_run (Act t) h = (h.0, core_act M ok xs t k.core)
     in_core_run (Hand name e) h =
         let n : IsNext M.event_same c.table name e = h.1 in
-        let f = next_held (logged n.at.log) n.beside.held name (held_as M.event_same n.beside.held name) e refl n.next in
-        let s : IsSeated c.table n.variable n.at n.beside f.0 = record { at = n.at_is; beside = n.beside_is; held = contained n.beside.held f.0 f.1 } in
+        let f = coming M ok c.table name e n in
         let got : next_of M.event_same n.at.log n.beside.held f.0.name ≡ Some e = subst (λ q. next_of M.event_same n.at.log n.beside.held q ≡ Some e) (sym f.2) n.next in
-        let z = (next xs c.table n.variable n.at n.beside f.0 pictured s e).0 got in
+        let z = (next xs c.table n.variable n.at n.beside f.0 pictured f.1 e).0 got in
         (h.0, subst (λ q. IsCoreRun M (xs ++ Hand q e ∷ [])) f.2 z.1)
 
     taken : (l : Label E) → CanStep M (picture M c) l × IsCoreRun M (xs ++ l ∷ []) → CanTake M c l
@@ -97,6 +83,14 @@ module _ {S E R A L : Type 0} (M : Machine S E R A L) (ok : IsLawful M) where
         let en = can (Hand name e) h in
         let g = held xs c.table name e pictured en in
         next_of_seated g.0 g.1 g.2 g.3 e g.4 (subst (λ n. IsEnabled M (state M c) (Hand n e)) (sym g.5) en)
+
+module _ {P S E R A L : Type 0} (M : Machine S E R A L) (ok : IsLawful M) (posts : PostsAreHeld M) where
+  pub hands_one_event : HandsOneEvent P M
+  hands_one_event c xs k name e f take comes = by c.fault refl
+    where
+      by : (g : Option (Fault E)) → c.fault ≡ g → e ≡ f
+      by None is = next_one M ok c.table posts xs (pictured_by M c xs is k) name e f take.1 comes
+      by (Some g) is = absurd (subst (λ d. CanStep M (at_fault (state M c) d) (Hand name e)) is take.0)
 
 module _ {P S E R A L : Type 0} (M : Machine S E R A L) (ok : IsLawful M) (ord : IsOrdered M) (below : HandsBelowTheEnd M) (next : HandsTheNext M) (held : HandsTheHeld M) where
   cannot : (c : View P S E L) (f : Fault E) → c.fault ≡ Some f → (l : Label E) → CanStep M (picture M c) l → ⊥

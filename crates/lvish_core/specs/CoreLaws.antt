@@ -1,10 +1,11 @@
 -- What a core's labels are to its runs.
-use Rattle.std.specs.Prelude.{◌↔◌, List, [], ◌∷◌, ◌++◌}
+use Rattle.std.specs.Prelude.{◌≡◌, ◌↔◌, List, [], ◌∷◌, ◌++◌}
 use Rattle.lvish_calculus.specs.declared.label.Label.{Label}
+use Rattle.lvish_calculus.specs.declared.label.Label.TheVariants.{Hand}
 use Rattle.lvish_calculus.specs.Machine.{Machine}
-use Rattle.lvish_calculus.specs.Calculus.{CanStep}
+use Rattle.lvish_calculus.specs.Calculus.{Handler, CanStep}
 use Rattle.lvish_calculus.specs.Handing.{IsCoreRun}
-use Rattle.lvish_core.specs.Core.{View, picture, IsRunTo, CanTake}
+use Rattle.lvish_core.specs.Core.{View, picture, IsRunTo, IsNext, CanTake}
 
 -- a core that a run leads to can take just the labels that are enabled, and with which the run is a core run
 abbrev pub TakesCoreRuns : {S E R A L : Type 0} → Type 0 → Machine S E R A L → Type 0
@@ -15,3 +16,8 @@ TakesCoreRuns {S} {E} {R} {A} {L} P M = (c : View P S E L) (xs : List (Label E))
 abbrev pub TakesSomething : {S E R A L : Type 0} → Type 0 → Machine S E R A L → Type 0
 TakesSomething {S} {E} {R} {A} {L} P M = (c : View P S E L) (xs : List (Label E)) → IsRunTo M c xs
     → (l : Label E) → CanStep M (picture M c) l → (k : Label E) × CanTake M c k
+
+-- a handler is handed nothing but the one entry that comes next for it
+abbrev pub HandsOneEvent : {S E R A L : Type 0} → Type 0 → Machine S E R A L → Type 0
+HandsOneEvent {S} {E} {R} {A} {L} P M = (c : View P S E L) (xs : List (Label E)) → IsRunTo M c xs
+    → (h : Handler E) (e f : E) → CanTake M c (Hand h e) → IsNext M.event_same c.table h f → e ≡ f

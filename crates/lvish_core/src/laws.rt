@@ -1,11 +1,11 @@
 //! What the labels of a core are to its runs, as contracts of functions with no code.
 
-ghost use Rattle.lvish_core.specs.CoreLaws.{TakesCoreRuns, TakesSomething};
+ghost use Rattle.lvish_core.specs.CoreLaws.{TakesCoreRuns, TakesSomething, HandsOneEvent};
 ghost use Rattle.lvish_core.specs.Waiting.{WaitsUntilTouched, EndsByCounts};
 
 use lvish_calculus::laws::{lawful, waiting};
 use lvish_calculus::{Meaning, Program};
-use lvish_picture::laws::{ends_by_cursors, handed_next, ordered};
+use lvish_picture::laws::{ends_by_cursors, handed_next, handlers_are_held, ordered};
 
 /// A core can take just the labels that are enabled and with which its run hands each handler the
 /// events in the order of their introduction.
@@ -24,6 +24,14 @@ pub fn takes_something<P: Program>()
     lawful::<P>();
     ordered::<P>();
     handed_next::<P>();
+}
+
+/// A handler is handed no event but the one that comes next for it, which `Core::next` answers.
+pub fn hands_one_event<P: Program>()
+    ensures { (p : P) → HandsOneEvent P (⟦<P as Meaning>⟧.machine p) }
+{
+    lawful::<P>();
+    handlers_are_held::<P>();
 }
 
 /// What the tasks that wait have to be asked again for, and what an end is told from.
