@@ -29,6 +29,3 @@ pub use operand::{Operand, Operands};
 pub use routine::Routine;
 pub use target::{Side, Target};
 pub use wanted::Wanted;
-
-#[cfg(test)]
-mod tests;

@@ -1,17 +1,14 @@
 use super::*;
 use lvish_calculus::{ErrorKind, Label};
-use lvish_compound::{Any, Event, Kind};
+use lvish_compound::{Any, Event, Kind, Part};
+use lvish_lattice::Lattice;
 use lvish_names::{HandlerName, TaskName};
 use lvish_script::read_script;
 use lvish_syntax::Script;
 use std::alloc::Global;
 use std::test::Fail;
 
-mod asked;
-mod requests;
 mod schedules;
-
-use asked::state;
 
 const WRITER_AND_READER: &str =
     "cell a\nproc w\nput a 7\nend\nproc main\nfork w\nget x a any\nend\n";
@@ -36,6 +33,34 @@ fn tasks(alloc: Global, report: &Report<Any, Event>) -> Result<String, Fail> {
         }
     }
     Ok(text)
+}
+
+fn part(alloc: Global, part: &Part) -> Result<String, Fail> {
+    Ok(match part {
+        Part::Empty => String::from_str(alloc, "empty")?,
+        Part::Cell(n) => format!(in alloc; "{n}")?,
+        Part::Set(set) => format!(in alloc; "{:?}", set.state().items())?,
+        Part::Max(max) => format!(in alloc; "max {}", max.state().get())?,
+    })
+}
+
+/// A state: what a variable holds.
+fn state(alloc: Global, state: &Any) -> Result<String, Fail> {
+    Ok(match state {
+        Any::Part(one) => part(alloc, one)?,
+        Any::Sides(sides) => {
+            let one = part(alloc, &sides.pair().one)?;
+            let two = part(alloc, &sides.pair().two)?;
+            format!(in alloc; "({one}, {two})")?
+        }
+        Any::Map(_) => {
+            let events = state.events(alloc)?;
+            match events.first() {
+                Some(event) => format!(in alloc; "{}:{}", event.key, event.number)?,
+                None => String::from_str(alloc, "no entry")?,
+            }
+        }
+    })
 }
 
 /// The states, each with a mark of its own where it is frozen.

@@ -43,6 +43,3 @@ pub use term::Term;
 pub use terms::Terms;
 pub use threshold::Threshold;
 pub use value::Value;
-
-#[cfg(test)]
-mod tests;

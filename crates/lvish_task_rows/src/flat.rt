@@ -1,0 +1,50 @@
+//! Flat code, as text.
+
+use crate::text::push_line;
+use lvish_code::{Code, Routine};
+use lvish_syntax::Script;
+use std::alloc::{AllocError, Global};
+
+/// The answer to a question about the flat code of a script.
+pub fn flat_answer(alloc: Global, script: &Script, words: &[&str]) -> Result<String, AllocError> {
+    let code = Code::new(alloc, script)?;
+    match words {
+        ["kinds"] => format!(in alloc; "{:?}", code.kinds()),
+        ["pools"] => format!(in alloc; "{:?}", code.pools()),
+        ["main"] => format!(in alloc; "{}", code.main()),
+        ["routines"] => format!(in alloc; "{:?}", code.routines()),
+        ["of", procedure] => instructions_of(alloc, script, &code, procedure),
+        _ => String::from_str(alloc, "no such question"),
+    }
+}
+
+/// The instructions of the procedure with a name, a line each.
+fn instructions_of(
+    alloc: Global,
+    script: &Script,
+    code: &Code,
+    procedure: &str,
+) -> Result<String, AllocError> {
+    match routine_of(script, code, procedure) {
+        Some(routine) => instruction_lines(alloc, routine),
+        None => String::from_str(alloc, "no such procedure"),
+    }
+}
+
+fn routine_of<'c>(script: &Script, code: &'c Code, procedure: &str) -> Option<&'c Routine> {
+    for (one, routine) in script.procedures().iter().zip(code.routines()) {
+        if one.name.as_str() == procedure {
+            return Some(routine);
+        }
+    }
+    None
+}
+
+fn instruction_lines(alloc: Global, routine: &Routine) -> Result<String, AllocError> {
+    let mut text = String::new(alloc);
+    for instruction in routine.instructions.as_slice() {
+        let line = format!(in alloc; "{instruction:?}")?;
+        push_line(&mut text, line.as_str())?;
+    }
+    Ok(text)
+}

@@ -1,0 +1,68 @@
+//! Reads files of worked examples, what tasks ask for, flat code and copies of statements, and
+//! compares each with what is expected.
+#![tactic(auto)]
+
+mod answer;
+mod asked;
+mod copies;
+mod flat;
+mod reader;
+mod row;
+mod state;
+mod task;
+mod text;
+
+use reader::rows_of;
+use row::Row;
+use std::process::ExitCode;
+use std::{env, fs, io};
+
+fn main(rt: HostRuntime) -> ExitCode {
+    match run_all(&rt) {
+        Ok(true) => ExitCode::SUCCESS,
+        Ok(false) => ExitCode::FAILURE,
+        Err(error) => {
+            // A message that can't be written changes nothing.
+            let _ = rt.eprintln(format_args!("{error:?}"));
+            ExitCode::from(2)
+        }
+    }
+}
+
+/// Whether the rows of each file that the words name are as expected.
+fn run_all(rt: &HostRuntime) -> io::Result<bool> {
+    let names: Vec<String> = env::args(rt)?.skip(1).collect(rt.alloc())?;
+    let mut all = true;
+    for name in &names {
+        let is_good = is_file_as_expected(rt, name.as_str())?;
+        all = all && is_good;
+    }
+    Ok(all)
+}
+
+/// Whether each row of the file is as expected, with a line for each that isn't, and one for the file.
+fn is_file_as_expected(rt: &HostRuntime, name: &str) -> io::Result<bool> {
+    let text = fs::read_to_string(rt, name)?;
+    let rows = rows_of(rt.alloc(), text.as_str())?;
+    let mut all = true;
+    for row in &rows {
+        let is_good = is_row_as_expected(rt, name, row)?;
+        all = all && is_good;
+    }
+    if all {
+        rt.println(format_args!("{name}: {} as expected", rows.len()))?;
+    } else {
+        rt.println(format_args!("{name}: not as expected"))?;
+    }
+    Ok(all)
+}
+
+/// Whether the row is as expected, with a line for it if it isn't.
+fn is_row_as_expected(rt: &HostRuntime, file: &str, row: &Row) -> io::Result<bool> {
+    let answer = row.answer(rt.alloc())?;
+    if answer.as_str() == row.expected.as_str() {
+        return Ok(true);
+    }
+    rt.println(format_args!("{file}: {} -- {}: {answer}", row.name, row.question))?;
+    Ok(false)
+}

@@ -1,0 +1,67 @@
+//! States of variables, from words and as text.
+
+use lvish_compound::{Any, Part};
+use lvish_lattice::Lattice;
+use std::alloc::{AllocError, Global};
+
+/// The state that words spell: `empty`, `cell 7`, or `set 3 -2` with one element at least.
+pub fn state_of(alloc: Global, words: &[&str]) -> Result<Option<Any>, AllocError> {
+    match words {
+        ["empty"] => Ok(Some(Any::Part(Part::Empty))),
+        ["cell", number] => Ok(number.parse::<i64>().ok().map(Any::cell)),
+        ["set", first, rest @ ..] => set_of(alloc, first, rest),
+        _ => Ok(None),
+    }
+}
+
+fn set_of(alloc: Global, first: &str, rest: &[&str]) -> Result<Option<Any>, AllocError> {
+    let Some(mut state) = element(alloc, first)? else {
+        return Ok(None);
+    };
+    for word in rest {
+        match element(alloc, word)? {
+            None => return Ok(None),
+            Some(one) => {
+                state.merge(alloc, &one)?;
+            }
+        }
+    }
+    Ok(Some(state))
+}
+
+fn element(alloc: Global, word: &str) -> Result<Option<Any>, AllocError> {
+    match word.parse::<i64>() {
+        Ok(number) => Ok(Some(Any::set(alloc, number)?)),
+        Err(_) => Ok(None),
+    }
+}
+
+/// A state, as text: of a map its first entry alone.
+pub fn state_text(alloc: Global, state: &Any) -> Result<String, AllocError> {
+    match state {
+        Any::Part(part) => part_text(alloc, part),
+        Any::Sides(sides) => {
+            let one = part_text(alloc, &sides.pair().one)?;
+            let two = part_text(alloc, &sides.pair().two)?;
+            format!(in alloc; "({one}, {two})")
+        }
+        Any::Map(_) => entry_text(alloc, state),
+    }
+}
+
+fn part_text(alloc: Global, part: &Part) -> Result<String, AllocError> {
+    match part {
+        Part::Empty => String::from_str(alloc, "empty"),
+        Part::Cell(number) => format!(in alloc; "{number}"),
+        Part::Set(set) => format!(in alloc; "{:?}", set.state().items()),
+        Part::Max(max) => format!(in alloc; "max {}", max.state().get()),
+    }
+}
+
+fn entry_text(alloc: Global, map: &Any) -> Result<String, AllocError> {
+    let events = map.events(alloc)?;
+    match events.first() {
+        Some(event) => format!(in alloc; "{}:{}", event.key, event.number),
+        None => String::from_str(alloc, "no entry"),
+    }
+}
