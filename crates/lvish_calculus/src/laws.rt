@@ -16,8 +16,12 @@ pub fn lawful<P: Program>()
     ensures { (p : P) → IsLawful (⟦<P as Meaning>⟧.machine p) }
 {}
 
-/// Of two different enabled steps without an error, each can be made after the other and both
-/// orders give one configuration, or the configuration after one of them is doomed.
+/// Of two different steps that are enabled in a configuration of a run and give no error, each can
+/// be made after the other and both orders give one configuration, or the configuration after one of
+/// them is doomed.
+///
+/// Of a run, since there a name that a step makes is new. In a configuration that no run reaches, two
+/// steps could make the same name.
 ///
 /// Kuper, Turon, Krishnaswami and Newton (POPL 2014): independence, quasi-determinism.
 pub fn moves_commute<P: Program>()
@@ -26,7 +30,7 @@ pub fn moves_commute<P: Program>()
     lawful::<P>();
 }
 
-/// A doomed configuration is no end, and a step from it gives a doomed one or an error.
+/// A doomed configuration of a run is no end, and a step from it gives a doomed one or an error.
 pub fn doomed_stays<P: Program>()
     ensures { (p : P) → DoomedStays (⟦<P as Meaning>⟧.machine p) }
 {
