@@ -25,6 +25,3 @@ pub use reading::{MOST_READ, ReadFault, read_text};
 pub use status::Status;
 pub use words::order_of;
 pub use writing::{WriteFault, write_text};
-
-#[cfg(test)]
-mod tests;

@@ -38,6 +38,3 @@ pub use states::States;
 pub use text::report_text;
 pub use trace::Trace;
 pub use trace_lines::trace_text;
-
-#[cfg(test)]
-mod tests;

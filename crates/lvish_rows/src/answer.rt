@@ -1,0 +1,23 @@
+//! What is answered to a question.
+
+use lvish_script::ScriptFault;
+use std::alloc::{AllocError, Global};
+
+/// What is printed, and the number of the status that goes with it.
+#[derive(Debug, Drop)]
+pub struct Answer {
+    pub status: u8,
+    pub text: String,
+}
+
+/// The answer of a text, as of an order that is done.
+pub fn done(text: String) -> Answer {
+    Answer { status: 0, text }
+}
+
+/// The answer about a text that is no script.
+pub fn refusal(alloc: Global, refused: &ScriptFault) -> Result<Answer, AllocError> {
+    let (number, name, line) = (refused.fault.number(), refused.fault.name(), refused.line);
+    let text = format!(in alloc; "refused {number} {name} line {line}\n")?;
+    Ok(Answer { status: 4, text })
+}

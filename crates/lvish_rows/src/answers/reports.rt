@@ -1,0 +1,84 @@
+//! Reports of runs by picks, with what the program `lvish` prints of none: the outcome of each, the
+//! states and blocked tasks of a run that was stopped, and the steps of each worker.
+
+use crate::answer::{Answer, done, refusal};
+use crate::answers::orders::no_order;
+use lvish_cli::{Order, order_of};
+use lvish_compound::{Any, Event, Part};
+use lvish_run::{FinalState, Outcome, Report, run_picks};
+use lvish_script::read_script;
+use lvish_syntax::Script;
+use std::alloc::{AllocError, Global};
+
+/// The most steps that a run of a row may have.
+const MOST_STEPS: u64 = 100_000;
+
+/// The report of the script's run by the picks of these words, which begin with `pick`.
+pub fn report_of(alloc: Global, words: &[&str], script: &[u8]) -> Result<Answer, AllocError> {
+    let (picks, budget) = match order_of(alloc, words) {
+        Ok((Order::Pick { picks, budget, .. }, _)) => (picks, budget),
+        Ok(_) => return no_pick(alloc),
+        Err(fault) => return no_order(alloc, &fault),
+    };
+    match read_script(alloc, script) {
+        Ok(script) => {
+            let report = run_by(alloc, &script, picks.as_slice(), budget)?;
+            Ok(done(report_line(alloc, &report)?))
+        }
+        Err(refused) => refusal(alloc, &refused),
+    }
+}
+
+fn no_pick(alloc: Global) -> Result<Answer, AllocError> {
+    let text = String::from_str(alloc, "no pick\n")?;
+    Ok(Answer { status: 2, text })
+}
+
+/// The report of the script's run by these picks.
+pub fn run_by(
+    alloc: Global,
+    script: &Script,
+    picks: &[u64],
+    budget: u64,
+) -> Result<Report<Any, Event>, AllocError> {
+    run_picks(alloc, script, picks, budget.min(MOST_STEPS))
+}
+
+fn report_line(alloc: Global, report: &Report<Any, Event>) -> Result<String, AllocError> {
+    let outcome = outcome_word(&report.outcome);
+    let (steps, blocked) = (report.steps, report.blocked);
+    let by_worker = report.by_worker.as_slice();
+    let states = states_text(alloc, report.states.as_slice())?;
+    format!(in alloc;
+        "{outcome}, steps {steps}, blocked {blocked}, by worker {by_worker:?}{states}\n"
+    )
+}
+
+fn outcome_word(outcome: &Outcome<Event>) -> &'static str {
+    match outcome {
+        Outcome::Ended => "ended",
+        Outcome::Error { .. } => "error",
+        Outcome::Budget => "stopped",
+    }
+}
+
+/// The states, each with a mark of its own where it is frozen.
+fn states_text(alloc: Global, states: &[FinalState<Any>]) -> Result<String, AllocError> {
+    let mut text = String::new(alloc);
+    for state in states {
+        text.push_str(", ")?;
+        text.push_str(content_text(alloc, &state.content)?.as_str())?;
+        text.push_str(if state.frozen { " frozen" } else { "" })?;
+    }
+    Ok(text)
+}
+
+/// What a variable holds, in short where it is a cell or a set.
+fn content_text(alloc: Global, content: &Any) -> Result<String, AllocError> {
+    match content {
+        Any::Part(Part::Empty) => String::from_str(alloc, "empty"),
+        Any::Part(Part::Cell(number)) => number.to_string(alloc),
+        Any::Part(Part::Set(set)) => format!(in alloc; "{:?}", set.state().items()),
+        _ => format!(in alloc; "{content:?}"),
+    }
+}

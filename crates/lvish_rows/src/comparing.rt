@@ -1,0 +1,71 @@
+//! The questions of a row, compared with what is answered.
+
+use crate::answer::Answer;
+use crate::answers::answer_to;
+use crate::row::{Question, Row};
+use crate::script_text::script_of;
+use anyhow::{Context, Result};
+use std::alloc::{AllocError, Global};
+
+/// How many answers are as expected, and how many aren't.
+#[derive(Clone, Copy, Debug)]
+pub struct Tally {
+    pub same: u64,
+    pub others: u64,
+}
+
+impl Tally {
+    fn count(&mut self, is_same: bool) {
+        if is_same {
+            self.same = self.same.saturating_add(1);
+        } else {
+            self.others = self.others.saturating_add(1);
+        }
+    }
+}
+
+/// Compares the answers to the row's questions, and prints a line for each that isn't as expected.
+pub fn compare(rt: &HostRuntime, file: &str, row: &Row<'_>, tally: &mut Tally) -> Result<()> {
+    for question in row.questions.iter() {
+        let answer = answer(rt.alloc(), row, question).context(format_args!("{}", row.name))?;
+        let is_same = is_expected(question, &answer);
+        tally.count(is_same);
+        if !is_same {
+            print_other(rt, file, row.name, question, &answer)?;
+        }
+    }
+    Ok(())
+}
+
+/// The answer to a question about the row's script.
+fn answer(alloc: Global, row: &Row<'_>, question: &Question<'_>) -> Result<Answer> {
+    let script = script_of(alloc, row.lines.as_slice(), question.filling)?;
+    let words = words_of(alloc, question.words)?;
+    Ok(answer_to(alloc, words.as_slice(), script.as_slice())?)
+}
+
+/// The words between spaces; `""` stands for the empty word.
+fn words_of(alloc: Global, words: &str) -> Result<Vec<&str>, AllocError> {
+    let mut all = Vec::new(alloc);
+    for word in words.split_whitespace() {
+        all.push(if word == "\"\"" { "" } else { word })?;
+    }
+    Ok(all)
+}
+
+fn is_expected(question: &Question<'_>, answer: &Answer) -> bool {
+    answer.status == question.status && answer.text.as_str() == question.text.as_str()
+}
+
+/// Prints what was got in place of what is expected, on one line.
+fn print_other(
+    rt: &HostRuntime,
+    file: &str,
+    name: &str,
+    question: &Question<'_>,
+    answer: &Answer,
+) -> Result<()> {
+    let Answer { status, text } = answer;
+    rt.println(format_args!("{file}: {name}: {}: got {status} {text:?}", question.line))?;
+    Ok(())
+}
