@@ -27,7 +27,7 @@ impl Tally {
 /// Compares the answers to the row's questions, and prints a line for each that isn't as expected.
 pub fn compare(rt: &HostRuntime, file: &str, row: &Row<'_>, tally: &mut Tally) -> Result<()> {
     for question in row.questions.iter() {
-        let answer = answer(rt.alloc(), row, question).context(format_args!("{}", row.name))?;
+        let answer = answered(rt.alloc(), row, question).context(format_args!("{}", row.name))?;
         let is_same = is_expected(question, &answer);
         tally.count(is_same);
         if !is_same {
@@ -38,7 +38,7 @@ pub fn compare(rt: &HostRuntime, file: &str, row: &Row<'_>, tally: &mut Tally) -
 }
 
 /// The answer to a question about the row's script.
-fn answer(alloc: Global, row: &Row<'_>, question: &Question<'_>) -> Result<Answer> {
+fn answered(alloc: Global, row: &Row<'_>, question: &Question<'_>) -> Result<Answer> {
     let script = script_of(alloc, row.lines.as_slice(), question.filling)?;
     let words = words_of(alloc, question.words)?;
     Ok(answer_to(alloc, words.as_slice(), script.as_slice())?)

@@ -13,12 +13,21 @@ pub fn rows_of(alloc: Global, text: &str) -> Result<Vec<Row<'_>>> {
             None => add_to_last(alloc, &mut rows, line).context(format_args!("at {line:?}"))?,
         }
     }
-    for row in rows.iter() {
+    check_rows(&rows)?;
+    Ok(rows)
+}
+
+/// Refuses a file without rows, or with a row in which nothing is asked.
+fn check_rows(rows: &[Row<'_>]) -> Result<()> {
+    if rows.is_empty() {
+        bail!("no rows");
+    }
+    for row in rows {
         if row.questions.is_empty() {
             bail!("nothing is asked in row {:?}", row.name);
         }
     }
-    Ok(rows)
+    Ok(())
 }
 
 fn begin_row<'a>(alloc: Global, rows: &mut Vec<Row<'a>>, name: &'a str) -> Result<(), AllocError> {
@@ -52,7 +61,7 @@ fn add_line<'a>(alloc: Global, row: &mut Row<'a>, line: &'a str) -> Result<()> {
 /// The question of a line, with the status and the first line of its answer.
 fn question(alloc: Global, line: &str) -> Result<Question<'_>> {
     let (asked, answer) = line.split_once("=>").context("no => in a question")?;
-    let (status, first) = status_of(answer.trim())?;
+    let (status, first) = status_of(answer.trim_start())?;
     let mut text = String::new(alloc);
     push_printed(&mut text, first)?;
     let (filling, words) = asked_by(asked);
