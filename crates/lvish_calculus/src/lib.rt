@@ -13,8 +13,6 @@ pub mod laws;
 pub mod meaning;
 pub mod program;
 pub mod request;
-#[cfg(test)]
-mod tests;
 
 pub use label::Label;
 pub use meaning::Meaning;

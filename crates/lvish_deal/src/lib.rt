@@ -51,8 +51,3 @@ pub use closing::close;
 pub use dealing::deal;
 pub use seat::Seat;
 pub use steal::Steal;
-
-#[cfg(test)]
-mod tests;
-#[cfg(test)]
-mod thread_tests;

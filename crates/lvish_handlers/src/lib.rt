@@ -26,6 +26,3 @@ mod held;
 pub use fault::{AddFault, Nothing};
 pub use handlers::Handlers;
 pub use held::Held;
-
-#[cfg(test)]
-mod tests;

@@ -36,8 +36,6 @@ mod lattice;
 mod max_counter;
 mod numbered;
 mod reads;
-#[cfg(test)]
-mod tests;
 mod tuples;
 
 pub use flat::{Flat, FlatRead};

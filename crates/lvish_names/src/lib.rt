@@ -23,6 +23,3 @@ pub use laws::{handler_names_identical, task_names_identical};
 pub use name_fault::NameFault;
 pub use part::Part;
 pub use task_name::TaskName;
-
-#[cfg(test)]
-mod tests;

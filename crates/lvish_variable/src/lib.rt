@@ -24,6 +24,3 @@ mod variable;
 pub use entry::Entry;
 pub use put_fault::PutFault;
 pub use variable::Variable;
-
-#[cfg(test)]
-mod tests;

@@ -1,0 +1,3 @@
+mod examples;
+mod seats;
+mod threads;

@@ -1,0 +1,113 @@
+//! What the rows are about.
+
+use crate::fault::Fault;
+use crate::handlers::Bench;
+use crate::notation::Value;
+use crate::{handlers, lattices, names, order, pools, reads, variables};
+use lvish_compound::{Any, MapOf, Pair, Part};
+use lvish_lattice::{Flat, GrowSet, MaxCounter};
+use lvish_variable::{PutFault, Variable};
+use std::alloc::Global;
+
+type Cell = Flat<i64>;
+
+type Cells = MapOf<i64, Cell>;
+
+/// The variables and the handlers that rows call one after the other.
+#[derive(Drop)]
+pub struct Desk {
+    cell: Variable<Cell>,
+    set: Variable<GrowSet<i64>>,
+    handlers: Bench<GrowSet<i64>>,
+}
+
+impl Desk {
+    pub fn new(alloc: Global) -> Result<Desk, PutFault> {
+        Ok(Desk {
+            cell: Variable::new(alloc),
+            set: Variable::new(alloc),
+            handlers: Bench::new(alloc, &[])?,
+        })
+    }
+
+    /// The answer to a row: its first word says of what it is asked.
+    pub fn answer(&mut self, alloc: Global, words: &[&str]) -> Result<String, Fault> {
+        let Some((of, asked)) = words.split_first() else {
+            return Err(Fault::Unreadable);
+        };
+        match *of {
+            "task-or-handler" => names::answer(alloc, asked),
+            "pools" => pools::answer(alloc, asked),
+            "cell-variable" => variables::answer(alloc, &mut self.cell, asked),
+            "set-variable" => variables::answer(alloc, &mut self.set, asked),
+            "handlers" => handlers::answer(alloc, &mut self.handlers, asked),
+            "number" => order::of_numbers(alloc, asked),
+            "event" => order::of_events(alloc, asked),
+            "kind" => order::of_kinds(alloc, asked),
+            _ => of_lattice(alloc, of, asked),
+        }
+    }
+}
+
+/// The answer of a lattice of `lvish_lattice`, or of one that is made of these.
+fn of_lattice(alloc: Global, of: &str, asked: &[&str]) -> Result<String, Fault> {
+    match of {
+        "cell" => of_cells(alloc, asked),
+        "set" => of_sets(alloc, asked),
+        "set-of-pairs" => of_sets_of_pairs(alloc, asked),
+        "counter" => of_counters(alloc, asked),
+        _ => of_compound(alloc, of, asked),
+    }
+}
+
+fn of_compound(alloc: Global, of: &str, asked: &[&str]) -> Result<String, Fault> {
+    match of {
+        "map" => of_maps(alloc, asked),
+        "map-of-maps" => of_maps_of_maps(alloc, asked),
+        "set|counter" => of_sets_and_counters(alloc, asked),
+        "cell|cell" => of_two_cells(alloc, asked),
+        "part" => of_parts(alloc, asked),
+        "state" => of_states(alloc, asked),
+        _ => Err(Fault::Unreadable),
+    }
+}
+
+fn of_cells(alloc: Global, asked: &[&str]) -> Result<String, Fault> {
+    reads::answer::<Cell>(alloc, asked)
+}
+
+fn of_sets(alloc: Global, asked: &[&str]) -> Result<String, Fault> {
+    reads::answer::<GrowSet<i64>>(alloc, asked)
+}
+
+fn of_sets_of_pairs(alloc: Global, asked: &[&str]) -> Result<String, Fault> {
+    reads::answer::<GrowSet<(i64, i64)>>(alloc, asked)
+}
+
+fn of_counters(alloc: Global, asked: &[&str]) -> Result<String, Fault> {
+    reads::answer::<MaxCounter>(alloc, asked)
+}
+
+fn of_maps(alloc: Global, asked: &[&str]) -> Result<String, Fault> {
+    reads::answer::<Cells>(alloc, asked)
+}
+
+fn of_maps_of_maps(alloc: Global, asked: &[&str]) -> Result<String, Fault> {
+    reads::answer::<MapOf<i64, Cells>>(alloc, asked)
+}
+
+fn of_sets_and_counters(alloc: Global, asked: &[&str]) -> Result<String, Fault> {
+    reads::answer::<Pair<GrowSet<i64>, MaxCounter>>(alloc, asked)
+}
+
+fn of_two_cells(alloc: Global, asked: &[&str]) -> Result<String, Fault> {
+    reads::answer::<Pair<Cell, Cell>>(alloc, asked)
+}
+
+fn of_parts(alloc: Global, asked: &[&str]) -> Result<String, Fault> {
+    lattices::answer::<Part>(alloc, asked)
+}
+
+fn of_states(alloc: Global, asked: &[&str]) -> Result<String, Fault> {
+    reads::answer::<Any>(alloc, asked)
+}

@@ -1,0 +1,32 @@
+use lvish_compound::Wrong;
+use lvish_handlers::{AddFault, Nothing};
+use lvish_lattice::Range;
+use lvish_names::NameFault;
+use lvish_variable::PutFault;
+use std::alloc::AllocError;
+use std::num::ParseIntError;
+use thiserror::Error;
+
+/// What stands in an answer's place: the library's refusal, in its own words, or a row that can't be
+/// read.
+#[derive(Debug, Drop, Error)]
+pub enum Fault {
+    #[error("unreadable")]
+    Unreadable,
+    #[error("no number")]
+    Number(#[from] ParseIntError),
+    #[error(transparent)]
+    Range(#[from] Range),
+    #[error(transparent)]
+    Wrong(#[from] Wrong),
+    #[error(transparent)]
+    Name(#[from] NameFault),
+    #[error(transparent)]
+    Put(#[from] PutFault),
+    #[error(transparent)]
+    Add(#[from] AddFault),
+    #[error(transparent)]
+    Nothing(#[from] Nothing),
+    #[error(transparent)]
+    Memory(#[from(alloc)] AllocError),
+}

@@ -1,0 +1,53 @@
+//! Compares what the library answers to each row of the files of `data/` with what stands beside it.
+//!
+//! A row is a line such as `set join 3,1 2 -> 1,2,3`: what is asked, and the answer. A row that is
+//! answered otherwise is printed with that answer; of each file the number of its other rows is.
+#![tactic(auto)]
+
+mod desk;
+mod fault;
+mod handlers;
+mod keys;
+mod lattices;
+mod names;
+mod notation;
+mod order;
+mod pools;
+mod reads;
+mod rows;
+mod values;
+mod variables;
+mod words;
+
+use desk::Desk;
+use rows::compared;
+use std::process::ExitCode;
+use std::{fs, io};
+
+const FILES: [&str; 6] = [
+    "lvish_lattice",
+    "lvish_compound",
+    "lvish_names",
+    "lvish_calculus",
+    "lvish_variable",
+    "lvish_handlers",
+];
+
+fn main(rt: HostRuntime) -> ExitCode {
+    let Ok(mut desk) = Desk::new(rt.alloc()) else {
+        return ExitCode::FAILURE;
+    };
+    match compare_all(&rt, &mut desk) {
+        Ok(()) => ExitCode::SUCCESS,
+        Err(_) => ExitCode::FAILURE,
+    }
+}
+
+fn compare_all(rt: &HostRuntime, desk: &mut Desk) -> io::Result<()> {
+    for file in FILES {
+        let text = fs::read_to_string(rt, file)?;
+        let told = compared(rt.alloc(), desk, file, text.as_str())?;
+        rt.print(told.as_str())?;
+    }
+    Ok(())
+}

@@ -1,0 +1,134 @@
+//! Names of tasks and handlers. A path from `main` is written as `_`, or as its steps: `2` for the
+//! second fork, `1*63` for 63 forks, each the first, and `h1:3` for the event 3 of the first handler.
+
+use crate::fault::Fault;
+use crate::notation::Value;
+use crate::values::{under_handler, under_task};
+use crate::words::{halves, natural, yes_or_no};
+use lvish_names::{HandlerName, NameFault, TaskName};
+use std::alloc::{AllocError, Global};
+
+type Name = TaskName<i64>;
+
+pub fn answer(alloc: Global, words: &[&str]) -> Result<String, Fault> {
+    match words {
+        ["memory"] => Err(Fault::Name(NameFault::from(AllocError))),
+        ["ascending", paths @ ..] => {
+            let names = names(alloc, paths)?;
+            Ok(yes_or_no(alloc, is_ascending(names.as_slice()))?)
+        }
+        ["handler", path, number] => handler_text(alloc, &handler(alloc, path, number)?),
+        ["handlers", a, first, b, second] => {
+            order_text(
+                alloc,
+                &handler(alloc, a, first)?,
+                &handler(alloc, b, second)?,
+            )
+        }
+        ["under-task", name, puts @ ..] => under_task(alloc, name, puts),
+        ["under-handler", name, puts @ ..] => under_handler(alloc, name, puts),
+        [verb, path] => of_task(alloc, verb, &task(alloc, path)?),
+        _ => Err(Fault::Unreadable),
+    }
+}
+
+fn of_task(alloc: Global, verb: &str, name: &Name) -> Result<String, Fault> {
+    match verb {
+        "task" => Ok(name.copy(alloc)?.text(alloc)?),
+        "parts" => Ok(format!(in alloc; "{}", name.parts().len())?),
+        "pool" => pool_text(alloc, name),
+        _ => Err(Fault::Unreadable),
+    }
+}
+
+/// The handler in whose pool the task runs.
+fn pool_text(alloc: Global, name: &Name) -> Result<String, Fault> {
+    match name.pool_of(alloc)? {
+        Some(handler) => Ok(handler.text(alloc)?),
+        None => Ok(String::from_str(alloc, "none")?),
+    }
+}
+
+fn handler_text(alloc: Global, name: &HandlerName<i64>) -> Result<String, Fault> {
+    Ok(name.copy(alloc)?.text(alloc)?)
+}
+
+/// How the names compare, and whether the first is less.
+fn order_text(
+    alloc: Global,
+    first: &HandlerName<i64>,
+    second: &HandlerName<i64>,
+) -> Result<String, Fault> {
+    let order = first.cmp(second);
+    let less = *first < *second;
+    Ok(format!(in alloc; "{order:?} {less}")?)
+}
+
+/// Whether each name compares with each as their places do.
+fn is_ascending(names: &[Name]) -> bool {
+    names
+        .iter()
+        .enumerate()
+        .all(|(i, low)| is_in_place(names, i, low))
+}
+
+fn is_in_place(names: &[Name], place: usize, name: &Name) -> bool {
+    names
+        .iter()
+        .enumerate()
+        .all(|(k, other)| name.cmp(other) == place.cmp(&k))
+}
+
+fn names(alloc: Global, paths: &[&str]) -> Result<Vec<Name>, Fault> {
+    let mut names = Vec::new(alloc);
+    for path in paths {
+        names.push(task(alloc, path)?)?;
+    }
+    Ok(names)
+}
+
+/// The name of the task at the end of the path.
+pub fn task<E: Value>(alloc: Global, path: &str) -> Result<TaskName<E>, Fault> {
+    let mut name = TaskName::main(alloc);
+    if path != "_" {
+        for step in path.split('/') {
+            name = stepped(alloc, name, step)?;
+        }
+    }
+    Ok(name)
+}
+
+/// The handler of this number that the task at the end of the path adds.
+pub fn handler<E: Value>(alloc: Global, path: &str, number: &str) -> Result<HandlerName<E>, Fault> {
+    let adder = task(alloc, path)?;
+    Ok(HandlerName::new(alloc, &adder, natural(number)?)?)
+}
+
+fn stepped<E: Value>(alloc: Global, name: TaskName<E>, step: &str) -> Result<TaskName<E>, Fault> {
+    if let Some(hand) = step.strip_prefix("h") {
+        return handled(alloc, &name, hand);
+    }
+    match step.split_once('*') {
+        Some((number, times)) => forked(alloc, name, natural(number)?, natural(times)?),
+        None => Ok(name.child(alloc, natural(step)?)?),
+    }
+}
+
+fn handled<E: Value>(alloc: Global, name: &TaskName<E>, hand: &str) -> Result<TaskName<E>, Fault> {
+    let (number, event) = halves(hand, ':')?;
+    let handler = HandlerName::new(alloc, name, natural(number)?)?;
+    Ok(TaskName::handled(alloc, &handler, &E::value(event)?)?)
+}
+
+fn forked<E: Value>(
+    alloc: Global,
+    name: TaskName<E>,
+    number: u64,
+    times: u64,
+) -> Result<TaskName<E>, Fault> {
+    let mut name = name;
+    for _ in 0..times {
+        name = name.child(alloc, number)?;
+    }
+    Ok(name)
+}

@@ -1,0 +1,121 @@
+//! Maps: the puts that make them, as `1:5,2:7`, and `_` without any. Pairs: both sides, as `1,3|2`;
+//! what is of one side begins with its number, as `2/4`.
+
+use super::{Notation, ReadNotation, Value};
+use crate::fault::Fault;
+use crate::words::{halves, integer, items_of};
+use lvish_compound::{AtKey, MapOf, Pair, SideOf};
+use lvish_lattice::{Lattice, Plain};
+use std::alloc::{AllocError, Global};
+use std::fmt::Write;
+
+fn empty<K: Plain, L: Lattice>(alloc: Global) -> MapOf<K, L> {
+    MapOf::new(alloc)
+}
+
+/// The map of the one entry that the item spells.
+fn entry<L: Notation>(alloc: Global, item: &str) -> Result<MapOf<i64, L>, Fault> {
+    let (key, part) = halves(item, ':')?;
+    Ok(MapOf::one(alloc, integer(key)?, L::state(alloc, part)?)?)
+}
+
+impl<L: Notation> Notation for MapOf<i64, L> {
+    fn state(alloc: Global, text: &str) -> Result<MapOf<i64, L>, Fault> {
+        let items = items_of(alloc, text)?;
+        let Some((first, others)) = items.as_slice().split_first() else {
+            return Ok(empty(alloc));
+        };
+        let mut map = entry(alloc, first)?;
+        for item in others {
+            let put = entry(alloc, item)?;
+            let _joined = map.merge(alloc, &put)?;
+        }
+        Ok(map)
+    }
+
+    fn write_state(&self, out: &mut String) -> Result<(), AllocError> {
+        let entries = self.entries();
+        if entries.len() == 0 {
+            out.push('_')?;
+        }
+        for (place, (key, part)) in entries.enumerate() {
+            if place > 0 {
+                out.push(',')?;
+            }
+            write!(out, "{key}:")?;
+            part.write_state(out)?;
+        }
+        Ok(())
+    }
+
+    fn write_event(event: &(i64, L::Event), out: &mut String) -> Result<(), AllocError> {
+        write!(out, "{}:", event.0)?;
+        L::write_event(&event.1, out)
+    }
+}
+
+impl<L: ReadNotation> ReadNotation for MapOf<i64, L> {
+    fn read(alloc: Global, text: &str) -> Result<AtKey<i64, L::Read>, Fault> {
+        let (key, read) = halves(text, ':')?;
+        Ok(AtKey {
+            key: integer(key)?,
+            read: L::read(alloc, read)?,
+        })
+    }
+
+    fn write_answer(answer: &L::Answer, out: &mut String) -> Result<(), AllocError> {
+        L::write_answer(answer, out)
+    }
+}
+
+impl<A: Notation, B: Notation> Notation for Pair<A, B> {
+    fn state(alloc: Global, text: &str) -> Result<Pair<A, B>, Fault> {
+        let (one, two) = halves(text, '|')?;
+        Ok(Pair::new(A::state(alloc, one)?, B::state(alloc, two)?))
+    }
+
+    fn write_state(&self, out: &mut String) -> Result<(), AllocError> {
+        self.one.write_state(out)?;
+        out.push('|')?;
+        self.two.write_state(out)
+    }
+
+    fn write_event(event: &SideOf<A::Event, B::Event>, out: &mut String) -> Result<(), AllocError> {
+        match event {
+            SideOf::One(event) => {
+                out.push_str("1/")?;
+                A::write_event(event, out)
+            }
+            SideOf::Two(event) => {
+                out.push_str("2/")?;
+                B::write_event(event, out)
+            }
+        }
+    }
+}
+
+impl<A: ReadNotation, B: ReadNotation> ReadNotation for Pair<A, B> {
+    fn read(alloc: Global, text: &str) -> Result<SideOf<A::Read, B::Read>, Fault> {
+        match halves(text, '/')? {
+            ("1", read) => Ok(SideOf::One(A::read(alloc, read)?)),
+            ("2", read) => Ok(SideOf::Two(B::read(alloc, read)?)),
+            _ => Err(Fault::Unreadable),
+        }
+    }
+
+    fn write_answer(
+        answer: &SideOf<A::Answer, B::Answer>,
+        out: &mut String,
+    ) -> Result<(), AllocError> {
+        match answer {
+            SideOf::One(answer) => {
+                out.push_str("1/")?;
+                A::write_answer(answer, out)
+            }
+            SideOf::Two(answer) => {
+                out.push_str("2/")?;
+                B::write_answer(answer, out)
+            }
+        }
+    }
+}

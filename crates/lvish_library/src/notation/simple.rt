@@ -1,0 +1,143 @@
+//! Cells: `_` or a value. Sets: their elements, as `1,3`, and `_` without any. Counters: a number.
+
+use super::{Notation, ReadNotation, Value};
+use crate::fault::Fault;
+use crate::words::{halves, integer, integers, items_of};
+use lvish_lattice::{Flat, FlatRead, GrowSet, Items, Levels, MaxCounter, Members};
+use std::alloc::{AllocError, Global};
+use std::fmt::Write;
+
+impl Value for i64 {
+    fn value(text: &str) -> Result<i64, Fault> {
+        integer(text)
+    }
+
+    fn write_value(&self, out: &mut String) -> Result<(), AllocError> {
+        write!(out, "{self}")
+    }
+}
+
+impl<A: Value, B: Value> Value for (A, B) {
+    fn value(text: &str) -> Result<(A, B), Fault> {
+        let (first, second) = halves(text, ':')?;
+        Ok((A::value(first)?, B::value(second)?))
+    }
+
+    fn write_value(&self, out: &mut String) -> Result<(), AllocError> {
+        self.0.write_value(out)?;
+        out.push(':')?;
+        self.1.write_value(out)
+    }
+}
+
+/// The values that the items of a text spell.
+fn values<V: Value>(alloc: Global, text: &str) -> Result<Vec<V>, Fault> {
+    let mut values = Vec::new(alloc);
+    for item in items_of(alloc, text)?.iter() {
+        values.push(V::value(item)?)?;
+    }
+    Ok(values)
+}
+
+/// The values with commas between them.
+fn write_values<V: Value>(values: &[V], out: &mut String) -> Result<(), AllocError> {
+    if values.is_empty() {
+        out.push('_')?;
+    }
+    for (place, value) in values.iter().enumerate() {
+        if place > 0 {
+            out.push(',')?;
+        }
+        value.write_value(out)?;
+    }
+    Ok(())
+}
+
+impl<V: Value> Notation for Flat<V> {
+    fn state(_alloc: Global, text: &str) -> Result<Flat<V>, Fault> {
+        if text == "_" {
+            return Ok(Flat::Bottom);
+        }
+        Ok(Flat::Value(V::value(text)?))
+    }
+
+    fn write_state(&self, out: &mut String) -> Result<(), AllocError> {
+        match self {
+            Flat::Bottom => out.push('_'),
+            Flat::Value(value) => value.write_value(out),
+        }
+    }
+
+    fn write_event(event: &V, out: &mut String) -> Result<(), AllocError> {
+        event.write_value(out)
+    }
+}
+
+impl<V: Value> ReadNotation for Flat<V> {
+    fn read(alloc: Global, text: &str) -> Result<FlatRead<V>, Fault> {
+        if text == "any" {
+            return Ok(FlatRead::Any);
+        }
+        Ok(FlatRead::In(Items::new(values(alloc, text)?)))
+    }
+
+    fn write_answer(answer: &V, out: &mut String) -> Result<(), AllocError> {
+        answer.write_value(out)
+    }
+}
+
+impl<V: Value> Notation for GrowSet<V> {
+    /// `new` is the set that is made with no elements.
+    fn state(alloc: Global, text: &str) -> Result<GrowSet<V>, Fault> {
+        if text == "new" {
+            return Ok(GrowSet::new(alloc));
+        }
+        Ok(GrowSet::of(alloc, values(alloc, text)?.as_slice())?)
+    }
+
+    fn write_state(&self, out: &mut String) -> Result<(), AllocError> {
+        write_values(self.items(), out)
+    }
+
+    fn write_event(event: &V, out: &mut String) -> Result<(), AllocError> {
+        event.write_value(out)
+    }
+}
+
+impl<V: Value> ReadNotation for GrowSet<V> {
+    fn read(alloc: Global, text: &str) -> Result<Members<V>, Fault> {
+        Ok(Members::In(Items::new(values(alloc, text)?)))
+    }
+
+    fn write_answer(answer: &V, out: &mut String) -> Result<(), AllocError> {
+        answer.write_value(out)
+    }
+}
+
+impl Notation for MaxCounter {
+    fn state(_alloc: Global, text: &str) -> Result<MaxCounter, Fault> {
+        Ok(MaxCounter::new(integer(text)?)?)
+    }
+
+    fn write_state(&self, out: &mut String) -> Result<(), AllocError> {
+        write!(out, "{}", self.get())
+    }
+
+    fn write_event(event: &i64, out: &mut String) -> Result<(), AllocError> {
+        event.write_value(out)
+    }
+}
+
+impl ReadNotation for MaxCounter {
+    fn read(alloc: Global, text: &str) -> Result<Levels, Fault> {
+        let mut levels = Vec::new(alloc);
+        for number in integers(alloc, text)?.iter() {
+            levels.push(MaxCounter::new(*number)?)?;
+        }
+        Ok(Levels::In(Items::new(levels)))
+    }
+
+    fn write_answer(answer: &i64, out: &mut String) -> Result<(), AllocError> {
+        answer.write_value(out)
+    }
+}

@@ -1,0 +1,33 @@
+//! What any lattice that is read answers.
+
+use crate::fault::Fault;
+use crate::lattices;
+use crate::notation::ReadNotation;
+use crate::words::yes_or_no;
+use std::alloc::{AllocError, Global};
+
+/// The answer to a verb, and the read or the states that follow it.
+pub fn answer<L: ReadNotation>(alloc: Global, words: &[&str]) -> Result<String, Fault> {
+    match words {
+        ["check", read] => Ok(yes_or_no(alloc, L::check(&L::read(alloc, read)?))?),
+        ["answer", read, state] => {
+            let read = L::read(alloc, read)?;
+            let state = L::state(alloc, state)?;
+            Ok(answer_text::<L>(alloc, L::trigger(&read, &state))?)
+        }
+        _ => lattices::answer::<L>(alloc, words),
+    }
+}
+
+/// The answer of a read, if there is one.
+pub fn answer_text<L: ReadNotation>(
+    alloc: Global,
+    answer: Option<L::Answer>,
+) -> Result<String, AllocError> {
+    let mut text = String::new(alloc);
+    match answer {
+        Some(answer) => L::write_answer(&answer, &mut text)?,
+        None => text.push_str("none")?,
+    }
+    Ok(text)
+}

@@ -1,0 +1,111 @@
+//! Merges in place: of sets, of maps, and of the states of a script's variables.
+
+use crate::calls::{events_of, merge_into};
+use lvish_compound::{Any, Event, Kind, MapOf, Wrong};
+use lvish_lattice::{Flat, GrowSet, Lattice};
+use std::alloc::{AllocError, Global};
+use std::process::Abort;
+use std::test::Fail;
+
+type Cells = MapOf<i64, Flat<i64>>;
+
+fn has_events<L: Lattice>(
+    alloc: Global,
+    state: &L,
+    events: &[L::Event],
+) -> Result<bool, AllocError> {
+    Ok(events_of(alloc, state)?.as_slice() == events)
+}
+
+/// Whether the put joins; where memory was refused, the state has the same events as before.
+fn joins_at_last<L: Lattice>(
+    rt: &impl Abort,
+    alloc: Global,
+    state: &mut L,
+    put: &L,
+    before: &[L::Event],
+) -> Result<bool, AllocError> {
+    match merge_into(alloc, state, put) {
+        Ok(joined) => Ok(joined),
+        Err(AllocError) => {
+            assert!(rt; has_events(alloc, state, before)?);
+            merge_into(alloc, state, put)
+        }
+    }
+}
+
+/// Whether the put joins, and the state has these events then.
+fn grows<L: Lattice>(
+    rt: &impl Abort,
+    alloc: Global,
+    state: &mut L,
+    put: &L,
+    before: &[L::Event],
+    after: &[L::Event],
+) -> Result<bool, AllocError> {
+    Ok(joins_at_last(rt, alloc, state, put, before)? && has_events(alloc, state, after)?)
+}
+
+fn set_grows(rt: &impl Abort, alloc: Global) -> Result<bool, AllocError> {
+    let mut state = GrowSet::of(alloc, &[1, 3])?;
+    let put = GrowSet::of(alloc, &[0, 2, 4, 5, 6, 7])?;
+    let after = [0, 1, 2, 3, 4, 5, 6, 7];
+    grows(rt, alloc, &mut state, &put, &[1, 3], &after)
+}
+
+#[test]
+fn a_set_grows(rt: HostRuntime) -> Result<(), Fail> {
+    assert!(rt; set_grows(&rt, rt.alloc())?);
+    Ok(())
+}
+
+fn one(alloc: Global, key: i64, value: i64) -> Result<Cells, AllocError> {
+    MapOf::one(alloc, key, Flat::Value(value))
+}
+
+fn two(alloc: Global) -> Result<Cells, AllocError> {
+    let mut map = one(alloc, 3, 8)?;
+    let _joined = merge_into(alloc, &mut map, &one(alloc, 4, 9)?)?;
+    Ok(map)
+}
+
+/// Whether a map grows by one key, and then by two at once.
+fn map_grows(rt: &impl Abort, alloc: Global) -> Result<bool, AllocError> {
+    let mut map = one(alloc, 2, 7)?;
+    let first = one(alloc, 1, 5)?;
+    let others = two(alloc)?;
+    let both = [(1, 5), (2, 7)];
+    let all = [(1, 5), (2, 7), (3, 8), (4, 9)];
+    Ok(
+        grows(rt, alloc, &mut map, &first, &[(2, 7)], &both)?
+            && grows(rt, alloc, &mut map, &others, &both, &all)?,
+    )
+}
+
+#[test]
+fn a_map_grows(rt: HostRuntime) -> Result<(), Fail> {
+    assert!(rt; map_grows(&rt, rt.alloc())?);
+    Ok(())
+}
+
+fn event(key: i64, kind: Kind, number: i64) -> Event {
+    Event { key, kind, number }
+}
+
+fn cell_side() -> Result<Any, Wrong> {
+    Any::side(1, Any::cell(5))
+}
+
+fn set_side(alloc: Global) -> Result<Any, Fail> {
+    Ok(Any::side(2, Any::set(alloc, 7)?)?)
+}
+
+#[test]
+fn a_pair_grows_on_its_other_side(rt: HostRuntime) -> Result<(), Fail> {
+    let mut state = cell_side()?;
+    let put = set_side(rt.alloc())?;
+    let cell = event(1, Kind::Cell, 5);
+    let set = event(2, Kind::Set, 7);
+    assert!(rt; grows(&rt, rt.alloc(), &mut state, &put, &[cell], &[cell, set])?);
+    Ok(())
+}

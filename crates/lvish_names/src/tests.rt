@@ -1,2 +1,0 @@
-mod keys;
-mod paths;
