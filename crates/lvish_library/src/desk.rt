@@ -2,8 +2,8 @@
 
 use crate::fault::Fault;
 use crate::handlers::Bench;
-use crate::notation::Value;
-use crate::{handlers, lattices, names, order, pools, reads, variables};
+use crate::notation::elements;
+use crate::{handlers, lattices, names, order, pools, reads, values, variables};
 use lvish_compound::{Any, MapOf, Pair, Part};
 use lvish_lattice::{Flat, GrowSet, MaxCounter};
 use lvish_variable::{PutFault, Variable};
@@ -37,6 +37,8 @@ impl Desk {
         };
         match *of {
             "task-or-handler" => names::answer(alloc, asked),
+            "value-under-task" => values::under_task(alloc, asked),
+            "value-under-handler" => values::under_handler(alloc, asked),
             "pools" => pools::answer(alloc, asked),
             "cell-variable" => variables::answer(alloc, &mut self.cell, asked),
             "set-variable" => variables::answer(alloc, &mut self.set, asked),
@@ -80,8 +82,12 @@ fn of_sets(alloc: Global, asked: &[&str]) -> Result<String, Fault> {
     reads::answer::<GrowSet<i64>>(alloc, asked)
 }
 
+/// The elements of a set that is made of these pairs.
 fn of_sets_of_pairs(alloc: Global, asked: &[&str]) -> Result<String, Fault> {
-    reads::answer::<GrowSet<(i64, i64)>>(alloc, asked)
+    match asked {
+        [pairs] => elements::<(i64, i64)>(alloc, pairs),
+        _ => Err(Fault::Unreadable),
+    }
 }
 
 fn of_counters(alloc: Global, asked: &[&str]) -> Result<String, Fault> {
@@ -93,11 +99,11 @@ fn of_maps(alloc: Global, asked: &[&str]) -> Result<String, Fault> {
 }
 
 fn of_maps_of_maps(alloc: Global, asked: &[&str]) -> Result<String, Fault> {
-    reads::answer::<MapOf<i64, Cells>>(alloc, asked)
+    lattices::answer::<MapOf<i64, Cells>>(alloc, asked)
 }
 
 fn of_sets_and_counters(alloc: Global, asked: &[&str]) -> Result<String, Fault> {
-    reads::answer::<Pair<GrowSet<i64>, MaxCounter>>(alloc, asked)
+    lattices::answer::<Pair<GrowSet<i64>, MaxCounter>>(alloc, asked)
 }
 
 fn of_two_cells(alloc: Global, asked: &[&str]) -> Result<String, Fault> {

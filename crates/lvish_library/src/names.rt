@@ -3,7 +3,6 @@
 
 use crate::fault::Fault;
 use crate::notation::Value;
-use crate::values::{under_handler, under_task};
 use crate::words::{halves, natural, yes_or_no};
 use lvish_names::{HandlerName, NameFault, TaskName};
 use std::alloc::{AllocError, Global};
@@ -13,23 +12,22 @@ type Name = TaskName<i64>;
 pub fn answer(alloc: Global, words: &[&str]) -> Result<String, Fault> {
     match words {
         ["memory"] => Err(Fault::Name(NameFault::from(AllocError))),
-        ["ascending", paths @ ..] => {
-            let names = names(alloc, paths)?;
-            Ok(yes_or_no(alloc, is_ascending(names.as_slice()))?)
-        }
-        ["handler", path, number] => handler_text(alloc, &handler(alloc, path, number)?),
-        ["handlers", a, first, b, second] => {
-            order_text(
-                alloc,
-                &handler(alloc, a, first)?,
-                &handler(alloc, b, second)?,
-            )
-        }
-        ["under-task", name, puts @ ..] => under_task(alloc, name, puts),
-        ["under-handler", name, puts @ ..] => under_handler(alloc, name, puts),
-        [verb, path] => of_task(alloc, verb, &task(alloc, path)?),
+        ["ascending", paths @ ..] => ascending(alloc, paths),
+        ["handler", path, number] => handler_text(alloc, path, number),
+        ["handlers", a, first, b, second] => order_text(alloc, (a, first), (b, second)),
+        [verb, path] => of_path(alloc, verb, path),
         _ => Err(Fault::Unreadable),
     }
+}
+
+fn ascending(alloc: Global, paths: &[&str]) -> Result<String, Fault> {
+    let names = names(alloc, paths)?;
+    Ok(yes_or_no(alloc, is_ascending(names.as_slice()))?)
+}
+
+fn of_path(alloc: Global, verb: &str, path: &str) -> Result<String, Fault> {
+    let name = task(alloc, path)?;
+    of_task(alloc, verb, &name)
 }
 
 fn of_task(alloc: Global, verb: &str, name: &Name) -> Result<String, Fault> {
@@ -49,19 +47,26 @@ fn pool_text(alloc: Global, name: &Name) -> Result<String, Fault> {
     }
 }
 
-fn handler_text(alloc: Global, name: &HandlerName<i64>) -> Result<String, Fault> {
-    Ok(name.copy(alloc)?.text(alloc)?)
+fn handler_text(alloc: Global, path: &str, number: &str) -> Result<String, Fault> {
+    let name = handler::<i64>(alloc, path, number)?;
+    let copy = name.copy(alloc)?;
+    Ok(copy.text(alloc)?)
 }
 
-/// How the names compare, and whether the first is less.
-fn order_text(
+/// How two handlers compare, each given by its adder's path and its number, and whether the first is
+/// less.
+fn order_text(alloc: Global, a: (&str, &str), b: (&str, &str)) -> Result<String, Fault> {
+    let a = handler::<i64>(alloc, a.0, a.1)?;
+    let b = handler::<i64>(alloc, b.0, b.1)?;
+    Ok(compared(alloc, &a, &b)?)
+}
+
+fn compared(
     alloc: Global,
-    first: &HandlerName<i64>,
-    second: &HandlerName<i64>,
-) -> Result<String, Fault> {
-    let order = first.cmp(second);
-    let less = *first < *second;
-    Ok(format!(in alloc; "{order:?} {less}")?)
+    a: &HandlerName<i64>,
+    b: &HandlerName<i64>,
+) -> Result<String, AllocError> {
+    format!(in alloc; "{:?} {}", a.cmp(b), *a < *b)
 }
 
 /// Whether each name compares with each as their places do.

@@ -7,6 +7,7 @@ mod state;
 
 use crate::fault::Fault;
 use lvish_lattice::{Lattice, Plain, Reads};
+pub use simple::elements;
 pub use state::kind;
 use std::alloc::{AllocError, Global};
 

@@ -12,8 +12,11 @@ type Tasks = BTreeMap<TaskName<i64>, u64>;
 
 type Handlers = BTreeMap<HandlerName<i64>, u64>;
 
-/// What stands under the task's name after the puts, if anything does.
-pub fn under_task(alloc: Global, name: &str, puts: &[&str]) -> Result<String, Fault> {
+/// What stands under the task's name, the first word, after the puts that follow it.
+pub fn under_task(alloc: Global, words: &[&str]) -> Result<String, Fault> {
+    let [name, puts @ ..] = words else {
+        return Err(Fault::Unreadable);
+    };
     let mut tasks = BTreeMap::new(alloc);
     for put in puts {
         put_at_task(alloc, &mut tasks, put)?;
@@ -26,8 +29,11 @@ fn put_at_task(alloc: Global, tasks: &mut Tasks, put: &str) -> Result<(), Fault>
     Ok(put_task(tasks, task(alloc, name)?, natural(value)?)?)
 }
 
-/// What stands under the handler's name after the puts, if anything does.
-pub fn under_handler(alloc: Global, name: &str, puts: &[&str]) -> Result<String, Fault> {
+/// What stands under the handler's name, the first word, after the puts that follow it.
+pub fn under_handler(alloc: Global, words: &[&str]) -> Result<String, Fault> {
+    let [name, puts @ ..] = words else {
+        return Err(Fault::Unreadable);
+    };
     let mut handlers = BTreeMap::new(alloc);
     for put in puts {
         put_at_handler(alloc, &mut handlers, put)?;

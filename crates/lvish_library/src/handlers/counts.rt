@@ -5,15 +5,37 @@ use lvish_handlers::Handlers;
 use lvish_lattice::Lattice;
 use std::alloc::{AllocError, Global};
 
+fn none<L: Lattice>(handlers: &Handlers<L>) -> bool {
+    handlers.ended(&[])
+}
+
+fn first<L: Lattice>(handlers: &Handlers<L>) -> bool
+    requires { length handlers.now.running ≡ 2 }
+{
+    handlers.ended(&[0])
+}
+
+fn second<L: Lattice>(handlers: &Handlers<L>) -> bool
+    requires { length handlers.now.running ≡ 2 }
+{
+    handlers.ended(&[1])
+}
+
+fn both<L: Lattice>(handlers: &Handlers<L>) -> bool
+    requires { length handlers.now.running ≡ 2 }
+{
+    handlers.ended(&[0, 1])
+}
+
 /// Whether no pool, each of two pools, and both have ended.
 fn of_two<L: Lattice>(handlers: &Handlers<L>) -> [bool; 4]
     requires { length handlers.now.running ≡ 2 }
 {
     [
-        handlers.ended(&[]),
-        handlers.ended(&[0]),
-        handlers.ended(&[1]),
-        handlers.ended(&[0, 1]),
+        none(handlers),
+        first(handlers),
+        second(handlers),
+        both(handlers),
     ]
 }
 

@@ -53,6 +53,15 @@ fn write_values<V: Value>(values: &[V], out: &mut String) -> Result<(), AllocErr
     Ok(())
 }
 
+/// The elements of the set that is made of these values.
+pub fn elements<V: Value>(alloc: Global, text: &str) -> Result<String, Fault> {
+    let values = values::<V>(alloc, text)?;
+    let set = GrowSet::of(alloc, values.as_slice())?;
+    let mut told = String::new(alloc);
+    write_values(set.items(), &mut told)?;
+    Ok(told)
+}
+
 impl<V: Value> Notation for Flat<V> {
     fn state(_alloc: Global, text: &str) -> Result<Flat<V>, Fault> {
         if text == "_" {
