@@ -8,6 +8,7 @@ use std::alloc::{AllocError, Global};
 use std::test::Fail;
 
 /// A call of a seat, and what it answers.
+#[derive(Clone, Copy)]
 enum Call {
     /// Which seat it is, of how many.
     Seat(usize, usize),
