@@ -15,14 +15,19 @@ const MOST_STEPS: u64 = 100_000;
 
 /// The report of the script's run by the picks of these words, which begin with `pick`.
 pub fn report_of(alloc: Global, words: &[&str], script: &[u8]) -> Result<Answer, AllocError> {
-    let (picks, budget) = match order_of(alloc, words) {
-        Ok((Order::Pick { picks, budget, .. }, _)) => (picks, budget),
-        Ok(_) => return no_pick(alloc),
-        Err(fault) => return no_order(alloc, &fault),
+    match order_of(alloc, words) {
+        Ok((order, _)) => report_by(alloc, &order, script),
+        Err(fault) => no_order(alloc, &fault),
+    }
+}
+
+fn report_by(alloc: Global, order: &Order, script: &[u8]) -> Result<Answer, AllocError> {
+    let Order::Pick { picks, budget, .. } = order else {
+        return no_pick(alloc);
     };
     match read_script(alloc, script) {
         Ok(script) => {
-            let report = run_by(alloc, &script, picks.as_slice(), budget)?;
+            let report = run_by(alloc, &script, picks.as_slice(), *budget)?;
             Ok(done(report_line(alloc, &report)?))
         }
         Err(refused) => refusal(alloc, &refused),
