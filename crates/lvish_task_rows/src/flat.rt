@@ -1,6 +1,6 @@
 //! Flat code, as text.
 
-use crate::text::push_line;
+use crate::text::{no_such_question, push_line};
 use lvish_code::{Code, Routine};
 use lvish_syntax::Script;
 use std::alloc::{AllocError, Global};
@@ -9,12 +9,20 @@ use std::alloc::{AllocError, Global};
 pub fn flat_answer(alloc: Global, script: &Script, words: &[&str]) -> Result<String, AllocError> {
     let code = Code::new(alloc, script)?;
     match words {
-        ["kinds"] => format!(in alloc; "{:?}", code.kinds()),
-        ["pools"] => format!(in alloc; "{:?}", code.pools()),
-        ["main"] => format!(in alloc; "{}", code.main()),
-        ["routines"] => format!(in alloc; "{:?}", code.routines()),
         ["of", procedure] => instructions_of(alloc, script, &code, procedure),
-        _ => String::from_str(alloc, "no such question"),
+        [part] => part_answer(alloc, &code, part),
+        _ => no_such_question(alloc),
+    }
+}
+
+/// A part of flat code.
+fn part_answer(alloc: Global, code: &Code, part: &str) -> Result<String, AllocError> {
+    match part {
+        "kinds" => format!(in alloc; "{:?}", code.kinds()),
+        "pools" => format!(in alloc; "{:?}", code.pools()),
+        "main" => format!(in alloc; "{}", code.main()),
+        "routines" => format!(in alloc; "{:?}", code.routines()),
+        _ => no_such_question(alloc),
     }
 }
 

@@ -4,10 +4,14 @@
 
 mod answer;
 mod asked;
+mod calls;
 mod copies;
+mod event;
 mod flat;
 mod reader;
+mod request;
 mod row;
+mod same;
 mod state;
 mod task;
 mod text;

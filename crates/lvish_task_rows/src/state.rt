@@ -15,18 +15,27 @@ pub fn state_of(alloc: Global, words: &[&str]) -> Result<Option<Any>, AllocError
 }
 
 fn set_of(alloc: Global, first: &str, rest: &[&str]) -> Result<Option<Any>, AllocError> {
-    let Some(mut state) = element(alloc, first)? else {
-        return Ok(None);
-    };
-    for word in rest {
-        match element(alloc, word)? {
-            None => return Ok(None),
-            Some(one) => {
-                state.merge(alloc, &one)?;
-            }
+    match element(alloc, first)? {
+        Some(state) => set_with(alloc, state, rest),
+        None => Ok(None),
+    }
+}
+
+fn set_with(alloc: Global, mut state: Any, words: &[&str]) -> Result<Option<Any>, AllocError> {
+    for word in words {
+        if !is_joined(alloc, &mut state, word)? {
+            return Ok(None);
         }
     }
     Ok(Some(state))
+}
+
+/// Joins the element that a word spells. Answers false where it spells none.
+fn is_joined(alloc: Global, state: &mut Any, word: &str) -> Result<bool, AllocError> {
+    match element(alloc, word)? {
+        Some(one) => state.merge(alloc, &one),
+        None => Ok(false),
+    }
 }
 
 fn element(alloc: Global, word: &str) -> Result<Option<Any>, AllocError> {

@@ -1,6 +1,6 @@
-//! Texts of lines and of numbers.
+//! Texts of lines.
 
-use std::alloc::AllocError;
+use std::alloc::{AllocError, Global};
 
 /// Adds a line to lines that are separated by line feeds.
 pub fn push_line(text: &mut String, line: &str) -> Result<(), AllocError> {
@@ -9,4 +9,9 @@ pub fn push_line(text: &mut String, line: &str) -> Result<(), AllocError> {
     }
     text.push_str(line)?;
     Ok(())
+}
+
+/// The answer to a question that isn't there.
+pub fn no_such_question(alloc: Global) -> Result<String, AllocError> {
+    String::from_str(alloc, "no such question")
 }

@@ -1,0 +1,68 @@
+//! What a script's program answers, without what its contracts say: nothing here rests on them.
+
+use lvish_calculus::{Asks, Program, Reply, Request};
+use lvish_compound::{Any, AnyRead, Event};
+use lvish_task::{Code, Local};
+use std::alloc::{AllocError, Global};
+
+/// The local state in which the first task starts.
+pub fn start_of(alloc: Global, code: &Code) -> Result<Local, AllocError> {
+    code.start(alloc)
+}
+
+/// The local state in which a procedure starts on an event.
+pub fn handled(
+    alloc: Global,
+    code: &Code,
+    procedure: usize,
+    event: &Event,
+) -> Result<Local, AllocError> {
+    code.start_handler(alloc, procedure, event)
+}
+
+/// What a task asks for in a local state.
+pub fn asks_of(
+    alloc: Global,
+    code: &Code,
+    local: &Local,
+) -> Result<Asks<Any, AnyRead, Local>, AllocError> {
+    code.ask(alloc, local)
+}
+
+/// The request that a task makes in a local state.
+pub fn request_of(
+    alloc: Global,
+    code: &Code,
+    local: &Local,
+) -> Result<Request<Any, AnyRead, Local>, AllocError> {
+    let Asks { request, at: _ } = asks_of(alloc, code, local)?;
+    Ok(request)
+}
+
+/// The local state in which that request is made.
+pub fn at_of(alloc: Global, code: &Code, local: &Local) -> Result<Local, AllocError> {
+    let Asks { request: _, at } = asks_of(alloc, code, local)?;
+    Ok(at)
+}
+
+/// The local state after a reply.
+pub fn resumed(
+    alloc: Global,
+    code: &Code,
+    at: &Local,
+    reply: Reply<Any, i64>,
+) -> Result<Local, AllocError> {
+    code.resume(alloc, at, reply)
+}
+
+pub fn copied(alloc: Global, code: &Code, local: &Local) -> Result<Local, AllocError> {
+    code.copy_local(alloc, local)
+}
+
+pub fn fits(code: &Code, local: &Local) -> bool {
+    code.fits(local)
+}
+
+pub fn is_equal(one: &Local, other: &Local) -> bool {
+    one == other
+}
