@@ -8,7 +8,7 @@ use anyhow::{Context, Result};
 use std::alloc::{AllocError, Global};
 
 /// How many answers are as expected, and how many aren't.
-#[derive(Clone, Copy, Debug)]
+#[derive(Clone, Copy)]
 pub struct Tally {
     pub same: u64,
     pub others: u64,

@@ -4,7 +4,7 @@ use anyhow::{Result, bail};
 use std::alloc::AllocError;
 
 /// What of an escape came before a byte.
-#[derive(Clone, Copy, Debug)]
+#[derive(Clone, Copy)]
 enum Before {
     Nothing,
     Backslash,

@@ -1,7 +1,7 @@
 //! A script of a file of rows, with what is asked about it.
 
 /// The lines of a script, and questions about it.
-#[derive(Debug, Drop)]
+#[derive(Drop)]
 pub struct Row<'a> {
     pub name: &'a str,
     pub lines: Vec<&'a str>,
@@ -9,7 +9,7 @@ pub struct Row<'a> {
 }
 
 /// What is asked about a script, and the answer that is expected.
-#[derive(Debug, Drop)]
+#[derive(Drop)]
 pub struct Question<'a> {
     /// The line that asks.
     pub line: &'a str,

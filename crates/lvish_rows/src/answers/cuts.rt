@@ -5,7 +5,7 @@ use crate::answers::performed::printed;
 use std::alloc::{AllocError, Global};
 
 /// Lengths from the first to the last at which a check ends with one status.
-#[derive(Clone, Copy, Debug)]
+#[derive(Clone, Copy)]
 struct Lengths {
     first: usize,
     last: usize,
