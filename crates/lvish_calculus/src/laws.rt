@@ -4,7 +4,7 @@ ghost use Rattle.std.specs.Prelude.{◌≡◌};
 ghost use Rattle.lvish_calculus.specs.Machine.{IsLawful};
 ghost use Rattle.lvish_calculus.specs.Calculus.{Running, start};
 ghost use Rattle.lvish_names.specs.Names.{Name};
-ghost use Rattle.lvish_calculus.specs.Handing.{HandingKept, ErrsLast};
+ghost use Rattle.lvish_calculus.specs.Handing.{HandingKept};
 ghost use Rattle.lvish_calculus.specs.Waiting.{WaitsForItsVariable, AllWait};
 ghost use Rattle.lvish_calculus.specs.Laws.{MovesCommute, DoomedStays, SameEndIf, IsCrossed, FreezesAllBy, NeverErrs, NoLateError};
 
@@ -62,10 +62,10 @@ pub fn no_late_error<P: Program>()
 
 /// What handlers are handed in every run: no event twice, none after the freeze, exactly those
 /// below the state at the freeze and at an end, one task's events in the order of its puts.
+///
+/// A run in error is such a run and one step more, of the error's task.
 pub fn handing_kept<P: Program>()
-    ensures kept { (p : P) → HandingKept (⟦<P as Meaning>⟧.machine p) }
-    // A run in error is such a run, and one step more.
-    ensures in_error { (p : P) → ErrsLast (⟦<P as Meaning>⟧.machine p) }
+    ensures { (p : P) → HandingKept (⟦<P as Meaning>⟧.machine p) }
 {
     lawful::<P>();
 }

@@ -100,6 +100,7 @@ module _ {P S E R A L : Type 0} (M : Machine S E R A L) (ok : IsLawful M) (law :
         leads = leads;
         logs = λ u x y a b. ap (λ (z : Variable S E). z.log) (some_same (sym b ∙ a)) ∙ no_more x.log ∙ ap (λ o. x.log ++ brings M (state M old) u o) (sym does);
         touched = ap Some (sym (ap (λ o. task_touches M (state M old) o) does));
+        shows_before = λ k e. refl;
       }
 
   failed_kept : IsKept M variables n places (later t)

@@ -60,6 +60,7 @@ module _ {P S E R A L : Type 0} (M : Machine S E R A L) where
           leads = λ ys r. run_to new (ys ++ l ∷ []) g.still ((g.steps ys (pictured_by old ys g.no_fault r)).kept);
           logs = λ v x y a b. g.logs v x y a b ∙ ap (λ o. x.log ++ brings M (state M old) v o) (sym g.does);
           touched = g.touches;
+          shows_before = λ k e. let no_error : ⊥ = cc in absurd no_error;
         }
 
     pub state_after : (xs : List (Label E)) → IsPictured M old.table xs → state M new ≡ changed M g.change (state M old)

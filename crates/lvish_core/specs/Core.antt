@@ -9,6 +9,7 @@ use Rattle.lvish_variable.specs.Variable.{View as Variable, logged}
 use Rattle.lvish_handlers.specs.Handlers.{View as Handlers, next_of}
 use Rattle.lvish_picture.specs.Logs.{IsInOrder}
 use Rattle.lvish_picture.specs.Picture.{Table, IsTable, picture as table_picture}
+use Rattle.lvish_calculus.specs.declared.request.ErrorKind.{ErrorKind}
 use Rattle.lvish_core.specs.declared.fault.Fault.{Fault}
 use Rattle.lvish_core.specs.declared.fault.Stepped.{Stepped}
 use Rattle.lvish_core.specs.declared.fault.Stepped.TheVariants.{Done as DoneStep, Error as ErrorStep}
@@ -97,6 +98,8 @@ pub record IsStep {P S E R A L : Type 0} (M : Machine S E R A L) (old : View P S
   -- a put's log grows by the entries that it brings, and the others stay
   pub logs : (v : ℕ) (x y : Variable S E) → slice_get old.table.variables v ≡ Some x → slice_get new.table.variables v ≡ Some y → y.log ≡ x.log ++ brought M (state M old) l v
   pub touched : new.touched ≡ Some (touched_by M (state M old) l)
+  -- after an error the variables, the handlers and the tasks are as they were before it
+  pub shows_before : (kind : ErrorKind) → said ≡ ErrorStep kind → new.table ≡ old.table
 
 -- a step isn't made where the core can't take it, else where 1,000,000 were made; memory may be wanted in any case
 abbrev pub IsRefused : {P S E R A L : Type 0} → Machine S E R A L → View P S E L → Label E → StepFault → Type 0

@@ -4,7 +4,7 @@ use Rattle.lvish_calculus.specs.declared.label.Label.{Label}
 use Rattle.lvish_calculus.specs.declared.label.Label.TheVariants.{Hand}
 use Rattle.lvish_calculus.specs.Machine.{Machine}
 use Rattle.lvish_calculus.specs.Calculus.{Handler, CanStep}
-use Rattle.lvish_calculus.specs.Handing.{IsCoreRun}
+use Rattle.lvish_calculus.specs.Handing.{IsCoreRun, HandsTo}
 use Rattle.lvish_core.specs.Core.{View, picture, IsRunTo, IsNext, CanTake}
 
 -- a core that a run leads to can take just the labels that are enabled, and with which the run is a core run
@@ -16,6 +16,10 @@ TakesCoreRuns {S} {E} {R} {A} {L} P M = (c : View P S E L) (xs : List (Label E))
 abbrev pub TakesSomething : {S E R A L : Type 0} → Type 0 → Machine S E R A L → Type 0
 TakesSomething {S} {E} {R} {A} {L} P M = (c : View P S E L) (xs : List (Label E)) → IsRunTo M c xs
     → (l : Label E) → CanStep M (picture M c) l → (k : Label E) × CanTake M c k
+
+-- in a run that leads to a core, handlers are handed each event at most once, one task's in the order of its puts, none after the freeze, at the freeze and at an end exactly those below the state
+abbrev pub HandsToEach : {S E R A L : Type 0} → Type 0 → Machine S E R A L → Type 0
+HandsToEach {S} {E} {R} {A} {L} P M = (c : View P S E L) (xs : List (Label E)) → IsRunTo M c xs → HandsTo M xs (picture M c)
 
 -- a handler is handed nothing but the one entry that comes next for it
 abbrev pub HandsOneEvent : {S E R A L : Type 0} → Type 0 → Machine S E R A L → Type 0

@@ -1,9 +1,9 @@
 //! What the labels of a core are to its runs, as contracts of functions with no code.
 
-ghost use Rattle.lvish_core.specs.CoreLaws.{TakesCoreRuns, TakesSomething, HandsOneEvent};
+ghost use Rattle.lvish_core.specs.CoreLaws.{TakesCoreRuns, TakesSomething, HandsToEach, HandsOneEvent};
 ghost use Rattle.lvish_core.specs.Waiting.{WaitsUntilTouched, EndsByCounts};
 
-use lvish_calculus::laws::{lawful, waiting};
+use lvish_calculus::laws::{handing_kept, lawful, waiting};
 use lvish_calculus::{Meaning, Program};
 use lvish_picture::laws::{ends_by_cursors, handed_next, handlers_are_held, ordered};
 
@@ -24,6 +24,16 @@ pub fn takes_something<P: Program>()
     lawful::<P>();
     ordered::<P>();
     handed_next::<P>();
+}
+
+/// What handlers are handed in the run that led to a core, after any list of calls: each event at
+/// most once, one task's in the order of its puts, none after the freeze, and at the freeze and at an
+/// end without an error exactly those below the state. After an error that holds of the steps before
+/// the one that met it, which the error's task made.
+pub fn hands_to_each<P: Program>()
+    ensures { (p : P) → HandsToEach P (⟦<P as Meaning>⟧.machine p) }
+{
+    handing_kept::<P>();
 }
 
 /// A handler is handed no event but the one that comes next for it, which `Core::next` answers.

@@ -158,7 +158,7 @@ pub stands_open : {P S E R A L : Type 0} (cmp : E → E → Ordering) (M : Machi
 stands_open cmp M c [] a some = absurd (some refl)
 stands_open cmp M c (x ∷ xs) a some = (x, (a.just x).0 (inl refl))
 
--- what three clauses say of a good answer
-pub three_ok : {T X : Type 0} {P Q R U : T → Type 0} (r : Result T X) → ((x : T) → P x → Q x → R x → U x) → IfOk r P → IfOk r Q → IfOk r R → IfOk r U
-three_ok (Ok x) f p q s = f x p q s
-three_ok (Err e) f p q s = tt
+-- what four clauses say of a good answer
+pub four_ok : {T X : Type 0} {P Q R S U : T → Type 0} (r : Result T X) → ((x : T) → P x → Q x → R x → S x → U x) → IfOk r P → IfOk r Q → IfOk r R → IfOk r S → IfOk r U
+four_ok (Ok x) f p q s t = f x p q s t
+four_ok (Err e) f p q s t = tt

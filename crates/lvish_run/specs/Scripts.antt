@@ -6,6 +6,7 @@ use Rattle.lvish_compound.specs.declared.any_read.AnyRead.{AnyRead}
 use Rattle.lvish_compound.specs.declared.event.Event.{Event}
 use Rattle.lvish_calculus.specs.Machine.{Machine}
 use Rattle.lvish_calculus.specs.Calculus.{Running, start}
+use Rattle.lvish_calculus.specs.Handing.{IsHandedWell}
 use Rattle.lvish_syntax.specs.declared.script.Script.{Script}
 use Rattle.lvish_task.specs.CodeOf.{IsCodeOf}
 use Rattle.lvish_task.specs.declared.code.Code.{Code}
@@ -23,5 +24,7 @@ pub record IsPickedRun (cmp : Event → Event → Ordering) (machine : Code → 
   pub of : IsCodeOf script code
   pub honest : IsHonest (machine code) (length (variables_of script.declarations)) 1 budget r
   pub picked : IsPicked cmp (machine code) picks [] (Running (start (machine code))) (labels_of r.trace)
+  -- each handler is handed each event at most once, one task's in the order of its puts, none after the freeze, at the freeze and at an end exactly those below the state
+  pub handed : IsHandedWell (machine code) (labels_of r.trace)
   -- if it is an end, so are all others that don't cross it
   pub alike : IsAlike (machine code) (length (variables_of script.declarations)) r

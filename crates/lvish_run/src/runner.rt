@@ -1,5 +1,6 @@
 ghost use Rattle.std.specs.Prelude.{◌≡◌, ◌<◌, ◌≤◌, ◌%◌, ℕ, IfOk, MatchOption, length, [], slice_get, Some};
 ghost use Rattle.lvish_calculus.specs.Calculus.{Running, start};
+ghost use Rattle.lvish_calculus.specs.Handing.{IsHandedWell};
 ghost use Rattle.lvish_run.specs.Honest.{IsHonest, labels_of};
 ghost use Rattle.lvish_run.specs.Picked.{IsPicked};
 ghost use Rattle.lvish_run.specs.Alike.{IsAlike};
@@ -9,7 +10,7 @@ use crate::account::report_of;
 use crate::entry::Entry;
 use crate::picks::pick_at;
 use crate::report::Report;
-use lvish_calculus::laws::same_end;
+use lvish_calculus::laws::{handing_kept, same_end};
 use lvish_calculus::{Label, Meaning, Program};
 use lvish_core::laws::{takes_core_runs, takes_something};
 use lvish_core::{Core, Runs, StepFault};
@@ -85,9 +86,12 @@ pub fn run_program<P: Program>(
     requires small { budget ≤ 1000000 }
     ensures honest { IfOk result (λ r. IsHonest (⟦<P as Meaning>⟧.machine program.now) (P.functions program.now).variables 1 budget r) }
     ensures picked { IfOk result (λ r. IsPicked P.Lat.Event.cmp (⟦<P as Meaning>⟧.machine program.now) picks.now [] (Running (start (⟦<P as Meaning>⟧.machine program.now))) (labels_of r.trace)) }
+    // What handlers are handed in it.
+    ensures handed { IfOk result (λ r. IsHandedWell (⟦<P as Meaning>⟧.machine program.now) (labels_of r.trace)) }
     // What it says of all other runs that end without an error.
     ensures alike { IfOk result (λ r. IsAlike (⟦<P as Meaning>⟧.machine program.now) (P.functions program.now).variables r) }
 {
+    handing_kept::<P>();
     same_end::<P>();
     takes_something::<P>();
     let mut core = Core::new(alloc, program)?;
