@@ -1,6 +1,7 @@
 pub mod Machine
 pub mod Program
 pub mod Calculus
+pub mod SameRuns
 pub mod Laws
 pub mod Handing
 pub mod Live
