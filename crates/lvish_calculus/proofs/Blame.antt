@@ -1,7 +1,7 @@
 -- Whose error it is.
-use Rattle.std.proofs.Common.{◌≡◌, ℕ, suc, Bool, true, false, Option, Some, None, refl, subst, if◌then◌else◌}
+use Rattle.std.proofs.Common.{◌≡◌, ℕ, Bool, true, false, Option, Some, None, refl, subst, if◌then◌else◌}
 use Rattle.lvish_calculus.specs.Machine.{Machine, ErrorKind, Frozen, Late, Deep, Request, Put, Get, Fork, Add, Freeze, Pause, End, Fault}
-use Rattle.lvish_calculus.specs.Calculus.{Name, Handler, Post, Task, Absent, Live, Ended, State, Act, Outcome, Changes, Fails, Nothing, outcome, put_outcome, get_outcome, add_outcome, request_outcome, task_outcome, is_deep}
+use Rattle.lvish_calculus.specs.Calculus.{Name, Handler, Post, Task, Absent, Live, Ended, State, Act, Outcome, Changes, Fails, Nothing, outcome, put_outcome, get_outcome, add_outcome, request_outcome, task_outcome}
 
 module _ {S E L : Type 0} where
   -- an error is this task's
