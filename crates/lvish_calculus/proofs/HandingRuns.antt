@@ -12,14 +12,14 @@ use Rattle.lvish_calculus.proofs.Names.{cases_handler, same_handler-other, nat_e
 use Rattle.lvish_calculus.proofs.Sound.{some_is}
 use Rattle.lvish_calculus.proofs.WorkedRuns.{by_names, nat_same, ended_dead, absent_dead, ends}
 
-abbrev three_copied : Name ℕ
+abbrev pub three_copied : Name ℕ
 three_copied = handed main 1 3
 
-abbrev one_copied : Name ℕ
+abbrev pub one_copied : Name ℕ
 one_copied = handed main 1 1
 
 -- of s, which has 1 and 3, the one handler was handed both
-record IsDrained (c : State Set ℕ HandingAt) : Type 0 where
+pub record IsDrained (c : State Set ℕ HandingAt) : Type 0 where
   pub content : numbers (c.content 0) ≡ 1 ∷ 3 ∷ []
   pub post : Post
   pub is : c.handlers copier ≡ Some post
@@ -55,7 +55,7 @@ nothing_to_hand : (c : State Set ℕ HandingAt) → IsDrained c → (h : Handler
 nothing_to_hand c d h e hand = both_ways _ hand.unhandled (all_handled c d h e hand.variable hand.on hand.below)
 
 -- s may be frozen after the handler's tasks
-can_freeze : (c : State Set ℕ HandingAt) → IsDrained c → c.tasks three_copied ≡ Ended → c.tasks one_copied ≡ Ended
+pub can_freeze : (c : State Set ℕ HandingAt) → IsDrained c → c.tasks three_copied ≡ Ended → c.tasks one_copied ≡ Ended
     → ((n : Name ℕ) → same_name nat_eq n main ≡ false → same_name nat_eq n three_copied ≡ false → same_name nat_eq n one_copied ≡ false → c.tasks n ≡ Absent)
     → IsQuiet (over_sets handing) c 0 (0 ∷ [])
 can_freeze c d three one others = record {

@@ -1,10 +1,12 @@
 -- Worked runs, computed.
-use Rattle.std.proofs.Common.{◌≡◌, ◌↔◌, ℕ, Bool, true, false, List, [], Some, None, refl, sym, subst, ◌∙◌, arith, inl, inr, nat_eq}
-use Rattle.lvish_calculus.specs.Machine.{Machine}
-use Rattle.lvish_calculus.specs.Calculus.{State, Running, Name, main, Handler, Label, Act, Hand, Task, Live, Absent, Ended, IsLive, is_live, IsQuiet, IsToHand, IsEnabled, IsReadyTask, same_name}
-use Rattle.lvish_calculus.specs.Laws.{IsCrossed}
+use Rattle.std.proofs.Common.{◌≡◌, ◌⊎◌, ◌↔◌, ℕ, Bool, true, false, ◌||◌, List, [], Some, None, refl, sym, subst, ap, ◌∙◌, arith, inl, inr, nat_eq}
+use Rattle.std.proofs.lemmas.Bool.{both_ways}
+use Rattle.lvish_calculus.specs.Machine.{Machine, Request, Freeze}
+use Rattle.lvish_calculus.specs.Calculus.{State, Running, Name, main, Handler, Label, Act, Hand, Task, Live, Absent, Ended, IsLive, is_live, IsQuiet, IsToHand, IsEnabled, IsEnd, IsReadyTask, Freezes, start, same_name}
+use Rattle.lvish_calculus.specs.Laws.{IsCrossed, FreezesBefore}
+use Rattle.lvish_calculus.specs.Live.{HasLive}
 use Rattle.lvish_calculus.specs.Program.{Functions}
-use Rattle.lvish_calculus.specs.Examples.{Set, over_sets, LeadsTo, EndsAs, shown, CrossingAt, crossing, u_first, t_first, u_first_end, t_first_end, u, t, u_freezing, t_freezing}
+use Rattle.lvish_calculus.specs.Examples.{Set, over_sets, LeadsTo, EndsAs, shown, CrossingAt, crossing, u_first, t_first, both_freeze, u_first_end, t_first_end, u, t, u_freezing, t_freezing}
 use Rattle.lvish_calculus.specs.Examples.{LateAt, late, put_first, put_first_end, writer}
 use Rattle.lvish_calculus.proofs.Names.{cases_name, same_name-other, nat_eq-true, nat_eq-refl}
 
@@ -49,34 +51,32 @@ absent_dead (Live l f a p) e x = cc
 absent_dead Ended e x = elim x [ ]
 
 -- a configuration in which these three tasks have ended, and there is no other
-pub record IsOver {L : Type 0} (c : State Set ℕ L) (x y z : Name ℕ) : Type 0 where
+pub record IsOver {S L : Type 0} (c : State S ℕ L) (x y z : Name ℕ) : Type 0 where
   pub first : c.tasks x ≡ Ended
   pub second : c.tasks y ≡ Ended
   pub third : c.tasks z ≡ Ended
   pub others : (n : Name ℕ) → same_name nat_eq n x ≡ false → same_name nat_eq n y ≡ false → same_name nat_eq n z ≡ false → c.tasks n ≡ Absent
 
--- a run to such a configuration, with nothing left to be handed, ends
+all_dead : {S L : Type 0} (c : State S ℕ L) (x y z : Name ℕ) → IsOver c x y z → (n : Name ℕ) → IsLive (c.tasks n) → ⊥
+all_dead c x y z over = by_names x y z (λ n. IsLive (c.tasks n) → ⊥) (ended_dead _ over.first) (ended_dead _ over.second) (ended_dead _ over.third)
+    (λ n p q r. absent_dead _ (over.others n p q r))
+
+pub none_live : {S L : Type 0} (c : State S ℕ L) (x y z : Name ℕ) → IsOver c x y z → HasLive c 0
+none_live c x y z over = record { names = []; once = tt; just = λ n. ((λ w. absurd w), all_dead c x y z over n); count = refl }
+
+-- with nothing left to be handed it is an end
+pub is_end : {S R A L : Type 0} (M : Machine S ℕ R A L) (c : State S ℕ L) (x y z : Name ℕ) → IsOver c x y z → ((h : Handler ℕ) (e : ℕ) → IsToHand M c h e → ⊥) → IsEnd M c
+is_end M c x y z over drained (Act n) en = all_dead c x y z over n (ready_lives M c (c.tasks n) en)
+is_end M c x y z over drained (Hand h e) en = drained h e en
+
+-- a run to such a configuration ends
 pub ends : {L : Type 0} (f : Functions Set ℕ ℕ ℕ L) (run : List (Label ℕ)) (seen : List (List ℕ × Bool)) (x y z : Name ℕ) (c : State Set ℕ L) → LeadsTo f run (Running c)
     → IsOver c x y z → ((h : Handler ℕ) (e : ℕ) → IsToHand (over_sets f) c h e → ⊥) → shown c f.variables ≡ seen → EndsAs f run seen
-ends f run seen x y z c way over drained are = record {
-  last = c;
-  reached = way;
-  ended = nothing;
-  none_left = record { names = []; once = tt; just = λ n. ((λ w. absurd w), dead n); count = refl };
-  are = are;
-}
-  where
-    dead : (n : Name ℕ) → IsLive (c.tasks n) → ⊥
-    dead = by_names x y z (λ n. IsLive (c.tasks n) → ⊥) (ended_dead _ over.first) (ended_dead _ over.second) (ended_dead _ over.third)
-        (λ n p q r. absent_dead _ (over.others n p q r))
-
-    nothing : (l : Label ℕ) → IsEnabled (over_sets f) c l → ⊥
-    nothing (Act n) en = dead n (ready_lives (over_sets f) c (c.tasks n) en)
-    nothing (Hand h e) en = drained h e en
+ends f run seen x y z c way over drained are = record { last = c; reached = way; ended = is_end (over_sets f) c x y z over drained; none_left = none_live c x y z over; are = are }
 
 -- nothing is handed where there is no handler
-no_handler : {L : Type 0} (f : Functions Set ℕ ℕ ℕ L) (c : State Set ℕ L) → ((h : Handler ℕ) → c.handlers h ≡ None) → (h : Handler ℕ) (e : ℕ) → IsToHand (over_sets f) c h e → ⊥
-no_handler f c none h e hand = let on = hand.on in let z : Some on.post ≡ None = sym on.is ∙ none h in cc
+pub no_handler : {S R A L : Type 0} (M : Machine S ℕ R A L) (c : State S ℕ L) → ((h : Handler ℕ) → c.handlers h ≡ None) → (h : Handler ℕ) (e : ℕ) → IsToHand M c h e → ⊥
+no_handler M c none h e hand = let on = hand.on in let z : Some on.post ≡ None = sym on.is ∙ none h in cc
 
 u_first_runs : (c : State Set ℕ CrossingAt) × LeadsTo crossing u_first (Running c)
 u_first_runs = (_, (tt, (tt, (tt, (quiet _ _ 0 (λ h. refl), (tt, (tt, (quiet _ _ 1 (λ h. refl), (tt, refl)))))))))
@@ -84,7 +84,7 @@ u_first_runs = (_, (tt, (tt, (tt, (quiet _ _ 0 (λ h. refl), (tt, (tt, (quiet _ 
 pub u_first_ends : EndsAs crossing u_first u_first_end
 unfolding u_first_runs
 u_first_ends = ends crossing _ _ main u t _ u_first_runs.1
-    (record { first = refl; second = refl; third = refl; others = λ n a b c. simp (a, b, c) refl }) (no_handler crossing _ (λ h. refl)) refl
+    (record { first = refl; second = refl; third = refl; others = λ n a b c. simp (a, b, c) refl }) (no_handler (over_sets crossing) _ (λ h. refl)) refl
 
 t_first_runs : (c : State Set ℕ CrossingAt) × LeadsTo crossing t_first (Running c)
 t_first_runs = (_, (tt, (tt, (tt, (quiet _ _ 1 (λ h. refl), (tt, (tt, (quiet _ _ 0 (λ h. refl), (tt, refl)))))))))
@@ -92,7 +92,7 @@ t_first_runs = (_, (tt, (tt, (tt, (quiet _ _ 1 (λ h. refl), (tt, (tt, (quiet _ 
 pub t_first_ends : EndsAs crossing t_first t_first_end
 unfolding t_first_runs
 t_first_ends = ends crossing _ _ main u t _ t_first_runs.1
-    (record { first = refl; second = refl; third = refl; others = λ n a b c. simp (a, b, c) refl }) (no_handler crossing _ (λ h. refl)) refl
+    (record { first = refl; second = refl; third = refl; others = λ n a b c. simp (a, b, c) refl }) (no_handler (over_sets crossing) _ (λ h. refl)) refl
 
 put_first_runs : (c : State Set ℕ LateAt) × LeadsTo late put_first (Running c)
 put_first_runs = (_, (tt, (tt, (quiet _ _ 0 (λ h. refl), (tt, (tt, refl))))))
@@ -100,7 +100,7 @@ put_first_runs = (_, (tt, (tt, (quiet _ _ 0 (λ h. refl), (tt, (tt, refl))))))
 pub put_first_ends : EndsAs late put_first put_first_end
 unfolding put_first_runs
 put_first_ends = ends late _ _ main writer writer _ put_first_runs.1
-    (record { first = refl; second = refl; third = refl; others = λ n a b c. simp (a, b) refl }) (no_handler late _ (λ h. refl)) refl
+    (record { first = refl; second = refl; third = refl; others = λ n a b c. simp (a, b) refl }) (no_handler (over_sets late) _ (λ h. refl)) refl
 
 pub crossed : IsCrossed (over_sets crossing) u_first t_first
 crossed = (
@@ -110,3 +110,48 @@ crossed = (
   inr (inr (inr (inl (record { task = u; local = u_freezing; forks = 0; adds = 0; puts = 0; pools = []; label = refl; is = refl; asked = refl }, refl)))),
   inr (inr (inr (inl (record { task = t; local = t_freezing; forks = 0; adds = 0; puts = 0; pools = []; label = refl; is = refl; asked = refl }, refl)))),
 )
+
+or_left : {a : Bool} → (a || false) ≡ false → a ≡ false
+or_left {a = true} e = e
+or_left {a = false} e = e
+
+-- a task that freezes a variable asks for just that
+asks_it : {S E R A L : Type 0} (M : Machine S E R A L) (c : State S E L) (n : Name E) (l : L) (f a p v : ℕ) → c.tasks n ≡ Live l f a p → Freezes M c (Act n) v
+    → (pools : List ℕ) × (M.request l ≡ Freeze v pools)
+asks_it M c n l f a p v is z =
+    let label : Act n ≡ Act z.task = z.label in
+    let same : n ≡ z.task = cc in
+    let there : Live l f a p ≡ Live z.local z.forks z.adds z.puts = sym is ∙ ap c.tasks same ∙ z.is in
+    let local : l ≡ z.local = cc in
+    (z.pools, ap M.request local ∙ z.asked)
+
+-- u freezes v first, and then t freezes w
+in_order : (v w : ℕ) → FreezesBefore (over_sets crossing) (Running (start (over_sets crossing))) u_first v w → (v ≡ 0) ⊎ ((v ≡ 1) × (nat_eq w 0 ≡ false))
+in_order v w (inl x) = let z = (asks_it _ _ main _ _ _ _ v refl x.0).1 in absurd cc
+in_order v w (inr (inl x)) = let z = (asks_it _ _ main _ _ _ _ v refl x.0).1 in absurd cc
+in_order v w (inr (inr (inl x))) = let z = (asks_it _ _ main _ _ _ _ v refl x.0).1 in absurd cc
+in_order v w (inr (inr (inr (inl x)))) = let z = (asks_it _ _ u _ _ _ _ v refl x.0).1 in inl cc
+in_order v w (inr (inr (inr (inr (inl x))))) = let z = (asks_it _ _ u _ _ _ _ v refl x.0).1 in absurd cc
+in_order v w (inr (inr (inr (inr (inr (inl x)))))) = let z = (asks_it _ _ u _ _ _ _ v refl x.0).1 in absurd cc
+in_order v w (inr (inr (inr (inr (inr (inr (inl x))))))) = let z = (asks_it _ _ t _ _ _ _ v refl x.0).1 in inr (cc, or_left x.1)
+in_order v w (inr (inr (inr (inr (inr (inr (inr (inl x)))))))) = let z = (asks_it _ _ t _ _ _ _ v refl x.0).1 in absurd cc
+in_order v w (inr (inr (inr (inr (inr (inr (inr (inr x)))))))) = absurd x
+
+-- and so where both freeze before they put
+in_order_too : (w v : ℕ) → FreezesBefore (over_sets crossing) (Running (start (over_sets crossing))) both_freeze w v → (w ≡ 0) ⊎ ((w ≡ 1) × (nat_eq v 0 ≡ false))
+in_order_too w v (inl x) = let z = (asks_it _ _ main _ _ _ _ w refl x.0).1 in absurd cc
+in_order_too w v (inr (inl x)) = let z = (asks_it _ _ main _ _ _ _ w refl x.0).1 in absurd cc
+in_order_too w v (inr (inr (inl x))) = let z = (asks_it _ _ main _ _ _ _ w refl x.0).1 in absurd cc
+in_order_too w v (inr (inr (inr (inl x)))) = let z = (asks_it _ _ u _ _ _ _ w refl x.0).1 in inl cc
+in_order_too w v (inr (inr (inr (inr (inl x))))) = let z = (asks_it _ _ t _ _ _ _ w refl x.0).1 in inr (cc, or_left x.1)
+in_order_too w v (inr (inr (inr (inr (inr (inl x)))))) = let z = (asks_it _ _ u _ _ _ _ w refl x.0).1 in absurd cc
+in_order_too w v (inr (inr (inr (inr (inr (inr x)))))) = absurd x
+
+apart : (v w : ℕ) → (v ≡ w → ⊥) → (v ≡ 0) ⊎ ((v ≡ 1) × (nat_eq w 0 ≡ false)) → (w ≡ 0) ⊎ ((w ≡ 1) × (nat_eq v 0 ≡ false)) → ⊥
+apart v w ne (inl a) (inl b) = ne (a ∙ sym b)
+apart v w ne (inl a) (inr b) = let z : nat_eq v 0 ≡ true = ap (λ x. nat_eq x 0) a in both_ways _ b.1 z
+apart v w ne (inr a) (inl b) = let z : nat_eq w 0 ≡ true = ap (λ x. nat_eq x 0) b in both_ways _ a.1 z
+apart v w ne (inr a) (inr b) = ne (a.0 ∙ sym b.0)
+
+pub uncrossed : IsCrossed (over_sets crossing) u_first both_freeze → ⊥
+uncrossed z = apart z.0 z.1 z.2 (in_order z.0 z.1 z.3) (in_order_too z.1 z.0 z.4)

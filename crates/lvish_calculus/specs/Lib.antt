@@ -7,3 +7,5 @@ pub mod Handing
 pub mod Live
 pub mod Waiting
 pub mod Examples
+pub mod WaitingExamples
+pub mod ErrorExamples

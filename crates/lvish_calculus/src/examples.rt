@@ -17,6 +17,8 @@ pub fn crossing_runs()
     // v = {0}, w = {}.
     ensures t_first { EndsAs crossing t_first t_first_end }
     ensures crossed { IsCrossed (over_sets crossing) u_first t_first }
+    // u freezes v before t freezes w in both.
+    ensures uncrossed { IsCrossed (over_sets crossing) u_first both_freeze → ⊥ }
     // Frozen, by u's put into w.
     ensures error { LeadsTo crossing both_freeze both_freeze_error }
 {}

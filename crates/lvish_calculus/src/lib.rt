@@ -7,12 +7,14 @@
 //! contracts are the laws, of every program and every run.
 #![tactic(auto)]
 
+pub mod error_examples;
 pub mod examples;
 pub mod label;
 pub mod laws;
 pub mod meaning;
 pub mod program;
 pub mod request;
+pub mod waiting_examples;
 
 pub use label::Label;
 pub use meaning::Meaning;

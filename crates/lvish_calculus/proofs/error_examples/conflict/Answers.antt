@@ -1,0 +1,8 @@
+use Rattle.lvish_calculus.proofs.ErrorRuns.{undoomed_after_fork, doomed_after_two}
+use Rattle.lvish_calculus.proofs.error_examples.conflict.Goals as goal
+
+pub returns-clause-undoomed : goal.returns-clause-undoomed
+returns-clause-undoomed g = undoomed_after_fork
+
+pub returns-clause-doomed : goal.returns-clause-doomed
+returns-clause-doomed g = doomed_after_two

@@ -1,0 +1,5 @@
+use Rattle.lvish_calculus.proofs.ErrorRuns.{add_first_ends}
+use Rattle.lvish_calculus.proofs.error_examples.late_add.Goals as goal
+
+pub returns-clause-add_first : goal.returns-clause-add_first
+returns-clause-add_first g = add_first_ends
