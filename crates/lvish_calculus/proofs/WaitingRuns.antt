@@ -3,7 +3,7 @@ use Rattle.std.proofs.Common.{◌≡◌, ℕ, true, false, List, [], ◌∷◌, 
 use Rattle.std.proofs.lemmas.Bool.{cases_Bool, both_ways}
 use Rattle.std.proofs.lemmas.Map.Views.{list_any-from_Contains}
 use Rattle.std.specs.Cmp.{nat_eq_equiv}
-use Rattle.lvish_calculus.specs.Calculus.{State, Running, Name, main, Handler, Post, Live, Ended, Absent, IsLive, is_live, IsOn, IsQuiet, IsToHand, same_name, same_handler, handler_of}
+use Rattle.lvish_calculus.specs.Calculus.{State, Running, Name, main, Handler, Post, Ended, Absent, IsLive, is_live, IsOn, IsQuiet, IsToHand, same_name, same_handler, handler_of}
 use Rattle.lvish_calculus.specs.Laws.{Reaches}
 use Rattle.lvish_calculus.specs.Examples.{Set, over_sets, EndsAs, LeadsTo, numbers, HandingAt, handing, copier}
 use Rattle.lvish_calculus.specs.WaitingExamples.{IsBlockedAfter, IsEnabledAfter, EndsHolding, over_counters, LevelAt, level, reader, until_fork, until_one, until_three, level_run, three_and_two}

@@ -1,8 +1,8 @@
 -- Worked runs, computed.
 use Rattle.std.proofs.Common.{◌≡◌, ◌⊎◌, ◌↔◌, ℕ, Bool, true, false, ◌||◌, List, [], Some, None, refl, sym, subst, ap, ◌∙◌, arith, inl, inr, nat_eq}
 use Rattle.std.proofs.lemmas.Bool.{both_ways}
-use Rattle.lvish_calculus.specs.Machine.{Machine, Request, Freeze}
-use Rattle.lvish_calculus.specs.Calculus.{State, Running, Name, main, Handler, Label, Act, Hand, Task, Live, Absent, Ended, IsLive, is_live, IsQuiet, IsToHand, IsEnabled, IsEnd, IsReadyTask, Freezes, start, same_name}
+use Rattle.lvish_calculus.specs.Machine.{Machine, Freeze}
+use Rattle.lvish_calculus.specs.Calculus.{State, Running, Name, main, Handler, Label, Act, Hand, Task, Live, Absent, Ended, IsLive, is_live, IsQuiet, IsToHand, IsEnd, IsReadyTask, Freezes, start, same_name}
 use Rattle.lvish_calculus.specs.Laws.{IsCrossed, FreezesBefore}
 use Rattle.lvish_calculus.specs.Live.{HasLive}
 use Rattle.lvish_calculus.specs.Program.{Functions}

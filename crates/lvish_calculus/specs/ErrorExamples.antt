@@ -1,5 +1,5 @@
 -- Small programs whose runs meet an error.
-use Rattle.std.specs.Prelude.{◌≡◌, ℕ, zero, suc, Bool, true, false, List, [], ◌∷◌, Option, Some, None, nat_eq, if◌then◌else◌}
+use Rattle.std.specs.Prelude.{ℕ, zero, suc, Bool, true, false, List, [], ◌∷◌, Option, Some, None, nat_eq, if◌then◌else◌}
 use Rattle.std.specs.Ordering.{nat_cmp}
 use Rattle.lvish_calculus.specs.Machine.{Machine, ErrorKind, Request, Put, Fork, Add, Freeze, End, Reply}
 use Rattle.lvish_calculus.specs.Program.{Functions, machine_of}

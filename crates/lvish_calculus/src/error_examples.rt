@@ -32,5 +32,7 @@ pub fn late_add()
 ///
 /// Each task forks one that does the same.
 pub fn deep_fork()
-    ensures { MeetsError (over_sets chain) (forks_from 0 65) Deep None (nested 64) }
+    ensures deep { MeetsError (over_sets chain) (forks_from 0 65) Deep None (nested 64) }
+    // The step of the task whose name has 64 parts can't be made.
+    ensures doomed { IsDoomedAfter (over_sets chain) (forks_from 0 64) }
 {}
