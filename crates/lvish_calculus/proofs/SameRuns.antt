@@ -1,5 +1,5 @@
 -- Programs whose local states are matched have the same runs.
-use Rattle.std.proofs.Common.{◌≡◌, ◌↔◌, ℕ, suc, Bool, true, false, not, ◌&&◌, List, [], ◌∷◌, Option, Some, None, IsSome, Contains, Ordering, if◌then◌else◌, refl, sym, ◌∙◌, subst}
+use Rattle.std.proofs.Common.{◌≡◌, ℕ, suc, Bool, true, false, not, ◌&&◌, List, [], ◌∷◌, Option, Some, None, IsSome, Contains, Ordering, if◌then◌else◌, refl, sym, ◌∙◌, subst}
 use Rattle.lvish_calculus.specs.Machine.{Machine, Request, Put, Get, Fork, Add, Freeze, Pause, End, Fault, Reply, Done, Answer, Content, ErrorKind, Conflict, Frozen, Late, Deep}
 use Rattle.lvish_calculus.specs.Program.{Functions, IsReplyTo, machine_of}
 use Rattle.lvish_calculus.specs.Calculus.{Name, main, forked, handed, Handler, Task, Absent, Live, Ended, Post, State, Configuration, Running, Error, Label, Act, Hand, Change, changed, Outcome, Changes, Fails, Nothing, just, put_outcome, get_outcome, add_outcome, request_outcome, task_outcome, hand_outcome, outcome, after, step, start, IsRun, IsOn, IsIn, IsLive, is_live, IsQuiet, IsReady, IsReadyTask, IsEnabled, is_deep, same_name, same_handler, with_task, with_handler, with_join, with_frozen, with_handled}
@@ -319,9 +319,8 @@ module _ {S E R A L K : Type 0} (same : S → S → Bool) (event_same : E → E 
 -- programs whose local states are matched have the same runs
 pub matching_runs : {S E R A L K : Type 0} (same : S → S → Bool) (event_same : E → E → Bool) (cmp : E → E → Ordering) (bottom : S) (join : S → S → Option S) (events : S → List E) (answer : R → S → Option A)
     (f : Functions S E R A L) (g : Functions S E R A K) (P : L → K → Type 0) (Q : ℕ → Type 0)
-    → ((a b : E) → (event_same a b ≡ true) ↔ (a ≡ b))
     → IsMatch f g P Q → HaveSameRuns (machine_of same event_same cmp bottom join events answer f) (machine_of same event_same cmp bottom join events answer g)
-matching_runs same event_same cmp bottom join events answer f g P Q identical ok = record {
+matching_runs same event_same cmp bottom join events answer f g P Q ok = record {
   pools = ok.pools;
   there = runs_are_of same event_same cmp bottom join events answer f g P Q ok;
   back = runs_are_of same event_same cmp bottom join events answer g f (λ k l. P l k) Q (flip ok);
