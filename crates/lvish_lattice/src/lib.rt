@@ -33,6 +33,7 @@ mod grow_set;
 mod integers;
 mod items;
 mod lattice;
+pub mod laws;
 mod max_counter;
 mod numbered;
 mod reads;
