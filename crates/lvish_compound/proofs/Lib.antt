@@ -4,3 +4,5 @@ pub mod Maps
 pub mod Brought
 pub mod Values
 pub mod Answered
+pub mod Clashes
+pub mod StatesClash

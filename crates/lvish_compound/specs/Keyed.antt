@@ -49,7 +49,7 @@ module _ {K L : Type 0} (R : K → K → Ordering) (least : L) (join : L → L �
     unit_right a = j.commutative a least ∙ j.unit a
 
     -- a key below the others holds nothing among them
-    at_below : (k q : K) (es : List (K × L)) → Below k es → eq_by_cmp R q k ≡ true → at es q ≡ least
+    pub at_below : (k q : K) (es : List (K × L)) → Below k es → eq_by_cmp R q k ≡ true → at es q ≡ least
     at_below k q [] b t = refl
     at_below k q (e ∷ es) b t = ap (λ r. cond (is_eq r) e.1 (at es q)) (o.congr q k e.0 ((Equal-is (R q k)).0 t) ∙ b.0) ∙ at_below k q es b.1 t
 
@@ -66,7 +66,7 @@ module _ {K L : Type 0} (R : K → K → Ordering) (least : L) (join : L → L �
     abbrev Joins : List (K × L) → List (K × L) → List (K × L) → K → Type 0
     Joins es fs gs q = join (at es q) (at fs q) ≡ Some (at gs q)
 
-    add_joins : (k : K) (v : L) (es gs : List (K × L)) → S es → add k v es ≡ Some gs → (q : K) → Joins es ((k, v) ∷ []) gs q
+    pub add_joins : (k : K) (v : L) (es gs : List (K × L)) → S es → add k v es ≡ Some gs → (q : K) → Joins es ((k, v) ∷ []) gs q
     unfolding IsStrictlySortedBy
     add_joins k v [] gs s h q = let e : (k, v) ∷ [] ≡ gs = same_some _ _ h in subst (λ zs. Joins [] ((k, v) ∷ []) zs q) e (j.unit _)
     add_joins k v (e ∷ es) gs s h q = by_rank (λ x. x ≡ Some gs → Joins (e ∷ es) ((k, v) ∷ []) gs q) (R k e.0) _ _ _

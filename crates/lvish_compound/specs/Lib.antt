@@ -36,3 +36,4 @@ pub mod StateReads
 pub mod PartReads
 pub mod AnyReads
 pub mod AnyReadLaws
+pub mod Clashes

@@ -35,6 +35,7 @@ mod entries;
 mod event;
 mod keyed;
 mod kind;
+pub mod laws;
 mod map_of;
 mod map_reads;
 mod number_test;
