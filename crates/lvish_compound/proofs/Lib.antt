@@ -6,3 +6,4 @@ pub mod Values
 pub mod Answered
 pub mod Clashes
 pub mod StatesClash
+pub mod Refused

@@ -37,3 +37,4 @@ pub mod PartReads
 pub mod AnyReads
 pub mod AnyReadLaws
 pub mod Clashes
+pub mod Refusals

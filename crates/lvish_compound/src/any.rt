@@ -1,5 +1,6 @@
-ghost use Rattle.std.specs.Prelude.{◌≡◌, Some, None, IfOk, IfErr, [], cond};
+ghost use Rattle.std.specs.Prelude.{◌≡◌, ◌⊎◌, ◌↔◌, Some, None, IfOk, IfErr, IsErr, [], cond, pos, ◌<ℤ◌};
 ghost use Rattle.lvish_compound.specs.Parts.{is_empty};
+ghost use Rattle.lvish_compound.specs.Refusals.{IsNoSide, IsNoPart};
 
 use crate::above::Above;
 use crate::any_events::{entry_events, part_events, side_events};
@@ -51,6 +52,7 @@ impl Any {
     pub fn counter(number: i64) -> Result<Any, Range>
         ensures ok { IfOk result (λ s. counter number ≡ Some s) }
         ensures range { IfErr result (λ _. counter number ≡ None) }
+        ensures refused { IsErr result ↔ ((number <ℤ pos 0) ⊎ (pos 1000 <ℤ number)) }
     {
         let max = MaxCounter::new(number)?;
         if number == 0 {
@@ -71,6 +73,7 @@ impl Any {
     pub fn side(number: u8, state: Any) -> Result<Any, Wrong>
         ensures ok { IfOk result (λ s. side number state ≡ Some s) }
         ensures wrong { IfErr result (λ _. side number state ≡ None) }
+        ensures refused { IsErr result ↔ (IsNoSide number ⊎ IsNoPart state) }
     {
         let Any::Part(part) = state else {
             return Err(Wrong);

@@ -1,5 +1,6 @@
-ghost use Rattle.std.specs.Prelude.{◌≡◌, ◌↔◌, true, IfOk, IsOk, IsTrue};
+ghost use Rattle.std.specs.Prelude.{◌≡◌, ◌↔◌, true, IfOk, IsOk, IsErr, IsTrue};
 ghost use Rattle.lvish_compound.specs.Places.{fits, IsApart};
+ghost use Rattle.lvish_compound.specs.Refusals.{IsRefused};
 
 use crate::any::Any;
 use crate::kind::Kind;
@@ -27,6 +28,7 @@ impl AnyRead {
         ensures place { IfOk result (λ r. place_of r ≡ place) }
         ensures test { IfOk result (λ r. test_of r ≡ test) }
         ensures accepts { IsOk result ↔ IsTrue (fits place test) }
+        ensures refused { IsErr result ↔ IsRefused place test }
     {
         if !place.fits(&test) {
             return Err(Range);

@@ -1,0 +1,39 @@
+-- What no state holds, and no read waits for.
+use Rattle.std.specs.Prelude.{◌≡◌, ◌≢◌, ◌⊎◌, ℕ, ℤ, pos, ◌<ℤ◌, Contains}
+use Rattle.lvish_compound.specs.declared.any.Any.{Any}
+use Rattle.lvish_compound.specs.declared.any.Any.TheVariants as any
+use Rattle.lvish_compound.specs.declared.kind.Kind.TheVariants as kind
+use Rattle.lvish_compound.specs.declared.number_test.Test.{Test}
+use Rattle.lvish_compound.specs.declared.number_test.Test.TheVariants as test
+use Rattle.lvish_compound.specs.declared.place.Place.{Place}
+use Rattle.lvish_compound.specs.declared.place.Place.TheVariants as place
+
+-- a number that no counter holds
+abbrev pub IsBeyond : ℤ → Type 0
+IsBeyond n = (n <ℤ pos 0) ⊎ (pos 1000 <ℤ n)
+
+-- a number that no side has
+abbrev pub IsNoSide : ℕ → Type 0
+IsNoSide i = (i ≢ 1) × (i ≢ 2)
+
+-- a state that is no part: a map, or two sides
+abbrev pub IsNoPart : Any → Type 0
+IsNoPart (any.Part s) = ⊥
+IsNoPart (any.Map x) = Unit {0}
+IsNoPart (any.Sides z) = Unit {0}
+
+-- a number that a test mentions
+abbrev pub Mentions : Test → ℤ → Type 0
+Mentions test.Any n = ⊥
+Mentions (test.In xs) n = Contains xs n
+Mentions (test.At m) n = m ≡ n
+
+-- a test that mentions a number that no counter holds
+abbrev pub IsBeyondCounters : Test → Type 0
+IsBeyondCounters t = (n : ℤ) × Mentions t n × IsBeyond n
+
+-- A read is refused: of a counter by a number that no counter holds, and of a side that there isn't, as a map, or as a counter by such a number.
+abbrev pub IsRefused : Place → Test → Type 0
+IsRefused place.Max t = IsBeyondCounters t
+IsRefused (place.Side i l) t = IsNoSide i ⊎ (l ≡ kind.Map) ⊎ ((l ≡ kind.Max) × IsBeyondCounters t)
+IsRefused p t = ⊥
