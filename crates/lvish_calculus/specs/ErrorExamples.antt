@@ -11,7 +11,7 @@ use Rattle.lvish_calculus.specs.Examples.{Set}
 abbrev pub MeetsError : {S E R A L : Type 0} → Machine S E R A L → List (Label E) → ErrorKind → Option ℕ → Name E → Type 0
 MeetsError M run kind v t = IsRun M (Running (start M)) run (Error kind v t)
 
--- after the run an error can't be avoided
+-- after the run some task is at a step that is an error
 pub record IsDoomedAfter {S E R A L : Type 0} (M : Machine S E R A L) (run : List (Label E)) : Type 0 where
   pub there : State S E L
   pub reached : Reaches M run there

@@ -13,9 +13,9 @@ ghost use Rattle.lvish_calculus.specs.ErrorExamples.{late_handler, adder, freeze
 pub fn conflict()
     ensures two_first { MeetsError (over_cells two_numbers) two_first Conflict (Some 0) one_writer }
     ensures one_first { MeetsError (over_cells two_numbers) one_first Conflict (Some 0) main }
-    // Before the first put nothing is lost.
+    // Before the first put neither is at a step that is an error.
     ensures undoomed { IsUndoomedAfter (over_cells two_numbers) until_fork }
-    // After it the other put can't be made.
+    // After main's, the other task is.
     ensures doomed { IsDoomedAfter (over_cells two_numbers) until_two }
 {}
 
@@ -33,6 +33,6 @@ pub fn late_add()
 /// Each task forks one that does the same.
 pub fn deep_fork()
     ensures deep { MeetsError (over_sets chain) (forks_from 0 65) Deep None (nested 64) }
-    // The step of the task whose name has 64 parts can't be made.
+    // Before the last step its task is at one that is an error.
     ensures doomed { IsDoomedAfter (over_sets chain) (forks_from 0 64) }
 {}
