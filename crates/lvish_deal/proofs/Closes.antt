@@ -1,24 +1,24 @@
 -- The steps in which a deal is closed.
-use Rattle.std.proofs.Common.{◌≡◌, ℕ, zero, suc, ◌+◌, ◌-◌, ◌<◌, ◌≤◌, List, [], ◌∷◌, ◌++◌, length, map, set, get_or, drop, refl, ap, ◌∙◌, sym, subst, append_assoc, append-nil, length-append, arith}
+use Rattle.std.proofs.Common.{◌≡◌, ◌≢◌, ℕ, zero, suc, ◌+◌, ◌-◌, ◌<◌, ◌≤◌, List, [], ◌∷◌, ◌++◌, length, map, set, get_or, drop, refl, ap, ◌∙◌, sym, subst, append_assoc, append-nil, arith}
 use Rattle.std.specs.Prelude.{All, Result, is_ok, Bool, true, cond, vec_capacity}
 use Rattle.std.specs.Global.{Vec}
 use native.Mathlib.Decide.{ℕ_discrete}
 use mathlib.Core.Logic.{dite}
-use Rattle.std.proofs.lemmas.List.{get_or-set_same, get_or-set_other, get_or-map, get_or_default, get_or_append_left, length_push, length-map, drop_more}
-use Rattle.std.proofs.Math.Seq.{get_or-append_seam, drop-length}
+use Rattle.std.proofs.lemmas.List.{get_or-set_same, get_or-set_other, get_or-map, get_or_default, get_or_append_left, length_push, length-map, map-append, drop_more}
+use Rattle.std.specs.List.{sum_by}
+use Rattle.std.proofs.lemmas.List.Sums.{sum_by-cons, sum_by-append}
+use Rattle.std.proofs.Math.Seq.{drop-length}
 use Rattle.std.proofs.lemmas.List.Elements.{All-nil, All-cons}
 use Rattle.crossbeam_deque.specs.Handles.{worker_deque, worker_view}
 use Rattle.lvish_deal.specs.declared.log.Log.{Log}
 use Rattle.lvish_deal.specs.declared.reach.Reach.{Reach}
-use Rattle.lvish_deal.specs.Reaches.{reach_deque, reach_got}
-use Rattle.lvish_deal.specs.Rule.{log, Told, rest_of}
+use Rattle.lvish_deal.specs.Reaches.{reach_deque, reach_view, reach_got}
+use Rattle.lvish_deal.specs.Rule.{log, parts, got, Told, rest_of}
+use Rattle.lvish_deal.proofs.Lists.{get_or_last}
 use Rattle.lvish_deal.proofs.Rules.{rest_short}
 use Rattle.lvish_deal.specs.Place.{Place, Deal, AreSeatsFrom, IsSettled, thefts}
 use Rattle.lvish_deal.specs.Deals.{Own, deques}
 use Rattle.lvish_deal.specs.Closes.{IsJoined, IsOpen, IsWhole, HasRoom, AreRooms, IsPart, AreParts, column}
-
-get_or_last : {X : Type 0} (xs : List X) (x : X) (k : ℕ) (d : X) → length xs ≡ k → get_or (xs ++ x ∷ []) k d ≡ x
-get_or_last xs x k d e = subst (λ (n : ℕ). get_or (xs ++ x ∷ []) n d ≡ x) e (get_or-append_seam xs x [] d)
 
 pub inserted : {X A E : Type 0} (r : Result A E) (a b c : List X) → c ≡ cond (is_ok r) a b → is_ok r ≡ true → c ≡ a
 inserted r a b c e ok = e ∙ ap (λ (t : Bool). cond t a b) ok
@@ -36,13 +36,13 @@ module _ {T : Type 0} where
   JoinedFrom k row ws now = (j : ℕ) (d : Own T) → j < length ws → (j < k → get_or now j d ≡ get_or ws j d) × (k ≤ j → IsJoined (column j (row ∷ [])) (get_or ws j d) (get_or now j d))
 
   pub join_step : (row : Vec (Reach T)) (ws now : List (Own T)) (k : ℕ) (r : Reach T) (w w' : Own T) → k < length ws → length now ≡ length ws → k < length row.items → get_or row.items k r ≡ r → w ≡ get_or now k w → JoinedFrom (k + 1) row ws now
-      → IsJoined (reach_got r ∷ []) w w' → JoinedFrom k row ws (set now k w')
+      → IsJoined (reach_view r ∷ []) w w' → JoinedFrom k row ws (set now k w')
   join_step row ws now k r w w' inside long within here own joined new j d at =
       dite (ℕ_discrete j k)
       (λ (e : j ≡ k).
       let was : w ≡ get_or ws k d = own ∙ (joined k w inside).0 (omega arith) ∙ get_or_default ws k w d inside in
-      let got : get_or (map reach_got row.items) k [] ≡ reach_got r = get_or-map reach_got row.items k r [] within ∙ ap reach_got here in
-      let done : IsJoined (column k (row ∷ [])) (get_or ws k d) w' = subst (λ (v : Own T). IsJoined (column k (row ∷ [])) v w') was (subst (λ (l : List T). IsJoined (l ∷ []) w w') (sym got) new) in
+      let view : get_or (map reach_view row.items) k (log 0 [] [] []) ≡ reach_view r = get_or-map reach_view row.items k r (log 0 [] [] []) within ∙ ap reach_view here in
+      let done : IsJoined (column k (row ∷ [])) (get_or ws k d) w' = subst (λ (v : Own T). IsJoined (column k (row ∷ [])) v w') was (subst (λ (v : Log T). IsJoined (v ∷ []) w w') (sym view) new) in
       ((λ below. absurd (omega arith)), λ _. rw (e, get_or-set_same now k w' d (omega arith)) done))
       (λ (ne : ¬ (j ≡ k)).
       let old = joined j d at in
@@ -54,21 +54,21 @@ module _ {T : Type 0} where
       let e = worker_deque w in
       ap reach_deque (sym here) ∙ sym (get_or-map reach_deque row k r e a) ∙ ap (λ l. get_or l k e) (is ∙ sym names) ∙ get_or-map worker_deque now k w e b ∙ ap worker_deque (sym own)
 
-  pub joined_twice : (xs ys : List (List T)) (w w' w'' : Own T) → IsJoined xs w w' → IsJoined ys w' w'' → IsJoined (ys ++ xs) w w''
+  pub joined_twice : (xs ys : List (Log T)) (w w' w'' : Own T) → IsJoined xs w w' → IsJoined ys w' w'' → IsJoined (ys ++ xs) w w''
   joined_twice xs ys w w' w'' a b =
-      let counts : (worker_view w).parts + length xs + length ys ≡ (worker_view w).parts + length (ys ++ xs) = omega (arith, length-append ys xs) in
-      let lists = sym (append_assoc ys xs (worker_view w).joined) in record {
+      let counts : (worker_view w).parts + sum_by parts xs + sum_by parts ys ≡ (worker_view w).parts + sum_by parts (ys ++ xs) = omega (arith, sum_by-append parts ys xs) in
+      let lists : map got ys ++ (map got xs ++ (worker_view w).joined) ≡ map got (ys ++ xs) ++ (worker_view w).joined = sym (append_assoc (map got ys) (map got xs) (worker_view w).joined) ∙ ap (λ (l : List (List T)). l ++ (worker_view w).joined) (sym (map-append got ys xs)) in record {
         deque = b.deque ∙ a.deque;
         port = b.port ∙ a.port;
         flavor = b.flavor ∙ a.flavor;
-        view = b.view ∙ ap (λ (v : Log T). log (v.parts + length ys) v.sent v.got (ys ++ v.joined)) a.view ∙ (λ i. log (counts i) (worker_view w).sent (worker_view w).got (lists i));
+        view = b.view ∙ ap (λ (v : Log T). log (v.parts + sum_by parts ys) v.sent v.got (map got ys ++ v.joined)) a.view ∙ (λ i. log (counts i) (worker_view w).sent (worker_view w).got (lists i));
       }
 
   pub open_there : (row : Vec (Reach T)) (ws now : List (Own T)) (k m : ℕ) (w : Own T) → k < m → k < length ws → All IsOpen ws → w ≡ get_or now k w → JoinedFrom m row ws now → IsOpen w
   open_there row ws now k m w below inside may own joined = subst IsOpen (sym (own ∙ (joined k w inside).0 below)) (may k w inside)
 
   pub join_step_at : (row : Vec (Reach T)) (ws now : List (Own T)) (k n : ℕ) (r : Reach T) (w w' : Own T) → k ≡ n → k < length ws → length now ≡ length ws → k < length row.items → get_or row.items k r ≡ r → w ≡ get_or now k w → JoinedFrom (k + 1) row ws now
-      → IsJoined (reach_got r ∷ []) w w' → JoinedFrom n row ws (set now k w')
+      → IsJoined (reach_view r ∷ []) w w' → JoinedFrom n row ws (set now k w')
   join_step_at row ws now k n r w w' same inside long within here own joined new = subst (λ (m : ℕ). JoinedFrom m row ws (set now k w')) same (join_step row ws now k r w w' inside long within here own joined new)
 
   -- the owners were joined by the rows from the m-th on
@@ -170,13 +170,59 @@ module _ {T : Type 0} where
   rows_from deal d k (s ∷ ss) (w ∷ ws) [] a p e = absurd p
   rows_from deal d k (s ∷ ss) (w ∷ ws) (r ∷ rs) a p e = All-cons (λ (row : Vec (Reach T)). map reach_deque row.items ≡ d) r rs (p.0.deal ∙ a.0 ∙ e) (rows_from deal d (suc k) ss ws rs a.2 p.1 e)
 
-  pub columns : (j : ℕ) (ss : List (Place T)) (ws : List (Own T)) (rs : List (Vec (Reach T))) → AreParts ss ws rs → column j rs ≡ thefts j ss
+  got_at : (row : List (Reach T)) (k : ℕ) → got (get_or (map reach_view row) k (log 0 [] [] [])) ≡ get_or (map reach_got row) k []
+  got_at [] k = refl
+  got_at (x ∷ xs) zero = refl
+  got_at (x ∷ xs) (suc k) = got_at xs k
+
+  pub columns : (j : ℕ) (ss : List (Place T)) (ws : List (Own T)) (rs : List (Vec (Reach T))) → AreParts ss ws rs → map got (column j rs) ≡ thefts j ss
   columns j [] [] [] p = refl
   columns j [] [] (r ∷ rs) p = absurd p
   columns j [] (w ∷ ws) rs p = absurd p
   columns j (s ∷ ss) [] rs p = absurd p
   columns j (s ∷ ss) (w ∷ ws) [] p = absurd p
-  columns j (s ∷ ss) (w ∷ ws) (r ∷ rs) p = let rest = columns j ss ws rs p.1 in λ i. get_or (p.0.stolen i) j [] ∷ rest i
+  columns j (s ∷ ss) (w ∷ ws) (r ∷ rs) p = let rest = columns j ss ws rs p.1 in
+      let here : got (get_or (map reach_view r.items) j (log 0 [] [] [])) ≡ get_or s.stolen j [] = got_at r.items j ∙ ap (λ (l : List (List T)). get_or l j []) p.0.stolen in λ i. here i ∷ rest i
+
+  -- the part that the pass of a seat for the deque k has
+  part_here : (deal : Deal) (k : ℕ) (s : Place T) (w : Own T) (row : Vec (Reach T)) → k < length deal → s.deal ≡ deal → IsPart s w row
+      → (k ≡ s.number → parts (get_or (map reach_view row.items) k (log 0 [] [] [])) ≡ 0) × (k ≢ s.number → parts (get_or (map reach_view row.items) k (log 0 [] [] [])) ≡ 1)
+  part_here deal k s w row among alike p =
+      let long = length-map row.items reach_deque in
+      let names = ap (λ (d : Deal). length d) (p.deal ∙ alike) in
+      let inside : k < length row.items = omega arith in
+      let r = some_of row.items k inside in
+      let here = ap parts (get_or-map reach_view row.items k r (log 0 [] [] []) inside) in
+      let has = p.shares k r inside in
+      ((λ own. here ∙ has.0 own), λ other. here ∙ has.1 other)
+
+  -- the seats behind that of the deque k have a part each
+  parts_behind : (deal : Deal) (j k : ℕ) (ss : List (Place T)) (ws : List (Own T)) (rs : List (Vec (Reach T))) → AreSeatsFrom deal j ss → AreParts ss ws rs → k < length deal → k < j → sum_by parts (column k rs) ≡ length ss
+  parts_behind deal j k [] [] [] a p among behind = refl
+  parts_behind deal j k [] [] (r ∷ rs) a p among behind = absurd p
+  parts_behind deal j k [] (w ∷ ws) rs a p among behind = absurd p
+  parts_behind deal j k (s ∷ ss) [] rs a p among behind = absurd p
+  parts_behind deal j k (s ∷ ss) (w ∷ ws) [] a p among behind = absurd p
+  parts_behind deal j k (s ∷ ss) (w ∷ ws) (r ∷ rs) a p among behind =
+      let rest = parts_behind deal (suc j) k ss ws rs a.2 p.1 among (omega arith) in
+      let number = a.1 in
+      let here = (part_here deal k s w r among a.0 p.0).1 (λ e. absurd (omega arith)) in
+      omega (arith, sum_by-cons parts (get_or (map reach_view r.items) k (log 0 [] [] [])) (column k rs))
+
+  -- each seat has a part in the deque k but its own
+  pub parts_of_all : (deal : Deal) (j k : ℕ) (ss : List (Place T)) (ws : List (Own T)) (rs : List (Vec (Reach T))) → AreSeatsFrom deal j ss → AreParts ss ws rs → k < length deal → j ≤ k → sum_by parts (column k rs) + 1 ≡ length ss
+  parts_of_all deal j k [] [] [] a p among here = absurd (omega arith)
+  parts_of_all deal j k [] [] (r ∷ rs) a p among here = absurd p
+  parts_of_all deal j k [] (w ∷ ws) rs a p among here = absurd p
+  parts_of_all deal j k (s ∷ ss) [] rs a p among here = absurd p
+  parts_of_all deal j k (s ∷ ss) (w ∷ ws) [] a p among here = absurd p
+  parts_of_all deal j k (s ∷ ss) (w ∷ ws) (r ∷ rs) a p among here =
+      let number = a.1 in
+      let all = sum_by-cons parts (get_or (map reach_view r.items) k (log 0 [] [] [])) (column k rs) in
+      let part = part_here deal k s w r among a.0 p.0 in
+      dite (ℕ_discrete k j)
+      (λ (e : k ≡ j). let none = part.0 (e ∙ sym number) in let rest = parts_behind deal (suc j) k ss ws rs a.2 p.1 among (omega arith) in omega arith)
+      (λ (ne : ¬ (k ≡ j)). let one = part.1 (λ i. ne (i ∙ number)) in let rest = parts_of_all deal (suc j) k ss ws rs a.2 p.1 among (omega arith) in omega arith)
 
   pub opens : (ss : List (Place T)) (ws : List (Own T)) (rs : List (Vec (Reach T))) → AreParts ss ws rs → All IsOpen ws
   opens [] [] [] p = All-nil IsOpen
@@ -202,11 +248,10 @@ module _ {T : Type 0} where
       let few = p.few in
       let all = seats_long deal 0 ss a in
       let name = ap (λ (d : Deal). length d) (seat_at deal 0 ss a k s inside).0 in
-      let col = column k rs in
-      let wide : length (column k rs) ≡ length rs = length-map rs (λ row. get_or (map reach_got row.items) k []) in
-      let counts : 9 - length (get_or ss k s).deal + length (column k rs) ≡ 9 = omega arith in
-      let lists : column k rs ++ [] ≡ thefts k ss = append-nil (column k rs) ∙ columns k ss ws rs ps in
-      j.view ∙ ap (λ (v : Log T). log (v.parts + length (column k rs)) v.sent v.got (column k rs ++ v.joined)) p.view ∙ (λ i. log (counts i) (get_or ss k s).pushed (get_or ss k s).popped (lists i))
+      let rest = parts_of_all deal 0 k ss ws rs a ps (omega arith) (omega arith) in
+      let counts : 10 - length (get_or ss k s).deal + sum_by parts (column k rs) ≡ 9 = omega arith in
+      let lists : map got (column k rs) ++ [] ≡ thefts k ss = append-nil (map got (column k rs)) ∙ columns k ss ws rs ps in
+      j.view ∙ ap (λ (v : Log T). log (v.parts + sum_by parts (column k rs)) v.sent v.got (map got (column k rs) ++ v.joined)) p.view ∙ (λ i. log (counts i) (get_or ss k s).pushed (get_or ss k s).popped (lists i))
 
   pub whole_at : (deal : Deal) (ss : List (Place T)) (ws : List (Own T)) (rs : List (Vec (Reach T))) → AreSeatsFrom deal 0 ss → AreParts ss ws rs → (k : ℕ) (w w' : Own T) → k < length ss → IsJoined (column k rs) (get_or ws k w) w' → IsWhole w'
   whole_at deal ss ws rs a ps k w w' inside j =

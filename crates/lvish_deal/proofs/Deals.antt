@@ -1,24 +1,25 @@
 -- The steps in which a deal is made.
-use Rattle.std.proofs.Common.{◌≡◌, ℕ, ◌+◌, ◌-◌, ◌<◌, ◌≤◌, List, [], ◌∷◌, ◌++◌, length, map, set, get_or, take, refl, ap, ◌∙◌, sym, subst, arith}
+use Rattle.std.proofs.Common.{◌≡◌, ◌≢◌, ℕ, ◌+◌, ◌<◌, ◌≤◌, List, [], ◌∷◌, ◌++◌, length, map, set, get_or, take, refl, ap, ◌∙◌, sym, subst, arith}
 use Rattle.std.specs.Global.{Global, Vec}
 use Rattle.crossbeam_deque.specs.Handles.{worker_deque}
 use native.Mathlib.Decide.{ℕ_discrete}
 use mathlib.Core.Logic.{dite}
 use Rattle.std.proofs.Math.ListN.{length-set}
 use Rattle.std.proofs.Math.Seq.{map-set_same}
-use Rattle.std.proofs.lemmas.List.{get_or-set_same, get_or-set_other, get_or-map, length-map, map_push, take_more}
+use Rattle.std.proofs.lemmas.List.{get_or-set_same, get_or-set_other, get_or-map, get_or_append_left, length-map, length_push, map_push, take_more}
 use Rattle.lvish_deal.specs.declared.reach.Reach.{Reach}
-use Rattle.lvish_deal.specs.Reaches.{reach_deque, reach_got}
-use Rattle.lvish_deal.specs.Deals.{IsNew, IsNewRow, Own, deques}
+use Rattle.lvish_deal.specs.Reaches.{reach_deque, reach_parts, reach_got, HasParts}
+use Rattle.lvish_deal.specs.Deals.{IsNew, IsNewRow, AreNewRows, parts_after, Own, deques}
 use Rattle.lvish_deal.specs.Place.{Place, Deal, AreFreshFrom}
+use Rattle.lvish_deal.proofs.Lists.{get_or_last}
 
 module _ {T : Type 0} where
-  -- the first k owners have given up a part
+  -- the seat `number` has its passes for the first k deques
   abbrev pub Cut : ℕ → ℕ → List (Own T) → Type 0
-  Cut parts k ws = (j : ℕ) (d : Own T) → j < length ws → (j < k → IsNew (parts - 1) (get_or ws j d)) × (k ≤ j → IsNew parts (get_or ws j d))
+  Cut number k ws = (j : ℕ) (d : Own T) → j < length ws → (j < k → IsNew (parts_after (number + 1) j) (get_or ws j d)) × (k ≤ j → IsNew (parts_after number j) (get_or ws j d))
 
-  pub cut_step : (parts k : ℕ) (ws : List (Own T)) (w' : Own T) → k < length ws → Cut parts k ws → IsNew (parts - 1) w' → Cut parts (k + 1) (set ws k w')
-  cut_step parts k ws w' inside cut new j d within =
+  pub cut_step : (number k : ℕ) (ws : List (Own T)) (w' : Own T) → k < length ws → Cut number k ws → IsNew (parts_after (number + 1) k) w' → Cut number (k + 1) (set ws k w')
+  cut_step number k ws w' inside cut new j d within =
       let within' : j < length ws = rw length-set at within in
       dite (ℕ_discrete j k)
       (λ (e : j ≡ k). ((λ _. rw (e, get_or-set_same ws k w' d inside) new), λ above. absurd (omega arith)))
@@ -36,6 +37,22 @@ module _ {T : Type 0} where
   pub none_step : (row : List (Reach T)) (r : Reach T) (deal : Deal) (k : ℕ) (e : (ℕ × ℕ) × Global) → k < length deal → map reach_got row ≡ map (λ _. []) (take k deal) → reach_got r ≡ [] → map reach_got (row ++ r ∷ []) ≡ map (λ _. []) (take (k + 1) deal)
   none_step row r deal k e inside is this = map_push reach_got row r ∙ (λ i. is i ++ this i ∷ []) ∙ sym (map_push (λ _. []) (take k deal) (get_or deal k e)) ∙ ap (map (λ _. [])) (sym (take_more deal k e inside))
 
+  -- the passes of a seat, up to the deque k
+  pub parts_step : (number k : ℕ) (row : List (Reach T)) (r : Reach T) → length row ≡ k → HasParts number row → (k ≡ number → reach_parts r ≡ 0) × (k ≢ number → reach_parts r ≡ 1) → HasParts number (row ++ r ∷ [])
+  parts_step number k row r long has this j d within =
+      dite (ℕ_discrete j k)
+      (λ (e : j ≡ k). rw (e, get_or_last row r k d long) this)
+      (λ (ne : ¬ (j ≡ k)). let below : j < length row = omega (arith, length_push row r) in rw (get_or_append_left row (r ∷ []) d j below) (has j d below))
+
+  -- the last of these rows, and the others
+  pub rows_apart : (deal : Deal) (rows new : List (Vec (Reach T))) (row : Vec (Reach T)) → rows ≡ new ++ row ∷ [] → AreNewRows deal rows → AreNewRows deal new × IsNewRow deal (length new) row
+  rows_apart deal rows new row e all =
+      let these : AreNewRows deal (new ++ row ∷ []) = subst (AreNewRows deal) e all in
+      let long = length_push new row in (
+        (λ j d below. subst (IsNewRow deal j) (get_or_append_left new (row ∷ []) d j below) (these j d (omega arith))),
+        subst (IsNewRow deal (length new)) (get_or_last new row (length new) row refl) (these (length new) row (omega arith)),
+      )
+
   pub peel : (f : Own T → (ℕ × ℕ) × Global) (new : List (Own T)) (x : Own T) (deal : Deal) → map f (new ++ x ∷ []) ≡ take (length (new ++ x ∷ [])) deal → (map f new ≡ take (length new) deal) × ((e : (ℕ × ℕ) × Global) → get_or deal (length new) e ≡ f x)
   peel f [] x [] e = absurd (cc)
   peel f [] x (y ∷ ys) e = (refl, λ _. cc)
@@ -45,7 +62,7 @@ module _ {T : Type 0} where
       let heads : f z ≡ y = cc in
       let rest = peel f zs x ys tails in ((λ i. heads i ∷ rest.0 i), rest.1)
 
-  pub seat_step : (deal : Deal) (k m n : ℕ) (row : Vec (Reach T)) (s : Place T) (ss : List (Place T)) → m ≡ k + 1 → n ≡ k → IsNewRow deal row
+  pub seat_step : (deal : Deal) (k m n : ℕ) (row : Vec (Reach T)) (s : Place T) (ss : List (Place T)) → m ≡ k + 1 → n ≡ k → IsNewRow deal k row
       → s ≡ record { deal = map reach_deque row.items; number = n; pushed = []; popped = []; stolen = map reach_got row.items } → AreFreshFrom deal m ss → AreFreshFrom deal k (s ∷ ss)
   seat_step deal k m n row s ss next nth new is rest = (
     (ap (λ (p : Place T). p.deal) is ∙ new.0, ap (λ (p : Place T). p.number) is ∙ nth, ap (λ (p : Place T). p.pushed) is, ap (λ (p : Place T). p.popped) is, ap (λ (p : Place T). p.stolen) is ∙ new.1),

@@ -1,5 +1,5 @@
 -- What a seat looks like after a steal.
-use Rattle.std.proofs.Common.{arith, ◌≡◌, ℕ, ◌-◌, ◌<◌, List, [], ◌∷◌, ◌++◌, length, map, set, get_or, refl, ap, ◌∙◌, sym, subst}
+use Rattle.std.proofs.Common.{arith, ◌≡◌, ℕ, ◌-◌, ◌<◌, List, [], ◌∷◌, ◌++◌, length, map, set, get_or, refl, ap, ◌∙◌, sym, subst, append-nil}
 use Rattle.std.specs.Prelude.{slice_set}
 use Rattle.std.specs.Vec.{with_item}
 use Rattle.std.proofs.Math.Seq.{map-set_same}
@@ -8,53 +8,47 @@ use Rattle.lvish_deal.specs.declared.reach.Reach.{Reach}
 use Rattle.lvish_deal.specs.declared.seat.Seat.TheInside.{Inside}
 use Rattle.lvish_deal.specs.declared.steal.Steal.{Steal}
 use Rattle.lvish_deal.specs.declared.steal.Steal.TheVariants.{Taken, Nothing, Again}
-use Rattle.lvish_deal.specs.Rule.{log, ThiefFoundEmpty}
+use Rattle.lvish_deal.specs.Rule.{log, TookAlone}
 use Rattle.lvish_deal.specs.Reaches.{reach_deque, reach_got}
-use Rattle.lvish_deal.specs.Place.{Place, Deal, taken_from, IsSameSeat, MayBeEmptyAt}
+use Rattle.lvish_deal.specs.Place.{Place, Deal, taken_from, IsSameSeat, IsAlone}
 use Rattle.lvish_deal.specs.Seats.{place_of, IsSeated}
 use Rattle.std.specs.Global.{Global}
 use Rattle.crossbeam_deque.specs.Handles.{worker_view, worker_deque}
 use Rattle.lvish_deal.specs.Closes.{IsPart}
-use Rattle.lvish_deal.specs.Answer.{MatchSteal, IfTaken, OnNothing, OnAgain}
+use Rattle.lvish_deal.specs.Answer.{MatchSteal, IfTaken, IfNotTaken}
 
-pub if_taken : {X : Type 0} (answer : Steal X) (P : X → Type 0) (Q R : Type 0) → MatchSteal answer P Q R → IfTaken answer P
-if_taken (Taken x) P Q R m = m
-if_taken Nothing P Q R m = tt
-if_taken Again P Q R m = tt
+pub if_taken : {X : Type 0} (answer : Steal X) (P : X → Type 0) (Q : Type 0) → MatchSteal answer P Q → IfTaken answer P
+if_taken (Taken x) P Q m = m
+if_taken Nothing P Q m = tt
+if_taken Again P Q m = tt
 
-pub on_nothing : {X : Type 0} (answer : Steal X) (P : X → Type 0) (Q R : Type 0) → MatchSteal answer P Q R → OnNothing answer Q
-on_nothing (Taken x) P Q R m = tt
-on_nothing Nothing P Q R m = m
-on_nothing Again P Q R m = tt
-
-pub on_again : {X : Type 0} (answer : Steal X) (P : X → Type 0) (Q R : Type 0) → MatchSteal answer P Q R → OnAgain answer R
-on_again (Taken x) P Q R m = tt
-on_again Nothing P Q R m = tt
-on_again Again P Q R m = m
+pub if_not : {X : Type 0} (answer : Steal X) (P : X → Type 0) (Q : Type 0) → MatchSteal answer P Q → IfNotTaken answer Q
+if_not (Taken x) P Q m = tt
+if_not Nothing P Q m = m
+if_not Again P Q m = m
 
 module _ {T : Type 0} where
   placed : (s : Inside T) (from : ℕ) (r : Reach T) (d : Deal) (l : List (List T)) → map reach_deque (set s.reaches.items from r) ≡ d → map reach_got (set s.reaches.items from r) ≡ l
       → place_of (record s { reaches = with_item s.reaches from r }) ≡ record (place_of s) { deal = d; stolen = l }
   placed s from r d l p q = λ i. record (place_of s) { deal = p i; stolen = q i }
 
+  unchanged : (s : Inside T) (from : ℕ) (r r' : Reach T) (now : Place T) → r ≡ get_or s.reaches.items from r → reach_deque r' ≡ reach_deque r → reach_got r' ≡ reach_got r → place_of s ≡ now → place_of (record s { reaches = with_item s.reaches from r' }) ≡ now
+  unchanged s from r r' now here deque took is =
+      let d = map-set_same reach_deque s.reaches.items from r' r (deque ∙ ap reach_deque here) in
+      placed s from r' _ _ d (map-set_same reach_got s.reaches.items from r' r (took ∙ ap reach_got here)) ∙ is
+
   pub after_steal : (s : Inside T) (from : ℕ) (r r' : Reach T) (answer : Steal T) (now : Place T) → from < length s.reaches.items → r ≡ get_or s.reaches.items from r → reach_deque r' ≡ reach_deque r
-      → MatchSteal answer (λ x. reach_got r' ≡ reach_got r ++ x ∷ []) ((reach_got r' ≡ reach_got r) × ThiefFoundEmpty (reach_got r)) (reach_got r' ≡ reach_got r)
+      → MatchSteal answer (λ x. reach_got r' ≡ reach_got r ++ x ∷ []) (reach_got r' ≡ reach_got r)
       → place_of s ≡ now
       → MatchSteal answer (λ x. place_of (record s { reaches = with_item s.reaches from r' }) ≡ record now { stolen = slice_set now.stolen from (taken_from now from ++ x ∷ []) })
-      ((place_of (record s { reaches = with_item s.reaches from r' }) ≡ now) × MayBeEmptyAt now from) (place_of (record s { reaches = with_item s.reaches from r' }) ≡ now)
+      (place_of (record s { reaches = with_item s.reaches from r' }) ≡ now)
   after_steal s from r r' (Taken x) now inside here deque took is =
       let d = map-set_same reach_deque s.reaches.items from r' r (deque ∙ ap reach_deque here) in
       let got = get_or-map reach_got s.reaches.items from r [] inside ∙ ap reach_got (sym here) in
       subst (λ (p : Place T). place_of (record s { reaches = with_item s.reaches from r' }) ≡ record p { stolen = slice_set p.stolen from (taken_from p from ++ x ∷ []) }) is
       (placed s from r' _ _ d (map-set reach_got s.reaches.items from r' ∙ ap (λ (l : List T). set (map reach_got s.reaches.items) from l) (took ∙ ap (λ (l : List T). l ++ x ∷ []) (sym got))))
-  after_steal s from r r' Nothing now inside here deque took is =
-      let d = map-set_same reach_deque s.reaches.items from r' r (deque ∙ ap reach_deque here) in
-      let got = get_or-map reach_got s.reaches.items from r [] inside ∙ ap reach_got (sym here) in
-      subst (λ (p : Place T). (place_of (record s { reaches = with_item s.reaches from r' }) ≡ p) × MayBeEmptyAt p from) is
-      (placed s from r' _ _ d (map-set_same reach_got s.reaches.items from r' r (took.0 ∙ ap reach_got here)), subst (λ (l : List T). ThiefFoundEmpty l) (sym got) took.1)
-  after_steal s from r r' Again now inside here deque took is =
-      let d = map-set_same reach_deque s.reaches.items from r' r (deque ∙ ap reach_deque here) in
-      placed s from r' _ _ d (map-set_same reach_got s.reaches.items from r' r (took ∙ ap reach_got here)) ∙ is
+  after_steal s from r r' Nothing now inside here deque took is = unchanged s from r r' now here deque took is
+  after_steal s from r r' Again now inside here deque took is = unchanged s from r r' now here deque took is
 
   pub within : (s : Inside T) (now : Place T) (from : ℕ) → place_of s ≡ now → from < length now.deal → from < length s.reaches.items
   within s now from is inside = let e = ap (λ (p : Place T). length p.deal) is in omega (arith, length-map s.reaches.items reach_deque)
@@ -68,7 +62,7 @@ module _ {T : Type 0} where
       let long = length-map s.reaches.items reach_deque in
       let few = i.few in
       let all = i.parts in
-      let parts : (worker_view s.own).parts ≡ 9 - length (map reach_deque s.reaches.items) = omega arith in
+      let parts : (worker_view s.own).parts ≡ 10 - length (map reach_deque s.reaches.items) = omega arith in
       subst (λ (p : Place T). IsPart p s.own s.reaches) is record {
         port = i.port;
         flavor = i.flavor;
@@ -76,8 +70,16 @@ module _ {T : Type 0} where
         few = omega arith;
         deal = refl;
         stolen = refl;
+        shares = i.shares;
         own = λ e. own_name s.reaches.items s.number e (worker_deque s.own) i.among i.own;
       }
 
   pub same_steal : (s : Inside T) (from : ℕ) (r r' : Reach T) (now : Place T) → r ≡ get_or s.reaches.items from r → reach_deque r' ≡ reach_deque r → place_of s ≡ now → IsSameSeat now (place_of (record s { reaches = with_item s.reaches from r' }))
   same_steal s from r r' now here deque is = (map-set_same reach_deque s.reaches.items from r' r (deque ∙ ap reach_deque here) ∙ ap (λ (p : Place T). p.deal) is, ap (λ (p : Place T). p.number) is)
+
+  pub all_popped : (s : Inside T) (now : Place T) → IsSeated s → place_of s ≡ now → TookAlone (worker_view s.own) [] → IsAlone now → now.popped ≡ now.pushed
+  all_popped s now i is took lone =
+      let long = length-map s.reaches.items reach_deque in
+      let deal = ap (λ (p : Place T). length p.deal) is in
+      let all = i.parts in
+      ap (λ (p : Place T). p.popped) (sym is) ∙ sym (append-nil (worker_view s.own).got) ∙ sym (took (omega arith) i.joined) ∙ ap (λ (p : Place T). p.pushed) is

@@ -10,8 +10,8 @@ use Rattle.std.proofs.lemmas.List.Sums.{sum_by-cons, sum_by-append, sum_by_push}
 use Rattle.std.proofs.lemmas.List.Elements.{All-weaker, All-append, All-nil, All-cons}
 use Rattle.lvish_deal.specs.declared.log.Log.{Log}
 use Rattle.lvish_deal.specs.Order.{IsPicked}
-use Rattle.lvish_deal.specs.Rule.{log, parts, weight, Fits, Dealt, Told, rest_of}
-use Rattle.lvish_deal.proofs.Orders.{IsPicked-longer, IsPicked-append, IsPicked-short}
+use Rattle.lvish_deal.specs.Rule.{log, parts, weight, Fits, Dealt, Told, TookAlone, rest_of}
+use Rattle.lvish_deal.proofs.Orders.{IsPicked-longer, IsPicked-append, IsPicked-short, IsPicked-whole}
 
 module _ {T : Type 0} where
   -- a sum after a change of one pass
@@ -96,23 +96,16 @@ module _ {T : Type 0} where
         refl,
       )
 
-  pub pops : (port : ℕ) (v : Log T) → port ≡ 0 → 0 < v.parts → Takes Dealt port v 1 (λ xs w. (w ≡ log v.parts v.sent (v.got ++ xs) v.joined) × (length v.got + length xs ≤ length v.sent))
-  pops port v first some_part xs items views a b h at =
-      let t = takes port v some_part xs items views a b h at in
-      let e = ap (λ (l : List T). length l) (h.pushed v (subst (λ (k : ℕ). get_elem? views k ≡ some v) first at)) in
-      let s = IsPicked-short v.got h.out (h.each port v at).0 in
-      (t.0, t.1, (t.2, omega (arith, length-append h.out (xs ++ items), length-append xs items)))
-
   -- the first view after a change of one and a new one at the end
   first_of : (views : List (Log T)) (port : ℕ) (v : Log T) → get_elem? views port ≡ some v → (F : Log T → Type 0) (l r : Log T) → (get_elem? views 0 ≡ some v → F l) → ((z : Log T) → get_elem? views 0 ≡ some z → F z) → (u : Log T) → get_elem? (set views port l ++ r ∷ []) 0 ≡ some u → F u
   first_of [] port v at F l r mine others u e = absurd (some-ne-none v (sym at))
   first_of (x ∷ xs) zero v at F l r mine others u e = subst F (some-injective l u e) (mine at)
   first_of (x ∷ xs) (suc port) v at F l r mine others u e = others u e
 
-  pub forks : (port : ℕ) (v : Log T) → 1 < v.parts → Forks Dealt port v (log (v.parts - 1) v.sent v.got v.joined) (log 1 [] [] [])
-  forks port v parts_left items views h at =
-      let l : Log T = log (v.parts - 1) v.sent v.got v.joined in
-      let r : Log T = log 1 [] [] [] in
+  splits : (a b port : ℕ) (v : Log T) → a + b ≡ v.parts → (a ≡ 0 → v.parts ≡ 0) → Forks Dealt port v (log a v.sent v.got v.joined) (log b [] [] [])
+  splits a b port v two idle items views h at =
+      let l : Log T = log a v.sent v.got v.joined in
+      let r : Log T = log b [] [] [] in
       let vs : List (Log T) = set views port l in
       let mine = h.each port v at in record {
         out = h.out;
@@ -120,8 +113,14 @@ module _ {T : Type 0} where
         often = λ f. let s = sum_set (weight f) views port v l at in let t = sum_by_push (weight f) vs r in let p = h.often f in omega arith;
         pushed = λ u e. first_of views port v at (λ z. z.sent ≡ h.out ++ items) l r (λ k. h.pushed v k) (λ z k. h.pushed z k) u e;
         each = each_snoc (Fits h.out) vs r (tt, All-nil (λ q. IsPicked q h.out), λ none. (refl, refl))
-            (each_set (Fits h.out) views port l (mine.0, mine.1, λ none. absurd (omega arith)) h.each);
+            (each_set (Fits h.out) views port l (mine.0, mine.1, λ none. mine.2 (idle none)) h.each);
       }
+
+  pub forks : (port : ℕ) (v : Log T) → 1 < v.parts → Forks Dealt port v (log (v.parts - 1) v.sent v.got v.joined) (log 1 [] [] [])
+  forks port v parts_left = splits (v.parts - 1) 1 port v (omega arith) (λ none. absurd (omega arith))
+
+  pub idles : (port : ℕ) (v : Log T) → Forks Dealt port v v (log 0 [] [] [])
+  idles port v = splits v.parts 0 port v (omega arith) (λ none. none)
 
   pub merges : (port : ℕ) (v : Log T) (other : ℕ) (w : Log T) → port ≡ 0 → 0 < v.parts → Merges Dealt port v other w (log (v.parts + w.parts) v.sent v.got (w.got ∷ (w.joined ++ v.joined))) (log 0 [] [] [])
   merges port v other w first some_part items views h at two at' =
@@ -161,6 +160,26 @@ module _ {T : Type 0} where
   ones : (xs : List T) → sum_by one xs ≡ length xs
   ones [] = refl
   ones (x ∷ xs) = let rest = ones xs in omega (arith, sum_by-cons one x xs)
+
+  alone : (v : Log T) (items : List T) → Told v items → v.joined ≡ [] → v.sent ≡ v.got ++ items
+  alone v items told none =
+      let others = ap (sum_by (sum_by one)) none in
+      let n = told.2 one in
+      let long : length v.got ≡ length told.0 = omega (arith, ones v.got, ones told.0) in
+      told.1 ∙ ap (λ l. l ++ items) (sym (IsPicked-whole v.got told.0 told.3.0 long))
+
+  pub pops : (port : ℕ) (v : Log T) → port ≡ 0 → 0 < v.parts
+      → Takes Dealt port v 1 (λ xs w. (w ≡ log v.parts v.sent (v.got ++ xs) v.joined) × (length v.got + length xs ≤ length v.sent) × IsPicked w.got w.sent × ((rest : List T) × TookAlone w rest))
+  pops port v first some_part xs items views a b h at =
+      let t = takes port v some_part xs items views a b h at in
+      let sent = h.pushed v (subst (λ (k : ℕ). get_elem? views k ≡ some v) first at) in
+      let picked : IsPicked (v.got ++ xs) v.sent = subst (IsPicked (v.got ++ xs)) (append_assoc h.out xs items ∙ sym sent) (IsPicked-longer (v.got ++ xs) (h.out ++ xs) items (IsPicked-append v.got h.out xs (h.each port v at).0)) in
+      let short = IsPicked-short (v.got ++ xs) v.sent picked in
+      let front : TookAlone (log v.parts v.sent (v.got ++ xs) v.joined) items = λ all none. alone v (xs ++ items) (tells port v first all (xs ++ items) views h at) none ∙ sym (append_assoc v.got xs items) in
+      (t.0, t.1, (t.2, omega (arith, length-append v.got xs), subst (λ (w : Log T). IsPicked w.got w.sent) (sym t.2) picked, (items, subst (λ (w : Log T). TookAlone w items) (sym t.2) front)))
+
+  pub empties : (port : ℕ) (v : Log T) → port ≡ 0 → Finds Dealt port v (TookAlone v [])
+  empties port v first views h at = λ all none. alone v [] (tells port v first all [] views h at) none
 
   rest_is : (v : Log T) (out items : List T) → v.sent ≡ out ++ items → weight one v ≡ length out → rest_of v ≡ items
   rest_is v out items s n = ap (λ l. drop (weight one v) l) s ∙ ap (λ k. drop k (out ++ items)) n ∙ drop-append_seam out items

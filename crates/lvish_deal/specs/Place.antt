@@ -1,9 +1,8 @@
 -- What contracts see of a seat.
-use Rattle.std.specs.Prelude.{◌≡◌, ℕ, suc, ◌+◌, ◌-◌, ◌<◌, List, [], ◌∷◌, ◌++◌, length, map, All, slice_index_or}
+use Rattle.std.specs.Prelude.{◌≡◌, ℕ, suc, ◌+◌, ◌<◌, List, [], ◌∷◌, ◌++◌, length, map, All, slice_index_or}
 use Rattle.std.specs.Global.{Global, Vec}
 use Rattle.std.specs.List.{sum_by}
 use Rattle.lvish_deal.specs.Order.{IsPicked}
-use Rattle.lvish_deal.specs.Rule.{log, FoundEmpty, ThiefFoundEmpty}
 
 -- the deques of a deal, in the order of their seats
 abbrev pub Deal : Type 0
@@ -30,13 +29,9 @@ module _ {T : Type 0} where
   abbrev pub taken_from : Place T → ℕ → List T
   taken_from s from = slice_index_or s.stolen from []
 
-  -- the rule allows that the seat's deque is empty, after what the seat pushed and popped
-  abbrev pub MayBeEmpty : Place T → Type 0
-  MayBeEmpty s = FoundEmpty 0 (log (9 - length s.deal) s.pushed s.popped [])
-
-  -- the rule allows that the deque `from` is empty, after what the seat stole there
-  abbrev pub MayBeEmptyAt : Place T → ℕ → Type 0
-  MayBeEmptyAt s from = ThiefFoundEmpty (taken_from s from)
+  -- the seat is the only one of its deal
+  abbrev pub IsAlone : Place T → Type 0
+  IsAlone s = length s.deal ≡ 1
 
   -- the seats of a deal from the number k on
   abbrev pub AreSeatsFrom : Deal → ℕ → List (Place T) → Type 0

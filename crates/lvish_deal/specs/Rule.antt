@@ -15,6 +15,10 @@ module _ {T : Type 0} where
   abbrev pub parts : Log T → ℕ
   parts v = v.parts
 
+  -- what the pass has taken
+  abbrev pub got : Log T → List T
+  got v = v.got
+
   -- what the pass has taken, and those that joined it, added up
   abbrev pub weight : (T → ℕ) → Log T → ℕ
   weight h v = sum_by h v.got + sum_by (sum_by h) v.joined
@@ -31,17 +35,13 @@ module _ {T : Type 0} where
     pub pushed : (v : Log T) → get_elem? views 0 ≡ some v → v.sent ≡ out ++ items
     pub each : (port : ℕ) (v : Log T) → get_elem? views port ≡ some v → Fits out v
 
-  -- the rule allows that the deque is empty while the pass of this number has this view
-  abbrev pub FoundEmpty : ℕ → Log T → Type 0
-  FoundEmpty port v = (views : List (Log T)) × Dealt [] views × (get_elem? views port ≡ some v)
-
-  -- the same of some thief that took `got`
-  abbrev pub ThiefFoundEmpty : List T → Type 0
-  ThiefFoundEmpty got = (port : ℕ) × FoundEmpty port (log 1 [] got [])
-
   -- what the one learns that has every part
   abbrev pub Told : Log T → List T → Type 0
   Told v items = (out : List T) × (v.sent ≡ out ++ items) × ((h : T → ℕ) → weight h v ≡ sum_by h out) × Fits out v
+
+  -- what the one knows that has every part and that no other joined: it took what left, and these items are there
+  abbrev pub TookAlone : Log T → List T → Type 0
+  TookAlone v items = v.parts ≡ 9 → v.joined ≡ [] → v.sent ≡ v.got ++ items
 
   -- of all that was pushed, what is not known to be taken
   abbrev pub rest_of : Log T → List T

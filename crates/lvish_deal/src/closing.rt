@@ -4,7 +4,7 @@ ghost use Rattle.crossbeam_deque.specs.Handles.{worker_deque, worker_view, worke
 ghost use Rattle.lvish_deal.specs.Rule.{Told, rest_of};
 ghost use Rattle.lvish_deal.specs.Closes.{IsWhole, IsOpen, IsJoined, HasRoom, AreRooms, AreParts, column};
 ghost use Rattle.lvish_deal.specs.Place.{IsWholeDeal, AreSettled};
-ghost use Rattle.lvish_deal.specs.Reaches.{reach_deque, reach_got};
+ghost use Rattle.lvish_deal.specs.Reaches.{reach_deque, reach_view};
 ghost use Rattle.lvish_deal.specs.Deals.{deques};
 
 use crate::reach::{Own, Reach};
@@ -15,7 +15,7 @@ use std::alloc::{AllocError, Global};
 // Joins one thief's pass into the owner's.
 fn join_one<T: Drop>(own: &mut Own<T>, reach: Reach<T>)
     requires { IsOpen own.old × (reach_deque reach ≡ worker_deque own.old) }
-    ensures { IsJoined (reach_got reach ∷ []) own.old own.new }
+    ensures { IsJoined (reach_view reach ∷ []) own.old own.new }
 {
     let Reach { stealer: _, pass } = reach;
     own.absorb::<Cut>(pass);

@@ -1,12 +1,12 @@
 // Making the seats of a deal.
-ghost use Rattle.std.specs.Prelude.{◌≡◌, [], ◌∷◌, ◌+◌, ◌-◌, ◌<◌, ◌≤◌, length, map, All, IfOk, vec_len};
-ghost use Rattle.lvish_deal.specs.Reaches.{reach_deque, reach_got};
-ghost use Rattle.lvish_deal.specs.Deals.{IsNew, IsNewRow, deques};
+ghost use Rattle.std.specs.Prelude.{◌≡◌, ◌≢◌, [], ◌∷◌, ◌+◌, ◌-◌, ◌<◌, ◌≤◌, length, map, All, IfOk, vec_len};
+ghost use Rattle.lvish_deal.specs.Reaches.{reach_deque, reach_parts, reach_got};
+ghost use Rattle.lvish_deal.specs.Deals.{IsNew, IsNewRow, AreNewRows, AreCut, parts_after, deques};
 ghost use Rattle.lvish_deal.specs.Place.{AreFreshFrom, IsFreshDeal, IsWholeDeal};
 ghost use Rattle.crossbeam_deque.specs.Handles.{worker_deque};
 
 use crate::reach::{Own, Reach};
-use crate::rule::Cut;
+use crate::rule::{Cut, Idle};
 use crate::seat::Seat;
 use std::alloc::{AllocError, Global};
 
@@ -24,28 +24,34 @@ pub fn owners<T: Drop>(alloc: Global, n: usize) -> Result<Vec<Own<T>>, AllocErro
     Ok(all)
 }
 
-// What one seat takes from the deque with. The owner gives up a part.
-fn reach<T: Drop>(own: &mut Own<T>, parts: usize) -> Result<Reach<T>, AllocError>
-    requires { IsNew parts own.old × (1 < parts) }
-    ensures { IfOk result (λ r. IsNew (parts - 1) own.new × (worker_deque own.new ≡ worker_deque own.old) × (reach_deque r ≡ worker_deque own.old) × (reach_got r ≡ [])) }
+// What the seat `number` takes from the deque k with. The owner gives up a part, but not to its own seat.
+fn reach<T: Drop>(own: &mut Own<T>, number: usize, k: usize) -> Result<Reach<T>, AllocError>
+    requires { IsNew (parts_after number k) own.old × (number < 8) }
+    ensures new { IfOk result (λ _. IsNew (parts_after (number + 1) k) own.new × (worker_deque own.new ≡ worker_deque own.old)) }
+    ensures reach { IfOk result (λ r. (reach_deque r ≡ worker_deque own.old) × (reach_got r ≡ [])) }
+    ensures parts { IfOk result (λ r. (k ≡ number → reach_parts r ≡ 0) × (k ≢ number → reach_parts r ≡ 1)) }
 {
     let stealer = own.stealer()?;
-    let pass = own.another::<Cut>();
+    let pass = if k == number {
+        own.another::<Idle>()
+    } else {
+        own.another::<Cut>()
+    };
     Ok(Reach { stealer, pass })
 }
 
-// What one seat takes from each deque with.
+// What the seat `number` takes from each deque with.
 fn row<T: Drop>(
     alloc: Global,
     owners: &mut Vec<Own<T>>,
-    parts: usize,
+    number: usize,
 ) -> Result<Vec<Reach<T>>, AllocError>
-    requires { All (IsNew parts) owners.old.items × (1 < parts) }
-    ensures { IfOk result (λ row. All (IsNew (parts - 1)) owners.new.items × (deques owners.new.items ≡ deques owners.old.items) × IsNewRow (deques owners.old.items) row) }
+    requires { AreCut number owners.old.items × (number < 8) }
+    ensures { IfOk result (λ row. AreCut (number + 1) owners.new.items × (deques owners.new.items ≡ deques owners.old.items) × IsNewRow (deques owners.old.items) number row) }
 {
     let mut row = Vec::with_capacity(alloc, owners.len())?;
     for k in 0..owners.len() {
-        row.push(reach(&mut owners[k], parts)?)?;
+        row.push(reach(&mut owners[k], number, k)?)?;
     }
     Ok(row)
 }
@@ -53,11 +59,11 @@ fn row<T: Drop>(
 // What each seat takes with.
 fn rows<T: Drop>(alloc: Global, owners: &mut Vec<Own<T>>) -> Result<Vec<Vec<Reach<T>>>, AllocError>
     requires { All (IsNew 9) owners.old.items × (length owners.old.items ≤ 8) }
-    ensures { IfOk result (λ rows. All (IsNew (9 - length owners.old.items)) owners.new.items × (deques owners.new.items ≡ deques owners.old.items) × (length rows.items ≡ length owners.old.items) × All (IsNewRow (deques owners.old.items)) rows.items) }
+    ensures { IfOk result (λ rows. All (IsNew (10 - length owners.old.items)) owners.new.items × (deques owners.new.items ≡ deques owners.old.items) × (length rows.items ≡ length owners.old.items) × AreNewRows (deques owners.old.items) rows.items) }
 {
     let mut rows = Vec::with_capacity(alloc, owners.len())?;
     for i in 0..owners.len() {
-        rows.push(row(alloc, owners, 9 - i)?)?;
+        rows.push(row(alloc, owners, i)?)?;
     }
     Ok(rows)
 }
@@ -68,7 +74,7 @@ fn seats<T: Drop>(
     mut owners: Vec<Own<T>>,
     mut rows: Vec<Vec<Reach<T>>>,
 ) -> Result<Vec<Seat<T>>, AllocError>
-    requires { All (IsNew (9 - length owners.items)) owners.items × (length owners.items ≤ 8) × (length rows.items ≡ length owners.items) × All (IsNewRow (deques owners.items)) rows.items }
+    requires { All (IsNew (10 - length owners.items)) owners.items × (length owners.items ≤ 8) × (length rows.items ≡ length owners.items) × AreNewRows (deques owners.items) rows.items }
     ensures { IfOk result (λ seats. AreFreshFrom (deques owners.items) 0 seats.items) }
 {
     let mut seats = Vec::with_capacity(alloc, owners.len())?;

@@ -21,5 +21,5 @@ pub struct Reach<T> {
     pub pass: Pass<T, Log<T>>,
     ghost fits: { IsPassOf (stealer_deque stealer) pass },
     ghost flavor: { stealer_flavor stealer ≡ 0 },
-    ghost knows: { view pass ≡ log 1 [] (view pass).got [] },
+    ghost knows: { view pass ≡ log (view pass).parts [] (view pass).got [] },
 }

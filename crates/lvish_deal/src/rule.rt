@@ -30,24 +30,23 @@ impl<T> Outcome<T, Log<T>> for Sent {
 pub struct Popped;
 
 impl<T> Outcome<T, Log<T>> for Popped {
-    ghost use Rattle.std.specs.Prelude.{◌≡◌, ◌++◌, ◌+◌, ◌≤◌, length};
-    ghost use Rattle.lvish_deal.specs.Rule.{log, FoundEmpty};
+    ghost use Rattle.std.specs.Prelude.{◌≡◌, List, [], ◌++◌, ◌+◌, ◌≤◌, length};
+    ghost use Rattle.lvish_deal.specs.Order.{IsPicked};
+    ghost use Rattle.lvish_deal.specs.Rule.{log, TookAlone};
 
-    ghost then = { λ v xs w. (w ≡ log v.parts v.sent (v.got ++ xs) v.joined) × (length v.got + length xs ≤ length v.sent) };
+    ghost then = { λ v xs w. (w ≡ log v.parts v.sent (v.got ++ xs) v.joined) × (length v.got + length xs ≤ length v.sent) × IsPicked w.got w.sent × ((rest : List T) × TookAlone w rest) };
 
-    ghost empty = { FoundEmpty 0 };
+    ghost empty = { λ v. TookAlone v [] };
 }
 
 // A thief takes the item at the front.
 pub struct Got;
 
 impl<T> Outcome<T, Log<T>> for Got {
-    ghost use Rattle.std.specs.Prelude.{◌≡◌, ◌++◌, ℕ};
-    ghost use Rattle.lvish_deal.specs.Rule.{log, FoundEmpty};
+    ghost use Rattle.std.specs.Prelude.{◌≡◌, ◌++◌};
+    ghost use Rattle.lvish_deal.specs.Rule.{log};
 
     ghost then = { λ v xs w. w ≡ log v.parts v.sent (v.got ++ xs) v.joined };
-
-    ghost empty = { λ v. (port : ℕ) × FoundEmpty port v };
 }
 
 // A thief's pass: it is made with one part, and has taken nothing. When it joins the owner's, it gives back its part and what it took.
@@ -69,6 +68,18 @@ impl<T> Join<Log<T>> for Cut {
     ghost both = { λ v w. log (v.parts + w.parts) v.sent v.got (w.got ∷ (w.joined ++ v.joined)) };
 
     ghost spent = { log 0 [] [] [] };
+}
+
+// A seat's pass for its own deque: it has no part, and takes nothing.
+pub struct Idle;
+
+impl<T> Split<Log<T>> for Idle {
+    ghost use Rattle.std.specs.Prelude.{[]};
+    ghost use Rattle.lvish_deal.specs.Rule.{log};
+
+    ghost left = { λ v. v };
+
+    ghost right = { λ v. log 0 [] [] [] };
 }
 
 // What the owner learns once it has every part: which items left, and which are still there.

@@ -1,11 +1,12 @@
 // A seat, and its moves.
 ghost use Rattle.std.specs.Prelude.{◌≡◌, ◌≢◌, [], ◌∷◌, ◌++◌, length, map, ◌+◌, ◌-◌, ◌<◌, ◌≤◌, OnOk, OnErr, IfErr, IfSome, IfNone, slice_set, slice_index_or};
 ghost use Rattle.crossbeam_deque.specs.Handles.{worker_deque, worker_view, worker_port, worker_flavor};
-ghost use Rattle.lvish_deal.specs.Reaches.{reach_deque, reach_got};
+ghost use Rattle.lvish_deal.specs.Reaches.{reach_deque, reach_got, HasParts};
+ghost use Rattle.lvish_deal.specs.Order.{IsPicked, IsFront};
 ghost use Rattle.lvish_deal.specs.Deals.{IsNew};
 ghost use Rattle.lvish_deal.specs.Closes.{IsPart};
-ghost use Rattle.lvish_deal.specs.Place.{taken_from, IsSameSeat, MayBeEmpty, MayBeEmptyAt};
-ghost use Rattle.lvish_deal.specs.Answer.{IfTaken, OnNothing, OnAgain};
+ghost use Rattle.lvish_deal.specs.Place.{taken_from, IsSameSeat, IsAlone};
+ghost use Rattle.lvish_deal.specs.Answer.{IfTaken, IfNotTaken};
 
 use crate::reach::{Own, Reach};
 use crate::rule::{Popped, Sent};
@@ -39,7 +40,8 @@ impl<T> Model for Seat<T> {
 impl<T> Seat<T> {
     // A seat that has pushed and taken nothing.
     pub(crate) fn new(number: usize, own: Own<T>, reaches: Vec<Reach<T>>) -> Seat<T>
-        requires new { IsNew (9 - length reaches.items) own }
+        requires new { IsNew (10 - length reaches.items) own }
+        requires parts { HasParts number reaches.items }
         requires few { length reaches.items ≤ 8 }
         requires among { number < length reaches.items }
         requires own { (d : _) → reach_deque (slice_index_or reaches.items number d) ≡ worker_deque own }
@@ -104,10 +106,14 @@ impl<T> Seat<T> {
         Ok(())
     }
 
-    /// Takes the item at the front of its own deque. `None` only if the deque was empty at one moment of the call.
+    /// Takes the item at the front of its own deque. `None` only if the deque was empty at one moment of the call: that is
+    /// proved of a seat that is alone in its deal, and only tested where others steal, who may have taken any items.
     pub fn pop(&mut self) -> Option<T>
         ensures some { IfSome result (λ x. self.new ≡ record self.old { popped = self.old.popped ++ x ∷ [] }) }
-        ensures none { IfNone result ((self.new ≡ self.old) × MayBeEmpty self.old) }
+        ensures none { IfNone result (self.new ≡ self.old) }
+        ensures picked { IfSome result (λ _. IsPicked self.new.popped self.new.pushed) }
+        ensures front { IfSome result (λ _. IsAlone self.old → IsFront self.new.popped self.new.pushed) }
+        ensures all { IfNone result (IsAlone self.old → self.old.popped ≡ self.old.pushed) }
         ensures same { IsSameSeat self.old self.new }
     {
         let item = self.own.pop_as::<Popped>()?;
@@ -116,13 +122,12 @@ impl<T> Seat<T> {
     }
 
     /// Takes the item at the front of the deque of the seat `from`. `Nothing` only if the deque was empty at one moment of
-    /// the call.
+    /// the call: that is only tested, since a thief knows nothing of what the others pushed and took.
     pub fn steal(&mut self, from: usize) -> Steal<T>
         requires among { from < length self.old.deal }
         requires other { from ≢ self.old.number }
         ensures taken { IfTaken result (λ x. self.new ≡ record self.old { stolen = slice_set self.old.stolen from (taken_from self.old from ++ x ∷ []) }) }
-        ensures nothing { OnNothing result ((self.new ≡ self.old) × MayBeEmptyAt self.old from) }
-        ensures again { OnAgain result (self.new ≡ self.old) }
+        ensures none { IfNotTaken result (self.new ≡ self.old) }
         ensures same { IsSameSeat self.old self.new }
     {
         self.reaches[from].take()

@@ -93,6 +93,22 @@ fn a_pop_and_a_steal_share_what_was_pushed(rt: HostRuntime) -> Result<(), Fail> 
 }
 
 #[test]
+fn a_lone_seat_pops_what_it_pushed(rt: HostRuntime) -> Result<(), Fail> {
+    let calls = [
+        Call::Seat(0, 1),
+        Call::Pop(0, None),
+        Call::Push(0, 1),
+        Call::Push(0, 2),
+        Call::Pop(0, Some(1)),
+        Call::Pop(0, Some(2)),
+        Call::Pop(0, None),
+        Call::Push(0, 3),
+    ];
+    assert!(rt; holds(rt.alloc(), 1, &calls, &[&[3]])?);
+    Ok(())
+}
+
+#[test]
 fn a_thief_empties_one_deque_and_turns_to_another(rt: HostRuntime) -> Result<(), Fail> {
     let calls = [
         Call::Seat(1, 3),

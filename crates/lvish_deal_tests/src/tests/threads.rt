@@ -157,3 +157,51 @@ fn each_item_is_taken_once(rt: HostRuntime) -> Result<(), Fail> {
     assert_eq!(rt; miscounted(&rt, rt.alloc(), 8)?, 0, "on eight threads");
     Ok(())
 }
+
+// Pushes all items, or as many as there is memory for.
+fn fill(seat: &mut Seat<u32>) {
+    for item in 0..ITEMS {
+        let _ = seat.push(item);
+    }
+}
+
+// Takes from the first deque: the first seat by a pop, the others by a steal.
+fn take_first(seat: &mut Seat<u32>) -> Steal<u32> {
+    if seat.number() > 0 {
+        return seat.steal(0);
+    }
+    match seat.pop() {
+        Some(item) => Steal::Taken(item),
+        None => Steal::Nothing,
+    }
+}
+
+// Takes from the first deque again and again. Whether it took an item after it was told that nothing was there.
+fn takes_after_nothing(mut seat: Seat<u32>) -> bool {
+    let mut told = false;
+    for _ in 0..2 * ITEMS {
+        match take_first(&mut seat) {
+            Steal::Taken(_) if told => return true,
+            Steal::Nothing => told = true,
+            _ => {}
+        }
+    }
+    false
+}
+
+// How many seats took an item after they were told that nothing was there, where nobody pushes any more.
+fn misinformed<R: Threads + Sync>(rt: &R, alloc: Global, n: usize) -> Result<usize, AllocError>
+    requires { (0 < n) × (n ≤ 8) }
+{
+    let mut seats = deal(alloc, n)?;
+    fill(&mut seats[0]);
+    let done = thread::map_vec(rt, seats, &|seat| -> bool { takes_after_nothing(seat) })?;
+    Ok(done.iter().filter(|wrong| **wrong).count())
+}
+
+#[test]
+fn who_is_told_nothing_takes_no_more(rt: HostRuntime) -> Result<(), Fail> {
+    assert_eq!(rt; misinformed(&rt, rt.alloc(), 3)?, 0, "on three threads");
+    assert_eq!(rt; misinformed(&rt, rt.alloc(), 8)?, 0, "on eight threads");
+    Ok(())
+}

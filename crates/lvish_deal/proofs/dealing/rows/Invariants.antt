@@ -1,13 +1,12 @@
-use Rattle.std.proofs.Common.{◌≡◌, ◌-◌, length}
-use Rattle.std.specs.Prelude.{All}
-use Rattle.lvish_deal.specs.Deals.{IsNew, IsNewRow, deques}
+use Rattle.std.proofs.Common.{◌≡◌, length}
+use Rattle.lvish_deal.specs.Deals.{AreCut, AreNewRows, deques}
 use Rattle.lvish_deal.proofs.dealing.rows.Given as goal
 
 abbrev pub invariant-loop-i : goal.invariant-loop-i
 invariant-loop-i g l = record {
   names : deques l.owners.items ≡ deques l.initial.owners.items;
   long : length l.owners.items ≡ length l.initial.owners.items;
-  new : All (IsNew (9 - l.i)) l.owners.items;
+  new : AreCut l.i l.owners.items;
   count : length l.rows.items ≡ l.i;
-  rows : All (IsNewRow (deques l.initial.owners.items)) l.rows.items;
+  rows : AreNewRows (deques l.initial.owners.items) l.rows.items;
 }

@@ -1,6 +1,6 @@
 use Rattle.std.proofs.Common.{◌≡◌, ◌-◌, ◌≤◌, length, take}
 use Rattle.std.specs.Prelude.{All}
-use Rattle.lvish_deal.specs.Deals.{IsNew, IsNewRow, deques}
+use Rattle.lvish_deal.specs.Deals.{IsNew, AreNewRows, deques}
 use Rattle.lvish_deal.specs.Place.{AreFreshFrom}
 use Rattle.lvish_deal.proofs.dealing.seats.Given as goal
 
@@ -8,9 +8,9 @@ abbrev pub invariant-loop-own : goal.invariant-loop-own
 invariant-loop-own g l = record {
   few : length l.owners.items ≤ length l.fn.owners.items;
   names : deques l.owners.items ≡ take (length l.owners.items) (deques l.fn.owners.items);
-  new : All (IsNew (9 - length l.fn.owners.items)) l.owners.items;
+  new : All (IsNew (10 - length l.fn.owners.items)) l.owners.items;
   count : length l.rows.items ≡ length l.owners.items;
-  rows : All (IsNewRow (deques l.fn.owners.items)) l.rows.items;
+  rows : AreNewRows (deques l.fn.owners.items) l.rows.items;
   made : AreFreshFrom (deques l.fn.owners.items) (length l.owners.items) l.seats.items;
 }
 
