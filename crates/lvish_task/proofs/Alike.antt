@@ -50,7 +50,8 @@ use Rattle.lvish_task.specs.Meaning as m
 use Rattle.lvish_task.specs.Meaning.{Values, Activation, State, Turn, term_value, with_value, quiet, begins, bound}
 use Rattle.lvish_task.specs.Run as f
 use Rattle.lvish_task.specs.Run.{FlatTurn, operand_value, expression_value, target_place, wanted_test, placed, stepped, begun, nowhere, routine, instructions, instruction, jump_in, callee, callee_in}
-use Rattle.lvish_task.specs.Pictures.{CallsAlike, PicturesFrame, PicturesAll, Pictures, SameRequest}
+use Rattle.lvish_calculus.specs.SameRuns.{SameRequest}
+use Rattle.lvish_task.specs.Pictures.{CallsAlike, PicturesFrame, PicturesAll, Pictures}
 use Rattle.lvish_task.specs.FitLaws.{list_all_get}
 use Rattle.lvish_task.proofs.Stored.{bound_at, stored_at, value_at, values_at, given_at, test_at}
 use Rattle.lvish_task.proofs.Inner.{rest_sound, first_sound, taken_sound, passed_sound}

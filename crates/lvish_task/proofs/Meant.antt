@@ -1,7 +1,9 @@
 -- The code of a script means what its nested statements mean.
 use Rattle.std.proofs.Common.{◌≡◌, ◌⊎◌, ℕ, zero, suc, ℤ, pos, ◌+◌, ◌≤◌, Bool, true, false, ◌&&◌, ◌||◌, ◌==◌, codes, inl, inr, List, [], ◌∷◌, length, Option, Some, None, Result, Ok, Err, refl, sym, ap, ◌∙◌, subst, arith}
 use Rattle.std.specs.Prelude.{if◌then◌else◌, nat_lt, unwrap_or}
-use Rattle.std.specs.List.{slice_get, slice_set, list_all, list_any}
+use Rattle.std.specs.Option.{option_map}
+use Rattle.std.specs.List.{flat_map, slice_get, slice_set, list_all, list_any}
+use Rattle.std.proofs.lemmas.Option.{slice_get-map}
 use Rattle.std.proofs.lemmas.Bool.Decides.{Decides-eqb}
 use Rattle.lvish_compound.specs.declared.any.Any.{Any}
 use Rattle.lvish_compound.specs.declared.any_read.AnyRead.{AnyRead}
@@ -14,15 +16,17 @@ use Rattle.lvish_calculus.specs.declared.request.Reply.{Reply}
 use Rattle.lvish_calculus.specs.declared.request.Reply.TheVariants as reply
 use Rattle.lvish_calculus.specs.Program.{IsReplyTo}
 use Rattle.lvish_syntax.specs.Words.{Word}
-use Rattle.lvish_syntax.specs.Sound.{takes as takes_terms, locals_of, are_sound, is_own_sound, is_command_sound}
+use Rattle.lvish_syntax.specs.Sound.{takes as takes_terms, variable_names, locals_of, are_sound, is_own_sound, is_command_sound}
 use Rattle.lvish_syntax.specs.Name.{has_name}
+use Rattle.lvish_syntax.specs.declared.declaration.Declaration.{Declaration}
+use Rattle.lvish_syntax.specs.declared.declaration.Declaration.TheVariants as line
 use Rattle.lvish_syntax.specs.declared.procedure.Procedure.{Procedure}
 use Rattle.lvish_syntax.specs.declared.script.Script.{Script}
 use Rattle.lvish_syntax.specs.declared.command.Command.{Command}
 use Rattle.lvish_syntax.specs.declared.command.Command.TheVariants as command
 use Rattle.lvish_syntax.specs.declared.statement.Statement.{Statement}
 use Rattle.lvish_code.specs.Numbering.{number_of}
-use Rattle.lvish_code.specs.Compile.{names_of, local_names, command_code, routine_of}
+use Rattle.lvish_code.specs.Compile.{names_of, local_names, command_code, routine_of, pool_variables}
 use Rattle.lvish_code.specs.Compile as compile
 use Rattle.lvish_code.specs.Follows.{Follows, DoesCommand, Does}
 use Rattle.lvish_code.specs.Sound.{takes}
@@ -30,7 +34,7 @@ use Rattle.lvish_code.specs.declared.instruction.Instruction.{Instruction}
 use Rattle.lvish_code.specs.declared.instruction.Instruction.TheVariants.{Ask, Let, Call, SkipIfZero, BackUnlessZero, GoOn, Return}
 use Rattle.lvish_code.specs.declared.code.Code as flat
 use Rattle.lvish_code.proofs.Bools.{both}
-use Rattle.lvish_code.proofs.Names.{taking}
+use Rattle.lvish_code.proofs.Names.{taking, count_kinds}
 use Rattle.lvish_code.proofs.Following.{does, does_here, place_within}
 use Rattle.lvish_task.specs.declared.frame.Frame.{Frame}
 use Rattle.lvish_task.specs.declared.local.Local.{Local}
@@ -38,13 +42,15 @@ use Rattle.lvish_task.specs.declared.code.Code.{Code}
 use Rattle.lvish_task.specs.CodeOf.{IsCodeOf}
 use Rattle.lvish_task.specs.States.{events_below}
 use Rattle.lvish_task.specs.Meaning as m
-use Rattle.lvish_task.specs.Meaning.{Activation, State, Turn, Asked, turns, quiet, begins}
+use Rattle.lvish_task.specs.Meaning.{Activation, State, Turn, Asked, turns, quiet, begins, script_functions}
 use Rattle.lvish_task.specs.Run as f
 use Rattle.lvish_task.specs.Run.{FlatTurn, FlatAsked, placed, stepped, routine, instruction, instructions, instructions_in, jump_in, landing, landed, is_over, is_end, fits, functions}
 use Rattle.lvish_task.specs.Landing.{jump_is, landing_induction, landing_lands}
 use Rattle.lvish_task.specs.Running.{returned_left}
+use Rattle.lvish_task.specs.ProgramLaws.{adds_two}
 use Rattle.lvish_task.specs.FitLaws.{IsFrame, of_frame, of_local, each_fits, and_true}
-use Rattle.lvish_task.specs.Pictures.{CallsAlike, PicturesFrame, PicturesAll, Pictures, SameRequest, Means}
+use Rattle.lvish_calculus.specs.SameRuns.{SameRequest, IsMatch}
+use Rattle.lvish_task.specs.Pictures.{CallsAlike, BeginsOnTwo, PicturesFrame, PicturesAll, Pictures}
 use Rattle.lvish_task.proofs.Inner.{rest_sound, first_sound}
 use Rattle.lvish_task.proofs.Alike as alike
 
@@ -361,13 +367,43 @@ module _ (script : Script) (c : flat.Code) (is_code : compile.IsCodeOf script c)
       subst (λ o. Pictures script (f.alone (unwrap_or o (f.nowhere c))) (m.alone (begins xs p))) (sym (alike.callee_is script c is_code k p xs e n))
       (alike.alone_pictures script c is_code (f.begun k xs (routine_of (names_of script p) p)) (begins xs p) (alike.begun_pictures script c is_code k p xs e n))
 
-pub code_meant : (script : Script) (c : Code) → IsCodeOf script c → Means script (functions c)
+  -- ---- pools, and what handlers begin
+
+  pooled_alike : (ds : List Declaration) → pool_variables (variable_names script.declarations) ds ≡ flat_map (m.pooled script) ds
+  pooled_alike [] = refl
+  pooled_alike (line.Variable v k ∷ ds) = pooled_alike ds
+  pooled_alike (line.Pool p v ∷ ds) = ap (λ ns. m.variable script v ∷ ns) (pooled_alike ds)
+
+  pub pools_alike : (p : ℕ) → slice_get c.pools p ≡ m.pool_variable script p
+  pools_alike p = ap (λ ns. slice_get ns p) (is_code.pools ∙ pooled_alike script.declarations)
+
+  pub begins_on_two : (k : ℕ) → takes 2 (routine c k) ≡ true → BeginsOnTwo script k
+  begins_on_two k e = by (slice_get script.procedures k) refl (ap (takes 2) (sym at) ∙ e)
+    where
+      at : routine c k ≡ option_map (alike.code_of script c is_code) (slice_get script.procedures k)
+      at = ap (λ rs. slice_get rs k) is_code.routines ∙ slice_get-map (alike.code_of script c is_code) script.procedures k
+
+      by : (o : Option Procedure) → slice_get script.procedures k ≡ o → takes 2 (option_map (alike.code_of script c is_code) o) ≡ true → BeginsOnTwo script k
+      by None is e = absurd cc
+      by (Some p) is e = (p, is, (Decides-eqb _ _).0 e)
+
+  pub begun_handler : (k : ℕ) (xs : List ℤ) → length xs ≡ 2 → BeginsOnTwo script k → Pictures script (f.started c k xs) (m.started script xs (slice_get script.procedures k))
+  begun_handler k xs two b =
+      subst (λ o. Pictures script (f.started c k xs) (m.started script xs o)) (sym b.1)
+      (started_handler k b.0 xs b.1 (two ∙ sym b.2))
+
+pub code_meant : (script : Script) (c : Code) → IsCodeOf script c → IsMatch (functions c) (script_functions script) (Pictures script) (BeginsOnTwo script)
 code_meant script c is_code = record {
+  pools = pools_alike script c.flat is_code;
   start = subst (λ k. Pictures script (f.started c.flat k []) (m.started script [] (m.named script (codes "main")))) (sym is_code.main) (alike.started_pictures script c.flat is_code (codes "main") [] script.sound.main_stands);
-  start_handler = λ k e p is two. started_handler script c.flat is_code k p (e.key ∷ e.number ∷ []) is (sym two);
+  start_handler = λ k e two. begun_handler script c.flat is_code k (e.key ∷ e.number ∷ []) refl two;
   request = λ l s pic. (asked_alike script c.flat is_code l s pic).request;
+  adds = λ l s pic pool k e. begins_on_two script c.flat is_code k (adds_two c.flat l pool k e);
   at = λ l s pic. (asked_alike script c.flat is_code l s pic).at;
   resume = λ l s r pic fit.
       let a = f.asked c.flat l in
       resumed_alike script c.flat is_code a.at (m.asked script s).at a.request r (asked_alike script c.flat is_code l s pic).at fit (asked_makes script c.flat is_code l s pic);
 }
+
+pub variables_alike : (script : Script) (c : Code) → IsCodeOf script c → (functions c).variables ≡ (script_functions script).variables
+variables_alike script c is_code = ap length is_code.kinds ∙ count_kinds script.declarations

@@ -1,6 +1,6 @@
 -- What a task does, on nested statements: a small step is one statement, and what follows it is a list.
-use Rattle.std.specs.Prelude.{ℕ, zero, suc, ℤ, pos, nat_lt, List, [], ◌∷◌, ◌++◌, length, map, Option, Some, None, Result, Ok, Err, option_and_then, if◌then◌else◌}
-use Rattle.std.specs.List.{find}
+use Rattle.std.specs.Prelude.{ℕ, zero, suc, ℤ, pos, codes, nat_lt, List, [], ◌∷◌, ◌++◌, length, map, Option, Some, None, Result, Ok, Err, option_and_then, if◌then◌else◌}
+use Rattle.std.specs.List.{find, flat_map, slice_get}
 use Rattle.std.specs.Str.{bytes_eq}
 use Rattle.std.specs.Ordering.{int_eq}
 use Rattle.lvish_compound.specs.declared.event.Event.{Event}
@@ -10,6 +10,7 @@ use Rattle.lvish_calculus.specs.declared.request.Request.{Request}
 use Rattle.lvish_calculus.specs.declared.request.Request.TheVariants as ask
 use Rattle.lvish_calculus.specs.declared.request.Reply.{Reply}
 use Rattle.lvish_calculus.specs.declared.request.Reply.TheVariants as reply
+use Rattle.lvish_calculus.specs.Program.{Functions}
 use Rattle.lvish_syntax.specs.Words.{Word}
 use Rattle.lvish_syntax.specs.Nested.{statements}
 use Rattle.lvish_syntax.specs.Sound.{variable_names, pool_names, procedure_names, kind_of}
@@ -21,6 +22,8 @@ use Rattle.lvish_syntax.specs.declared.value.Value.{Value}
 use Rattle.lvish_syntax.specs.declared.value.Value.TheVariants.{Same, Combined}
 use Rattle.lvish_syntax.specs.declared.threshold.Threshold.{Threshold}
 use Rattle.lvish_syntax.specs.declared.threshold.Threshold.TheVariants.{Any as AnyOf, In, Has, Least}
+use Rattle.lvish_syntax.specs.declared.declaration.Declaration.{Declaration}
+use Rattle.lvish_syntax.specs.declared.declaration.Declaration.TheVariants as line
 use Rattle.lvish_syntax.specs.declared.command.Command.{Command}
 use Rattle.lvish_syntax.specs.declared.command.Command.TheVariants.{Let, Put, PutAt, Get, GetAt, Fork, Call, Handle, Freeze, FreezeEach}
 use Rattle.lvish_syntax.specs.declared.statement.Statement.{Statement}
@@ -278,3 +281,28 @@ module _ (script : Script) where
   -- what follows the reply to the request that is made in this state
   abbrev pub resumed : State → Reply Any ℤ → State
   resumed s r = record { top = resumed_top s.top r s.left; below = s.below; left = turns }
+
+  -- ---- the whole script
+
+  -- the variables of the pools, in the order of their lines
+  abbrev pub pooled : Declaration → List ℕ
+  pooled (line.Variable v k) = []
+  pooled (line.Pool p v) = variable v ∷ []
+
+  -- the variable of a pool, none where there is no such pool
+  abbrev pub pool_variable : ℕ → Option ℕ
+  pool_variable p = slice_get (flat_map pooled script.declarations) p
+
+-- a script as a program: what its tasks are, ask for and do after replies
+abbrev pub script_functions : Script → Functions Any Event AnyRead ℤ State
+script_functions script = record {
+  variables = length (variable_names script.declarations);
+  pool_variable = pool_variable script;
+  -- main begins without arguments
+  start = started script [] (named script (codes "main"));
+  -- a handler's procedure begins on key and number
+  start_handler = λ k e. started script (e.key ∷ e.number ∷ []) (slice_get script.procedures k);
+  request = λ s. (asked script s).request;
+  at = λ s. (asked script s).at;
+  resume = resumed script;
+}

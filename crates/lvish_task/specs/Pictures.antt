@@ -1,13 +1,7 @@
 -- Which nested state a local state of flat code stands for.
-use Rattle.std.specs.Prelude.{◌≡◌, ℕ, ℤ, pos, true, ◌≤◌, codes, List, [], ◌∷◌, length, Some}
+use Rattle.std.specs.Prelude.{◌≡◌, ℕ, pos, true, ◌≤◌, List, [], ◌∷◌, length, Some}
 use Rattle.std.specs.List.{slice_get, slice_index_or}
-use Rattle.lvish_compound.specs.declared.any.Any.{Any}
-use Rattle.lvish_compound.specs.declared.any_read.AnyRead.{AnyRead}
 use Rattle.lvish_compound.specs.declared.event.Event.{Event}
-use Rattle.lvish_calculus.specs.declared.request.Request.{Request}
-use Rattle.lvish_calculus.specs.declared.request.Request.TheVariants.{Put, Get, Fork, Add, Freeze, Pause, End, Fault}
-use Rattle.lvish_calculus.specs.declared.request.Reply.{Reply}
-use Rattle.lvish_calculus.specs.Program.{Functions, IsReplyTo}
 use Rattle.lvish_syntax.specs.Words.{Word}
 use Rattle.lvish_syntax.specs.Sound.{locals_of, are_sound}
 use Rattle.lvish_syntax.specs.declared.procedure.Procedure.{Procedure}
@@ -17,13 +11,17 @@ use Rattle.lvish_code.specs.Compile.{names_of, local_names, routine_of}
 use Rattle.lvish_code.specs.Follows.{Follows}
 use Rattle.lvish_task.specs.declared.frame.Frame.{Frame}
 use Rattle.lvish_task.specs.declared.local.Local.{Local}
-use Rattle.lvish_task.specs.Meaning.{Activation, State, procedure, begins, alone, started, named, asked, resumed}
+use Rattle.lvish_task.specs.Meaning.{Activation, State, procedure}
 
 module _ (script : Script) where
   -- where an `each` has events left, the procedure that it calls takes two values
   abbrev pub CallsAlike : ℕ → Word → List Event → Type 0
   CallsAlike k n [] = Unit {0}
   CallsAlike k n (e ∷ es) = (p : Procedure) × (slice_get script.procedures k ≡ Some p) × (length p.parameters ≡ 2) × (k ≡ procedure script n)
+
+  -- a handler can begin the procedure: it is there, and takes a key and a number
+  abbrev pub BeginsOnTwo : ℕ → Type 0
+  BeginsOnTwo k = (p : Procedure) × (slice_get script.procedures k ≡ Some p) × (length p.parameters ≡ 2)
 
   -- the frame stands for this frame of the nested statements
   pub record PicturesFrame (f : Frame) (a : Activation) : Type 0 where
@@ -52,27 +50,3 @@ module _ (script : Script) where
     pub left : l.left ≡ s.left
     pub few_below : length l.below ≤ 63
     pub few_left : l.left ≤ 1000
-
--- the same request, but that a fork's local states are only related
-abbrev pub SameRequest : {S R L M : Type 0} → (L → M → Type 0) → Request S R L → Request S R M → Type 0
-SameRequest P (Put v d) (Put w e) = (v ≡ w) × (d ≡ e)
-SameRequest P (Get v r) (Get w q) = (v ≡ w) × (r ≡ q)
-SameRequest P (Fork l) (Fork m) = P l m
-SameRequest P (Add k p) (Add j q) = (k ≡ j) × (p ≡ q)
-SameRequest P (Freeze v ks) (Freeze w js) = (v ≡ w) × (ks ≡ js)
-SameRequest P Pause Pause = Unit {0}
-SameRequest P End End = Unit {0}
-SameRequest P (Fault k) (Fault j) = k ≡ j
-SameRequest P _ _ = ⊥
-
--- a program means what the nested statements of the script mean
-pub record Means (script : Script) (f : Functions Any Event AnyRead ℤ Local) : Type 0 where
-  -- main begins without arguments
-  pub start : Pictures script f.start (started script [] (named script (codes "main")))
-  -- a handler's procedure begins on key and number
-  pub start_handler : (k : ℕ) (e : Event) (p : Procedure) → slice_get script.procedures k ≡ Some p → length p.parameters ≡ 2 → Pictures script (f.start_handler k e) (alone (begins (e.key ∷ e.number ∷ []) p))
-  -- the same is asked, and in a local state that stands for that in which the statements ask it
-  pub request : (l : Local) (s : State) → Pictures script l s → SameRequest (Pictures script) (f.request l) (asked script s).request
-  pub at : (l : Local) (s : State) → Pictures script l s → Pictures script (f.at l) (asked script s).at
-  -- after a reply the same follows
-  pub resume : (l : Local) (s : State) (r : Reply Any ℤ) → Pictures script l s → IsReplyTo (f.request l) r → Pictures script (f.resume (f.at l) r) (resumed script (asked script s).at r)

@@ -39,7 +39,7 @@ use Rattle.lvish_code.specs.declared.instruction.Instruction.{Instruction}
 use Rattle.lvish_code.specs.declared.instruction.Instruction.TheVariants.{Ask, Let, Call, SkipIfZero, BackUnlessZero, GoOn, Return}
 use Rattle.lvish_code.specs.declared.routine.Routine.{Routine}
 use Rattle.lvish_code.specs.declared.code.Code as flat
-use Rattle.lvish_code.specs.Sound.{is_target_sound, is_wanted_sound, is_action_sound, is_instruction_sound, is_on, target_kind}
+use Rattle.lvish_code.specs.Sound.{takes, is_target_sound, is_wanted_sound, is_action_sound, is_instruction_sound, is_on, target_kind}
 use Rattle.lvish_task.specs.declared.frame.Frame.{Frame}
 use Rattle.lvish_task.specs.declared.local.Local.{Local}
 use Rattle.lvish_task.specs.declared.code.Code.{Code}
@@ -161,7 +161,7 @@ module _ (c : flat.Code) where
   abbrev NamesThere : AskOf → Type 0
   NamesThere (ask.Put v d) = v < length c.kinds
   NamesThere (ask.Get v r) = (v < length c.kinds) × IsChecked joined (Member r)
-  NamesThere (ask.Add k p) = (v : ℕ) × (slice_get c.pools k ≡ Some v)
+  NamesThere (ask.Add k p) = ((v : ℕ) × (slice_get c.pools k ≡ Some v)) × (takes 2 (routine c p) ≡ true)
   NamesThere (ask.Freeze v ps) = (v < length c.kinds) × ((k : ℕ) → Contains ps k → slice_get c.pools k ≡ Some v)
   NamesThere r = Unit {0}
 
@@ -212,7 +212,7 @@ module _ (c : flat.Code) where
       getting_there v (read_at (target_place values t) (wanted_test values w)) (kind_there v n t (slice_get c.kinds v) refl k.1)
       (λ r is. read_checked (target_place values t) (wanted_test values w) r is (apart_at values t n w h.1))
   action_there values n (Fork k os) e = tt
-  action_there values n (Handle p k) e = get_there c.pools p (ltb-true _ _ (both _ _ e).0)
+  action_there values n (Handle p k) e = (get_there c.pools p (ltb-true _ _ (both _ _ e).0), (both _ _ e).1)
   action_there values n (Freeze x v ps each) e =
       let g = both (nat_lt x n && nat_lt v (length c.kinds) && list_all (λ p. is_on v (slice_get c.pools p)) ps) _ e in
       let h = both (nat_lt x n && nat_lt v (length c.kinds)) (list_all (λ p. is_on v (slice_get c.pools p)) ps) g.0 in
@@ -253,6 +253,10 @@ module _ (c : flat.Code) where
 
   pub asked_there : (l : Local) → NamesThere (asked c l).request
   asked_there l = asked_by l (fits c l)
+
+  -- a handler that a request adds begins a procedure of two parameters
+  pub adds_two : (l : Local) (k p : ℕ) → (asked c l).request ≡ ask.Add k p → takes 2 (routine c p) ≡ true
+  adds_two l k p e = (subst NamesThere e (asked_there l)).1
 
   -- ---- asked again
 
@@ -303,7 +307,7 @@ code_is_program c = record {
       subst IsSome (sym u.1) refl;
   puts = λ l v d e. subst (NamesThere c.flat) e (asked_there c.flat l);
   gets = λ l v r e. subst (NamesThere c.flat) e (asked_there c.flat l);
-  adds = λ l k p e. subst (NamesThere c.flat) e (asked_there c.flat l);
+  adds = λ l k p e. (subst (NamesThere c.flat) e (asked_there c.flat l)).0;
   freezes = λ l v ps e. subst (NamesThere c.flat) e (asked_there c.flat l);
   repeats = λ l. asked_again c.flat l;
 }

@@ -1,22 +1,39 @@
 //! What the code of each script promises, as contracts of functions with no code.
 
+ghost use Rattle.std.specs.Prelude.{◌≡◌};
+ghost use Rattle.lvish_calculus.specs.SameRuns.{IsMatch, HaveSameRuns};
 ghost use Rattle.lvish_syntax.specs.declared.script.Script.{Script};
 ghost use Rattle.lvish_task.specs.declared.code.Code.{Code};
 ghost use Rattle.lvish_task.specs.CodeOf.{IsCodeOf};
-ghost use Rattle.lvish_task.specs.Pictures.{Means};
 ghost use Rattle.lvish_task.specs.Laws.{KeepsFitting};
+ghost use Rattle.lvish_task.specs.Meaning.{script_functions};
+ghost use Rattle.lvish_task.specs.Pictures.{Pictures, BeginsOnTwo};
 
 use crate::code::Code;
-use lvish_calculus::Program;
+use crate::meaning::ScriptMeaning;
+use lvish_calculus::laws::lawful;
+use lvish_calculus::{Meaning, Program};
+use lvish_syntax::Script;
 
 /// The code of a script means what the nested statements of the script mean.
 ///
-/// It starts alike. Wherever a local state stands for a state of the nested statements, it asks for
-/// the same, the local state in which it asks stands for the state in which they ask, and after each
-/// reply it stands for what follows there.
+/// It has as many variables and the same pools, and starts alike; so does each procedure that a
+/// handler begins, which takes a key and a number. Wherever a local state stands for a state of the
+/// nested statements, it asks for the same, the local state in which it asks stands for the state in
+/// which they ask, and after each reply it stands for what follows there.
 pub fn code_means()
-    ensures { (s : Script) (c : Code) → IsCodeOf s c → Means s (⟦<Code as Program>⟧.functions c) }
+    ensures alike { (s : Script) (c : Code) → IsCodeOf s c → IsMatch (⟦<Code as Program>⟧.functions c) (script_functions s) (Pictures s) (BeginsOnTwo s) }
+    ensures variables { (s : Script) (c : Code) → IsCodeOf s c → (⟦<Code as Program>⟧.functions c).variables ≡ (script_functions s).variables }
 {}
+
+/// The code of a script has the runs of the script's nested statements: the same labels lead to
+/// equal contents, marks, handlers and errors, and to the same tasks with the same counts, at the
+/// same requests.
+pub fn same_runs()
+    ensures { (s : Script) (c : Code) → IsCodeOf s c → HaveSameRuns (⟦<Code as Meaning>⟧.machine c) (⟦<Script as ScriptMeaning>⟧.machine s) }
+{
+    lawful::<Code>();
+}
 
 /// Each local state that a start, an ask, a fork or a reply gives does fit, from one that fits; one
 /// that doesn't fit asks End, and stays.

@@ -9,6 +9,7 @@ mod frame;
 mod frames;
 pub mod laws;
 mod local;
+mod meaning;
 mod program;
 mod remaining;
 mod resume;
@@ -20,3 +21,4 @@ mod values;
 
 pub use code::Code;
 pub use local::Local;
+pub use meaning::ScriptMeaning;

@@ -1,5 +1,8 @@
-use Rattle.lvish_task.proofs.Meant.{code_meant}
+use Rattle.lvish_task.proofs.Meant.{code_meant, variables_alike}
 use Rattle.lvish_task.proofs.laws.code_means.Goals as goal
 
-pub returns : goal.returns
-returns c = code_meant
+pub returns-clause-alike : goal.returns-clause-alike
+returns-clause-alike c = code_meant
+
+pub returns-clause-variables : goal.returns-clause-variables
+returns-clause-variables c = variables_alike
