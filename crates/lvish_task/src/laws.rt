@@ -11,7 +11,6 @@ ghost use Rattle.lvish_task.specs.Pictures.{Pictures, BeginsOnTwo};
 
 use crate::code::Code;
 use crate::meaning::ScriptMeaning;
-use lvish_calculus::laws::lawful;
 use lvish_calculus::{Meaning, Program};
 use lvish_syntax::Script;
 
@@ -31,9 +30,7 @@ pub fn code_means()
 /// same requests.
 pub fn same_runs()
     ensures { (s : Script) (c : Code) → IsCodeOf s c → HaveSameRuns (⟦<Code as Meaning>⟧.machine c) (⟦<Script as ScriptMeaning>⟧.machine s) }
-{
-    lawful::<Code>();
-}
+{}
 
 /// Each local state that a start, an ask, a fork or a reply gives does fit, from one that fits; one
 /// that doesn't fit asks End, and stays.

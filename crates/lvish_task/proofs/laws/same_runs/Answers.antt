@@ -6,4 +6,4 @@ use Rattle.lvish_task.proofs.Meant.{code_meant}
 use Rattle.lvish_task.proofs.laws.same_runs.Goals as goal
 
 pub returns : goal.returns
-returns c = λ s code is. matching_runs _ _ _ _ _ _ _ (functions code) (script_functions s) (Pictures s) (BeginsOnTwo s) ((c.lawful.ensures code).event_same_is) (code_meant s code is)
+returns c = λ s code is. matching_runs _ _ _ _ _ _ _ (functions code) (script_functions s) (Pictures s) (BeginsOnTwo s) (code_meant s code is)
