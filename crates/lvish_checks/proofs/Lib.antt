@@ -8,3 +8,6 @@ pub mod Forms
 pub mod Order
 pub mod Numbers
 pub mod Stacks
+pub mod Values
+pub mod Decimals
+pub mod Spelled

@@ -16,7 +16,7 @@ use Rattle.std.proofs.lemmas.Fmt.{IsAscii-from_digits}
 use Rattle.std.proofs.lemmas.Str.Ascii.{IsAscii-cons}
 use Rattle.lvish_checks.specs.Form.{is_numeral, number_of}
 
-own : IsNumeralModel (λ ds. all_ascii_digits ds ≡ true) (digits_value 10)
+pub own : IsNumeralModel (λ ds. all_ascii_digits ds ≡ true) (digits_value 10)
 own = numerals_by_value _ tells_all_ascii_digits
 
 picked : {E : Type 0} (r : Result ℤ E) (Q : Type 0) (x : ℤ) (t : Bool) → OkIff r Q x → (t ≡ true → Q) → (Q → t ≡ true) → result_ok r ≡ cond t (Some x) None
