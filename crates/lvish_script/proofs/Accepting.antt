@@ -22,7 +22,7 @@ use Rattle.lvish_checks.specs.declared.open_blocks.Opener.TheVariants.{Procedure
 use Rattle.lvish_checks.specs.Text.{is_foreign}
 use Rattle.lvish_checks.specs.Form.{is_bad_number}
 use Rattle.lvish_script.specs.Spells.{body_lines, script_lines}
-use Rattle.lvish_script.specs.Canonical.{line_words}
+use Rattle.lvish_checks.specs.Spelling.{line_words}
 use Rattle.lvish_checks.proofs.Cuts.{left_fails, right_fails}
 use Rattle.lvish_script.proofs.Cleaned.{unknown_given, unknown_is}
 use Rattle.lvish_script.proofs.Cleared.{locals_in}

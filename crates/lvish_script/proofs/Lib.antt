@@ -19,3 +19,5 @@ pub mod Places
 pub mod Depths
 pub mod Passing
 pub mod Accepting
+pub mod Unique
+pub mod Worded

@@ -1,27 +1,27 @@
 -- Words that can stand in a line: no separator, no line feed and no comment's beginning in them.
-use Rattle.std.proofs.Common.{◌≡◌, cond, ℕ, suc, ◌^◌, ◌<◌, Bool, true, false, not, ◌||◌, ◌&&◌, List, [], ◌∷◌, ◌++◌, length, map, Option, Some, None, refl, ap, ◌∙◌, arith}
+use Rattle.std.proofs.Common.{◌≡◌, cond, ℕ, suc, Bool, true, false, not, ◌||◌, ◌&&◌, List, [], ◌∷◌, ◌++◌, length, map, Option, Some, refl, ap, ◌∙◌, arith}
 use Rattle.std.proofs.lemmas.Bool.{and_from, or_from}
-use Rattle.std.specs.Prelude.{nat_le, nat_lt, ◌==◌, ℤ, pos, negsuc, filter, take_while}
+use Rattle.std.specs.Prelude.{nat_le, ◌==◌, ℤ, pos, negsuc, filter, take_while}
 use Rattle.std.specs.List.{list_any, list_all, slice_split, onto_first}
 use Rattle.std.specs.Str.{all_ascii_digits}
-use Rattle.std.specs.Str.Parse.{digits_value}
 use Rattle.std.specs.Fmt.{decimal, signed_decimal}
-use Rattle.std.proofs.lemmas.Fmt.{digits_decimal, digits_value-decimal, decimal_is_IsNumeral}
-use Rattle.std.proofs.lemmas.Str.Parse.{IsNumeralModel, numerals_by_value, tells_all_ascii_digits}
+use Rattle.std.proofs.lemmas.Fmt.{digits_decimal}
 use Rattle.std.proofs.lemmas.Bool.Decides.{nat_tests}
 use Rattle.std.proofs.lemmas.List.{append-nil}
 use Rattle.std.proofs.lemmas.List.Folds.{list_any-append}
 use Rattle.std.proofs.lemmas.List.Sums.{take_while-cons}
 use Rattle.std.proofs.lemmas.List.Splits.{slice_split-cons_yes, slice_split-cons_no}
-use lib.IntN.{neg_ℤ}
 use Rattle.lvish_syntax.specs.Words.{Word, is_name, is_name_byte, is_letter, is_digit, is_reserved}
 use Rattle.lvish_syntax.specs.Written.{is_within, is_term_written}
 use Rattle.lvish_syntax.specs.declared.term.Term.{Term}
 use Rattle.lvish_syntax.specs.declared.term.Term.TheVariants.{Local, Number}
 use Rattle.lvish_checks.specs.Text.{is_separator, is_comment, is_foreign, words_of}
-use Rattle.lvish_checks.specs.Form.{is_number_word, is_numeral, number_of, value_of_number, number_word, term_of, is_bad_number, all_of}
-use Rattle.lvish_script.specs.Canonical.{term_word, spaced, joined}
+use Rattle.lvish_checks.specs.Form.{is_number_word, is_numeral, value_of_number, number_word, term_of, is_bad_number, all_of}
+use Rattle.lvish_checks.specs.Spelling.{term_word}
+use Rattle.lvish_script.specs.Canonical.{spaced, joined}
 use Rattle.lvish_checks.proofs.Cuts.{left_fails, right_fails}
+use Rattle.lvish_checks.proofs.Numbers.{own}
+use Rattle.lvish_checks.proofs.Decimals.{some_length, below, above, decimal_numeral, number_back, number_is_word}
 use Rattle.lvish_script.proofs.Bodies.{first_holds, second_holds}
 
 -- a byte of a word
@@ -69,13 +69,6 @@ name_no_number (b ∷ w) e =
 
 -- ---- numbers
 
-own : IsNumeralModel (λ ds. all_ascii_digits ds ≡ true) (digits_value 10)
-own = numerals_by_value _ tells_all_ascii_digits
-
-some_length : (ds : List ℕ) → 0 < length ds → not (length ds == 0) ≡ true
-some_length [] h = absurd (omega arith)
-some_length (d ∷ ds) h = grind (arith, nat_tests)
-
 digit_plain : (d : ℕ) (t : Bool) → ((nat_le 48 d && nat_le d 57) && t) ≡ true → is_plain_byte d ≡ true
 digit_plain d true e = grind (arith, nat_tests)
 digit_plain d false e = grind (arith, nat_tests)
@@ -83,42 +76,6 @@ digit_plain d false e = grind (arith, nat_tests)
 digits_plain : (ds : List ℕ) → all_ascii_digits ds ≡ true → list_all is_plain_byte ds ≡ true
 digits_plain [] e = refl
 digits_plain (d ∷ ds) e = and_from (is_plain_byte d) _ (digit_plain d (all_ascii_digits ds) e) (digits_plain ds (second_holds _ (all_ascii_digits ds) e))
-
-below : (n : ℕ) → nat_lt n (2 ^ 63) ≡ true → n < 2 ^ 64
-below n e = grind (arith, nat_tests)
-
-above : (n : ℕ) → nat_lt n (2 ^ 63) ≡ true → suc n < 2 ^ 64
-above n e = grind (arith, nat_tests)
-
-up_to : (n : ℕ) → nat_lt n (2 ^ 63) ≡ true → nat_le (suc n) (2 ^ 63) ≡ true
-up_to n e = grind (arith, nat_tests)
-
-decimal_numeral : (n : ℕ) → n < 2 ^ 64 → is_numeral (decimal n) ≡ true
-decimal_numeral n h = and_from (not (length (decimal n) == 0)) _ (some_length (decimal n) (decimal_is_IsNumeral n h).0.0) (digits_decimal own n h)
-
-decimal_value : (n : ℕ) → n < 2 ^ 64 → digits_value 10 (decimal n) ≡ n
-decimal_value n h = digits_value-decimal own n h
-
--- digits do not begin as a negative number does, nor as a comment
-digits_number : (ds : List ℕ) → is_numeral ds ≡ true → nat_lt (digits_value 10 ds) (2 ^ 63) ≡ true → number_of ds ≡ Some (pos (digits_value 10 ds))
-digits_number [] e f = absurd cc
-digits_number (d ∷ ds) e f =
-    let no_minus : (d == 45) ≡ false = no_sign d (all_ascii_digits ds) (second_holds (not (length (d ∷ ds) == 0)) _ e) in
-    let test : (is_numeral (d ∷ ds) && nat_lt (digits_value 10 (d ∷ ds)) (2 ^ 63)) ≡ true = and_from (is_numeral (d ∷ ds)) _ e f in
-    rw no_minus (ap (λ b. cond b (Some (pos (digits_value 10 (d ∷ ds)))) None) test)
-  where
-    no_sign : (d : ℕ) (t : Bool) → ((nat_le 48 d && nat_le d 57) && t) ≡ true → (d == 45) ≡ false
-    no_sign d true e = grind (arith, nat_tests)
-    no_sign d false e = grind (arith, nat_tests)
-
-digits_word : (ds : List ℕ) → is_numeral ds ≡ true → is_number_word ds ≡ true
-digits_word [] e = absurd cc
-digits_word (d ∷ ds) e = is_word d (all_ascii_digits ds) (d == 45 && not (length ds == 0)) (second_holds (not (length (d ∷ ds) == 0)) _ e)
-  where
-    is_word : (d : ℕ) (t u : Bool) → ((nat_le 48 d && nat_le d 57) && t) ≡ true → (is_digit d || u) ≡ true
-    is_word d true true e = grind (arith, nat_tests)
-    is_word d true false e = grind (arith, nat_tests)
-    is_word d false u e = grind (arith, nat_tests)
 
 digits_begin : (ds : List ℕ) → is_numeral ds ≡ true → is_plain ds ≡ true
 digits_begin [] e = absurd cc
@@ -129,20 +86,6 @@ digits_begin (d ∷ ds) e =
     no_hash : (d : ℕ) (t : Bool) → ((nat_le 48 d && nat_le d 57) && t) ≡ true → not (d == 35) ≡ true
     no_hash d true e = grind (arith, nat_tests)
     no_hash d false e = grind (arith, nat_tests)
-
--- the number that a number's decimal form writes
-pub number_back : (z : ℤ) → is_within z ≡ true → number_of (signed_decimal z) ≡ Some z
-number_back (pos n) e =
-    let small = below n e in
-    digits_number (decimal n) (decimal_numeral n small) (ap (λ m. nat_lt m (2 ^ 63)) (decimal_value n small) ∙ e) ∙ ap (λ m. Some (pos m)) (decimal_value n small)
-number_back (negsuc n) e =
-    let small = above n e in
-    let test : (is_numeral (decimal (suc n)) && nat_le (digits_value 10 (decimal (suc n))) (2 ^ 63)) ≡ true = and_from (is_numeral (decimal (suc n))) _ (decimal_numeral (suc n) small) (ap (λ m. nat_le m (2 ^ 63)) (decimal_value (suc n) small) ∙ up_to n e) in
-    ap (λ b. cond b (Some (neg_ℤ (pos (digits_value 10 (decimal (suc n)))))) None) test ∙ ap (λ m. Some (neg_ℤ (pos m))) (decimal_value (suc n) small)
-
-pub number_is_word : (z : ℤ) → is_within z ≡ true → is_number_word (signed_decimal z) ≡ true
-number_is_word (pos n) e = digits_word (decimal n) (decimal_numeral n (below n e))
-number_is_word (negsuc n) e = some_length (decimal (suc n)) (decimal_is_IsNumeral (suc n) (above n e)).0.0
 
 pub number_plain : (z : ℤ) → is_within z ≡ true → is_plain (signed_decimal z) ≡ true
 number_plain (pos n) e = digits_begin (decimal n) (decimal_numeral n (below n e))

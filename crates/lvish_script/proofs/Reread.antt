@@ -26,7 +26,7 @@ use Rattle.lvish_syntax.specs.declared.command.Command.TheVariants.{Let, Put, Pu
 use Rattle.lvish_checks.specs.declared.line.Line.{Line}
 use Rattle.lvish_checks.specs.declared.line.Line.TheVariants as line
 use Rattle.lvish_checks.specs.Form.{term_of, number_word, operator_of, value_of, threshold_of, get_of, freeze_each, freeze_after, freeze_of, simple_kind, variable_line, pair_line, pool_line, proc_line, let_line, put_line, get_line, run_line, handle_line, freeze_line, block_line, bare_line, line_of}
-use Rattle.lvish_script.specs.Canonical.{term_word, kind_word, operator_word, value_words, threshold_words, pool_words, command_words, line_words}
+use Rattle.lvish_checks.specs.Spelling.{term_word, kind_word, operator_word, value_words, threshold_words, pool_words, command_words, line_words}
 use Rattle.lvish_script.proofs.Bodies.{first_holds, second_holds}
 use Rattle.lvish_script.proofs.Soundness.{is_line_written}
 use Rattle.lvish_script.proofs.Plain.{term_back, word_back, all_back}

@@ -30,7 +30,8 @@ use Rattle.lvish_checks.specs.declared.line.Line.TheVariants as line
 use Rattle.lvish_checks.specs.Text.{is_foreign, lines_of, without_last_feed, words_of}
 use Rattle.lvish_checks.specs.Form.{line_of, is_bad_number}
 use Rattle.lvish_script.specs.Spells.{body_lines, procedure_lines, script_lines, says_something}
-use Rattle.lvish_script.specs.Canonical.{term_word, kind_word, operator_word, value_words, threshold_words, pool_words, command_words, line_words, joined, lines_text}
+use Rattle.lvish_checks.specs.Spelling.{term_word, kind_word, operator_word, value_words, threshold_words, pool_words, command_words, line_words}
+use Rattle.lvish_script.specs.Canonical.{joined, lines_text}
 use Rattle.lvish_script.proofs.Bodies.{is_inner, inner, first_holds, second_holds, join_all}
 use Rattle.lvish_script.proofs.Declaring.{heads, not_true}
 use Rattle.lvish_script.proofs.Soundness.{is_line_written}

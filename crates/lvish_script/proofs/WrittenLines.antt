@@ -1,13 +1,10 @@
 -- What a line says has names that are names, and numbers within 64 bits.
-use Rattle.std.proofs.Common.{◌≡◌, ℕ, zero, suc, ◌^◌, Bool, true, false, ◌&&◌, List, [], ◌∷◌, length, map, drop, Option, Some, None, refl, ap, ◌∙◌, arith}
-use Rattle.std.specs.Prelude.{codes, nat_le, nat_lt, ◌==◌, take_while, option_and_then, unwrap_or, is_some, if◌then◌else◌, ℤ, pos}
-use lib.IntN.{neg_ℤ}
+use Rattle.std.proofs.Common.{◌≡◌, Bool, true, false, ◌&&◌, List, [], ◌∷◌, length, map, drop, Option, Some, None, refl, ap, ◌∙◌}
+use Rattle.std.specs.Prelude.{codes, ◌==◌, take_while, option_and_then, unwrap_or, is_some, if◌then◌else◌, ℤ, pos}
 use Rattle.std.specs.Option.{option_map}
 use Rattle.std.specs.List.{list_all}
 use Rattle.std.specs.Str.{bytes_eq}
-use Rattle.std.specs.Str.Parse.{digits_value}
 use Rattle.std.proofs.lemmas.Bool.{and_from}
-use Rattle.std.proofs.lemmas.Bool.Decides.{nat_tests}
 use Rattle.std.proofs.lemmas.List.Sums.{take_while-cons}
 use Rattle.lvish_syntax.specs.Words.{Word, is_name}
 use Rattle.lvish_syntax.specs.Written.{is_within, is_term_written, is_value_written, is_threshold_written, are_members_written, is_command_written}
@@ -20,26 +17,24 @@ use Rattle.lvish_syntax.specs.declared.command.Command.{Command}
 use Rattle.lvish_syntax.specs.declared.command.Command.TheVariants as command
 use Rattle.lvish_checks.specs.declared.line.Line.{Line}
 use Rattle.lvish_checks.specs.declared.line.Line.TheVariants.{Bad, Do, If, While, Else, End}
-use Rattle.lvish_checks.specs.Form.{is_number_word, is_numeral, number_of, value_of_number, number_word, term_of, all_of, terms_of, numbers_of, only, operator_of, or_bad, variable_line, pair_kind, pair_line, pool_line, proc_line, value_of, let_line, put_of, put_line, threshold_after, threshold_of, get_of, get_line, run_line, handle_line, freeze_each, freeze_after, freeze_of, freeze_line, block_line, bare_line, declaration_form, command_form, block_form, begins_declaration, begins_command, line_of}
+use Rattle.lvish_checks.specs.Form.{is_number_word, number_of, value_of_number, number_word, term_of, all_of, terms_of, numbers_of, only, operator_of, or_bad, variable_line, pair_kind, pair_line, pool_line, proc_line, value_of, let_line, put_of, put_line, threshold_after, threshold_of, get_of, get_line, run_line, handle_line, freeze_each, freeze_after, freeze_of, freeze_line, block_line, bare_line, declaration_form, command_form, block_form, begins_declaration, begins_command, line_of}
+use Rattle.lvish_checks.proofs.Values.{Each, each_if, each_map, each_then}
+use Rattle.lvish_checks.proofs.Decimals.{number_within}
 use Rattle.lvish_script.proofs.Bodies.{second_holds}
 use Rattle.lvish_script.proofs.Soundness.{is_line_written}
 
 -- a test holds of what is there
 abbrev Holds : {X : Type 0} → (X → Bool) → Option X → Type 0
-Holds p None = Unit {0}
-Holds p (Some x) = p x ≡ true
+Holds p m = Each (λ x. p x ≡ true) m
 
 holds_if : {X : Type 0} (p : X → Bool) (b : Bool) (x y : Option X) → (b ≡ true → Holds p x) → Holds p y → Holds p (if b then x else y)
-holds_if p true x y h k = h refl
-holds_if p false x y h k = k
+holds_if p b x y h k = each_if (λ x. p x ≡ true) b x y h (λ e. k)
 
 holds_map : {X Y : Type 0} (p : X → Bool) (q : Y → Bool) (f : X → Y) (m : Option X) → Holds p m → ((x : X) → p x ≡ true → q (f x) ≡ true) → Holds q (option_map f m)
-holds_map p q f None h k = tt
-holds_map p q f (Some x) h k = k x h
+holds_map p q f m h k = each_map (λ x. p x ≡ true) (λ y. q y ≡ true) f m h k
 
 holds_then : {X Y : Type 0} (p : X → Bool) (q : Y → Bool) (f : X → Option Y) (m : Option X) → Holds p m → ((x : X) → p x ≡ true → Holds q (f x)) → Holds q (option_and_then f m)
-holds_then p q f None h k = tt
-holds_then p q f (Some x) h k = k x h
+holds_then p q f m h k = each_then (λ x. p x ≡ true) (λ y. q y ≡ true) f m h k
 
 any_option : {X : Type 0} (m : Option X) → Holds (λ x. true) m
 any_option None = tt
@@ -67,20 +62,6 @@ w_or_bad None h = refl
 w_or_bad (Some l) h = h
 
 -- ---- numbers and terms
-
-within : ℕ → Bool
-within n = nat_lt n (2 ^ 63)
-
-negative_within : (n : ℕ) → nat_le n (2 ^ 63) ≡ true → is_within (neg_ℤ (pos n)) ≡ true
-negative_within zero e = refl
-negative_within (suc n) e = grind (arith, nat_tests)
-
-number_within : (w : Word) → Holds is_within (number_of w)
-number_within [] = tt
-number_within (b ∷ bs) =
-    holds_if is_within (b == 45) _ _
-    (λ e. holds_if is_within (is_numeral bs && nat_le (digits_value 10 bs) (2 ^ 63)) _ None (λ f. negative_within (digits_value 10 bs) (second_holds (is_numeral bs) _ f)) tt)
-    (holds_if is_within (is_numeral (b ∷ bs) && nat_lt (digits_value 10 (b ∷ bs)) (2 ^ 63)) _ None (λ f. second_holds (is_numeral (b ∷ bs)) _ f) tt)
 
 value_within : (w : Word) → is_within (value_of_number w) ≡ true
 value_within w = on_option (number_of w) (number_within w)

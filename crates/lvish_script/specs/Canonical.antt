@@ -1,94 +1,12 @@
 -- The canonical text of a script.
-use Rattle.std.specs.Prelude.{ℕ, codes, List, [], ◌∷◌, ◌++◌, map}
+use Rattle.std.specs.Prelude.{ℕ, not, List, [], ◌∷◌, ◌++◌, map, filter}
 use Rattle.std.specs.List.{flat_map}
-use Rattle.std.specs.Fmt.{signed_decimal}
 use Rattle.lvish_syntax.specs.Words.{Word}
-use Rattle.lvish_syntax.specs.declared.kind.SimpleKind.{SimpleKind}
-use Rattle.lvish_syntax.specs.declared.kind.SimpleKind.TheVariants.{Cell, Set, Max}
-use Rattle.lvish_syntax.specs.declared.kind.VariableKind.TheVariants.{Simple, Map, Pair}
-use Rattle.lvish_syntax.specs.declared.operator.Operator.{Operator}
-use Rattle.lvish_syntax.specs.declared.operator.Operator.TheVariants.{Add, Subtract, Multiply, Divide, Remainder, Less, Equal}
-use Rattle.lvish_syntax.specs.declared.term.Term.{Term}
-use Rattle.lvish_syntax.specs.declared.term.Term.TheVariants.{Local, Number}
-use Rattle.lvish_syntax.specs.declared.value.Value.{Value}
-use Rattle.lvish_syntax.specs.declared.value.Value.TheVariants.{Same, Combined}
-use Rattle.lvish_syntax.specs.declared.threshold.Threshold.{Threshold}
-use Rattle.lvish_syntax.specs.declared.threshold.Threshold.TheVariants.{Any, In, Has, Least}
-use Rattle.lvish_syntax.specs.declared.declaration.Declaration.{Declaration}
-use Rattle.lvish_syntax.specs.declared.declaration.Declaration.TheVariants.{Variable, Pool}
-use Rattle.lvish_syntax.specs.declared.command.Command.{Command}
-use Rattle.lvish_syntax.specs.declared.command.Command.TheVariants.{Let, Put, PutAt, Get, GetAt, Fork, Call, Handle, Freeze, FreezeEach}
 use Rattle.lvish_syntax.specs.declared.script.Script.{Script}
 use Rattle.lvish_checks.specs.declared.line.Line.{Line}
-use Rattle.lvish_checks.specs.declared.line.Line.TheVariants.{Blank, Bad, Declare, Proc, Do, If, While, Else, End}
+use Rattle.lvish_checks.specs.Checks.{parts_of, is_nil}
+use Rattle.lvish_checks.specs.Spelling.{line_words}
 use Rattle.lvish_script.specs.Spells.{script_lines}
-
--- ---- words
-
--- a number has its shortest decimal form
-abbrev pub term_word : Term → Word
-term_word (Local x) = x
-term_word (Number z) = signed_decimal z
-
-abbrev pub kind_word : SimpleKind → Word
-kind_word Cell = codes "cell"
-kind_word Set = codes "set"
-kind_word Max = codes "max"
-
-abbrev pub operator_word : Operator → Word
-operator_word Add = codes "+"
-operator_word Subtract = codes "-"
-operator_word Multiply = codes "*"
-operator_word Divide = codes "/"
-operator_word Remainder = codes "%"
-operator_word Less = codes "<"
-operator_word Equal = codes "="
-
-abbrev pub value_words : Value → List Word
-value_words (Same t) = term_word t ∷ []
-value_words (Combined a o b) = term_word a ∷ operator_word o ∷ term_word b ∷ []
-
-abbrev pub threshold_words : Threshold → List Word
-threshold_words Any = codes "any" ∷ []
-threshold_words (In zs) = codes "in" ∷ map signed_decimal zs
-threshold_words (Has t) = codes "has" ∷ term_word t ∷ []
-threshold_words (Least t) = codes "least" ∷ term_word t ∷ []
-
-abbrev pub pool_words : List Word → List Word
-pool_words [] = []
-pool_words (p ∷ ps) = codes "after" ∷ p ∷ ps
-
-abbrev pub command_words : Command → List Word
-command_words (Let x v) = codes "let" ∷ x ∷ value_words v
-command_words (Put v t) = codes "put" ∷ v ∷ term_word t ∷ []
-command_words (PutAt v k t) = codes "put" ∷ v ∷ term_word k ∷ term_word t ∷ []
-command_words (Get x v r) = codes "get" ∷ x ∷ v ∷ threshold_words r
-command_words (GetAt x v k r) = codes "get" ∷ x ∷ v ∷ term_word k ∷ threshold_words r
-command_words (Fork n ts) = codes "fork" ∷ n ∷ map term_word ts
-command_words (Call n ts) = codes "call" ∷ n ∷ map term_word ts
-command_words (Handle p n) = codes "handle" ∷ p ∷ n ∷ []
-command_words (Freeze x v ps) = codes "freeze" ∷ x ∷ v ∷ pool_words ps
-command_words (FreezeEach x v ps n) = codes "freeze" ∷ x ∷ v ∷ (pool_words ps ++ codes "each" ∷ n ∷ [])
-
-abbrev pub declaration_words : Declaration → List Word
-declaration_words (Variable n (Simple k)) = kind_word k ∷ n ∷ []
-declaration_words (Variable n Map) = codes "map" ∷ n ∷ []
-declaration_words (Variable n (Pair a b)) = codes "pair" ∷ n ∷ kind_word a ∷ kind_word b ∷ []
-declaration_words (Pool p v) = codes "pool" ∷ p ∷ v ∷ []
-
--- the words of a line; a script has no line that is blank or bad
-abbrev pub line_words : Line → List Word
-line_words Blank = []
-line_words Bad = []
-line_words (Declare d) = declaration_words d
-line_words (Proc n xs) = codes "proc" ∷ n ∷ xs
-line_words (Do c) = command_words c
-line_words (If t) = codes "if" ∷ term_word t ∷ []
-line_words (While t) = codes "while" ∷ term_word t ∷ []
-line_words Else = codes "else" ∷ []
-line_words End = codes "end" ∷ []
-
--- ---- text
 
 -- words, each after a space
 abbrev pub spaced : List Word → List ℕ
@@ -110,3 +28,13 @@ lines_text ls = flat_map line_text ls
 -- the lines of a script in order
 abbrev pub text_of : Script → List ℕ
 text_of s = lines_text (script_lines s.declarations s.procedures)
+
+-- ---- words
+
+-- the words of a text, line by line, but for lines without words
+abbrev pub text_words : List ℕ → List (List Word)
+text_words text = filter (λ ws. not (is_nil ws)) (parts_of text).words
+
+-- the words that a script is written with, line by line
+abbrev pub script_words : Script → List (List Word)
+script_words s = map line_words (script_lines s.declarations s.procedures)

@@ -1,3 +1,4 @@
 pub mod Spells
+pub mod Same
 pub mod Nested
 pub mod Canonical

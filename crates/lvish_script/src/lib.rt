@@ -19,7 +19,9 @@ mod read;
 mod write;
 mod write_line;
 
-pub use laws::what_is_written_is_read;
+pub use laws::{
+    a_text_has_the_words_of_its_script, a_text_spells_one_script, what_is_written_is_read,
+};
 pub use lvish_checks::{Fault, ScriptFault};
 pub use read::read_script;
 pub use write::write_script;

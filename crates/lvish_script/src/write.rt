@@ -2,8 +2,9 @@ ghost use Rattle.std.specs.Prelude.{◌≡◌, ◌++◌, ◌∷◌, [], OnOk, If
 ghost use Rattle.std.specs.List.{flat_map};
 ghost use Rattle.lvish_syntax.specs.Nested.{statements};
 ghost use Rattle.lvish_checks.specs.declared.line.Line.TheVariants as line;
+ghost use Rattle.lvish_checks.specs.Spelling.{term_word};
 ghost use Rattle.lvish_script.specs.Spells.{statement_lines, body_lines, procedure_lines};
-ghost use Rattle.lvish_script.specs.Canonical.{term_word, joined, line_text, lines_text, text_of};
+ghost use Rattle.lvish_script.specs.Canonical.{joined, line_text, lines_text, text_of};
 
 use crate::write_line::{write_command, write_declaration, write_opening, write_proc};
 use lvish_syntax::{Block, Command, Declaration, Procedure, Script, Statement, Term};

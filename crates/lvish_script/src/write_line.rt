@@ -1,6 +1,7 @@
 ghost use Rattle.std.specs.Prelude.{◌≡◌, ◌++◌, ◌∷◌, [], map, OnOk, string_bytes, codes};
 ghost use Rattle.std.specs.Fmt.{signed_decimal};
-ghost use Rattle.lvish_script.specs.Canonical.{term_word, kind_word, operator_word, value_words, threshold_words, pool_words, command_words, declaration_words, spaced, joined};
+ghost use Rattle.lvish_checks.specs.Spelling.{term_word, kind_word, operator_word, value_words, threshold_words, pool_words, command_words, declaration_words};
+ghost use Rattle.lvish_script.specs.Canonical.{spaced, joined};
 
 use lvish_syntax::{
     Command, Declaration, Name, Operator, SimpleKind, Term, Threshold, Value, VariableKind,

@@ -1,6 +1,7 @@
 use Rattle.std.proofs.Common.{◌≡◌, ◌++◌, take, map}
 use Rattle.std.specs.Prelude.{string_bytes}
-use Rattle.lvish_script.specs.Canonical.{spaced, term_word}
+use Rattle.lvish_checks.specs.Spelling.{term_word}
+use Rattle.lvish_script.specs.Canonical.{spaced}
 use Rattle.lvish_script.proofs.write_line.write_terms.Given as goal
 
 abbrev pub invariant-loop-item : goal.invariant-loop-item
