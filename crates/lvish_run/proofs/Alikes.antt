@@ -1,17 +1,16 @@
 -- An end is like all others.
-use Rattle.std.proofs.Common.{◌≡◌, ℕ, List, length, Result, IfOk, refl, sym, ap, ◌∙◌, subst}
+use Rattle.std.proofs.Common.{◌≡◌, ℕ, List, length, sym, ◌∙◌, subst}
 use Rattle.std.proofs.lemmas.List.{length-map}
 use Rattle.lvish_calculus.specs.declared.label.Label.{Label}
 use Rattle.lvish_calculus.specs.Machine.{Machine}
-use Rattle.lvish_calculus.specs.Calculus.{Name, State, Running, IsEnd, start}
-use Rattle.lvish_calculus.specs.Laws.{Reaches, IsCrossed, FreezesAllBy, NeverErrs, SameEndIf}
+use Rattle.lvish_calculus.specs.Calculus.{Name, Running, IsEnd, start}
+use Rattle.lvish_calculus.specs.Laws.{IsCrossed, FreezesAllBy, NeverErrs, SameEndIf}
 use Rattle.lvish_calculus.specs.Live.{HasLive}
 use Rattle.lvish_run.specs.declared.entry.Entry.{Entry}
 use Rattle.lvish_run.specs.declared.report.Report.{Report}
-use Rattle.lvish_run.specs.declared.outcome.Outcome.{Outcome}
 use Rattle.lvish_run.specs.declared.outcome.Outcome.TheVariants.{Ended}
 use Rattle.lvish_run.specs.Honest.{labels_of, AreStates, Comes, IsOutcome, IsHonest}
-use Rattle.lvish_run.specs.Alike.{EndsAlikeIf, EndsAlike, IsAlike}
+use Rattle.lvish_run.specs.Alike.{EndsAlikeIf, IsAlike}
 
 module _ {S E R A L : Type 0} (M : Machine S E R A L) (variables workers budget : ℕ) (r : Report S E) (honest : IsHonest M variables workers budget r) where
   alike_if : (P : List (Label E) → List (Label E) → Type 0) → SameEndIf M P → r.outcome ≡ Ended → EndsAlikeIf M variables r P

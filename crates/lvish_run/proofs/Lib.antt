@@ -3,3 +3,4 @@ mod Reports
 mod Texts
 pub mod Braces
 mod Alikes
+pub mod OfScript

@@ -1,16 +1,16 @@
 -- Runs that a core makes step by step, over any machine.
-use Rattle.std.proofs.Common.{◌≡◌, ◌↔◌, ◌⊎◌, inl, inr, ℕ, suc, ◌+◌, ◌≤◌, ◌<◌, List, [], ◌∷◌, ◌++◌, map, length, Option, Some, None, refl, sym, ap, ◌∙◌, subst, arith, length-append, append_assoc}
+use Rattle.std.proofs.Common.{◌≡◌, ◌↔◌, inr, ℕ, suc, ◌+◌, ◌≤◌, List, [], ◌∷◌, ◌++◌, length, Option, Some, None, refl, sym, ap, ◌∙◌, subst, arith, length-append, append_assoc}
 use Rattle.std.proofs.lemmas.List.{map-append, append-nil}
 use Rattle.std.specs.List.{AllByRecursion}
 use Rattle.std.specs.declared.cmp.Ordering.{Ordering}
 use Rattle.lvish_calculus.specs.declared.label.Label.{Label}
 use Rattle.lvish_calculus.specs.Machine.{Machine}
-use Rattle.lvish_calculus.specs.Calculus.{Configuration, Running, Error, CanStep, IsRun, step, next, start}
-use Rattle.lvish_core.specs.Core.{View, picture, IsStep, IsBegun, IsRunTo}
+use Rattle.lvish_calculus.specs.Calculus.{Configuration, Running, Error, IsRun, step, start}
+use Rattle.lvish_core.specs.Core.{View, picture, IsBegun, IsRunTo}
 use Rattle.lvish_core.specs.CoreLaws.{TakesCoreRuns}
 use Rattle.lvish_run.specs.declared.entry.Entry.{Entry}
 use Rattle.lvish_run.specs.Honest.{labels_of}
-use Rattle.lvish_run.specs.Picked.{AreNext, IsChoice, IsPicked, pick}
+use Rattle.lvish_run.specs.Picked.{IsChoice, IsPicked, pick}
 use Rattle.lvish_run.specs.Walk.{IsTaken, IsTurn, IsStuck, IsWalk, IsWalked}
 
 all_more : {X : Type 0} (P : X → Type 0) (xs : List X) (x : X) → AllByRecursion P xs → P x → AllByRecursion P (xs ++ x ∷ [])

@@ -8,23 +8,18 @@ use Rattle.lvish_calculus.specs.Machine.{Machine}
 use Rattle.lvish_calculus.specs.Calculus.{Running, start}
 use Rattle.lvish_calculus.specs.Handing.{IsHandedWell}
 use Rattle.lvish_syntax.specs.declared.script.Script.{Script}
-use Rattle.lvish_task.specs.CodeOf.{IsCodeOf}
-use Rattle.lvish_task.specs.declared.code.Code.{Code}
-use Rattle.lvish_task.specs.declared.local.Local.{Local}
+use Rattle.lvish_task.specs.Meaning.{State}
 use Rattle.lvish_run.specs.declared.report.Report.{Report}
 use Rattle.lvish_run.specs.Alike.{IsAlike}
 use Rattle.lvish_run.specs.Honest.{IsHonest, labels_of}
 use Rattle.lvish_run.specs.Picked.{IsPicked}
 use Rattle.lvish_run.specs.Text.{variables_of}
 
--- an honest report of the run of a script that takes, at each step, the label that its pick names
-pub record IsPickedRun (cmp : Event → Event → Ordering) (machine : Code → Machine Any Event AnyRead ℤ Local) (script : Script) (picks : List ℕ) (budget : ℕ) (r : Report Any Event) : Type 0 where
-  -- the program is the script's flat code
-  pub code : Code
-  pub of : IsCodeOf script code
-  pub honest : IsHonest (machine code) (length (variables_of script.declarations)) 1 budget r
-  pub picked : IsPicked cmp (machine code) picks [] (Running (start (machine code))) (labels_of r.trace)
+-- an honest report of the run of a script that takes, at each step, the label that its pick names; M is the script's machine, in which a task is what is left of its nested statements
+pub record IsPickedRun (cmp : Event → Event → Ordering) (M : Machine Any Event AnyRead ℤ State) (script : Script) (picks : List ℕ) (budget : ℕ) (r : Report Any Event) : Type 0 where
+  pub honest : IsHonest M (length (variables_of script.declarations)) 1 budget r
+  pub picked : IsPicked cmp M picks [] (Running (start M)) (labels_of r.trace)
   -- each handler is handed each event at most once, one task's in the order of its puts, none after the freeze, at the freeze and at an end exactly those below the state
-  pub handed : IsHandedWell (machine code) (labels_of r.trace)
+  pub handed : IsHandedWell M (labels_of r.trace)
   -- if it is an end, so are all others that don't cross it
-  pub alike : IsAlike (machine code) (length (variables_of script.declarations)) r
+  pub alike : IsAlike M (length (variables_of script.declarations)) r

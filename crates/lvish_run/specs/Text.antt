@@ -1,5 +1,5 @@
 -- The text of a report.
-use Rattle.std.specs.Prelude.{◌≡◌, ℕ, Bool, ◌||◌, codes, List, [], ◌∷◌, ◌++◌, if◌then◌else◌}
+use Rattle.std.specs.Prelude.{ℕ, Bool, ◌||◌, codes, List, [], ◌∷◌, ◌++◌, if◌then◌else◌}
 use Rattle.std.specs.List.{flat_map}
 use Rattle.std.specs.Fmt.{decimal}
 use Rattle.lvish_compound.specs.declared.any.Any.{Any}
@@ -10,7 +10,7 @@ use Rattle.lvish_syntax.specs.declared.kind.VariableKind.{VariableKind}
 use Rattle.lvish_run.specs.declared.report.FinalState.{FinalState}
 use Rattle.lvish_run.specs.declared.report.Report.{Report}
 use Rattle.lvish_run.specs.declared.outcome.Outcome.{Outcome}
-use Rattle.lvish_run.specs.declared.outcome.Outcome.TheVariants.{Ended, Error as ErrorOutcome, Budget}
+use Rattle.lvish_run.specs.declared.outcome.Outcome.TheVariants.{Error as ErrorOutcome}
 use Rattle.lvish_run.specs.StateText.{state_text}
 
 -- the variable that a line declares, if it declares one

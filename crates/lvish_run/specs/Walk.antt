@@ -4,7 +4,7 @@ use Rattle.std.specs.List.{AllByRecursion}
 use Rattle.std.specs.declared.cmp.Ordering.{Ordering}
 use Rattle.lvish_calculus.specs.declared.label.Label.{Label}
 use Rattle.lvish_calculus.specs.Machine.{Machine}
-use Rattle.lvish_calculus.specs.Calculus.{State, Running, start}
+use Rattle.lvish_calculus.specs.Calculus.{Running, start}
 use Rattle.lvish_calculus.specs.Live.{HasLive}
 use Rattle.lvish_variable.specs.Variable.{View as Variable}
 use Rattle.lvish_core.specs.declared.fault.Fault.{Fault}
@@ -17,7 +17,7 @@ use Rattle.lvish_run.specs.declared.report.Report.{Report}
 use Rattle.lvish_run.specs.declared.outcome.Outcome.{Outcome}
 use Rattle.lvish_run.specs.declared.outcome.Outcome.TheVariants.{Ended, Error as ErrorOutcome, Budget}
 use Rattle.lvish_run.specs.Honest.{labels_of, AreStates}
-use Rattle.lvish_run.specs.Picked.{IsPicked, pick}
+use Rattle.lvish_run.specs.Picked.{IsPicked}
 
 -- the core can take no label
 abbrev pub IsStuck : {P S E R A L : Type 0} → Machine S E R A L → View P S E L → Type 0

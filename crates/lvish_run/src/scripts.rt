@@ -2,10 +2,10 @@ ghost use Rattle.std.specs.Prelude.{◌≤◌, IfOk};
 
 use crate::report::Report;
 use crate::runner::run_program;
-use lvish_calculus::Meaning;
 use lvish_compound::{Any, Event};
 use lvish_syntax::Script;
-use lvish_task::Code;
+use lvish_task::laws::same_runs;
+use lvish_task::{Code, ScriptMeaning};
 use std::alloc::{AllocError, Global};
 
 /// What contracts say of a script's runs.
@@ -15,15 +15,15 @@ pub trait Runs {
     ghost use Rattle.lvish_compound.specs.declared.event.Event.{Event};
     ghost use Rattle.lvish_run.specs.declared.report.Report.{Report};
 
-    /// An honest report of the run that takes, at each step, the label that its pick names; of an
-    /// end, that all ends that don't cross it are alike.
+    /// An honest report of the run of the script's nested statements that takes, at each step, the
+    /// label that its pick names; of an end, that all ends that don't cross it are alike.
     ghost is_picked_run: { Self → List ℕ → ℕ → Report Any Event → Type 0 };
 }
 
 impl Runs for Script {
     ghost use Rattle.lvish_run.specs.Scripts.{IsPickedRun};
 
-    ghost is_picked_run = { λ script picks budget r. IsPickedRun ⟦<Event as Ord>⟧.cmp ⟦<Code as Meaning>⟧.machine script picks budget r };
+    ghost is_picked_run = { λ script picks budget r. IsPickedRun ⟦<Event as Ord>⟧.cmp (⟦<Script as ScriptMeaning>⟧.machine script) script picks budget r };
 }
 
 /// Runs the script on one thread: at each step the enabled label whose number is the next pick
@@ -41,6 +41,7 @@ pub fn run_picks(
     requires { budget ≤ 1000000 }
     ensures { IfOk result (λ r. ⟦<Script as Runs>⟧.is_picked_run script.now picks.now budget r) }
 {
+    same_runs();
     let code = Code::new(alloc, script)?;
     run_program(alloc, &code, picks, budget)
 }

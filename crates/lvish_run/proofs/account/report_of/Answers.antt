@@ -1,4 +1,4 @@
-use Rattle.std.proofs.Common.{refl, rules}
+use Rattle.std.proofs.Common.{rules}
 use Rattle.lvish_run.proofs.Reports.{at_end}
 use Rattle.lvish_run.proofs.account.report_of.Goals as goal
 

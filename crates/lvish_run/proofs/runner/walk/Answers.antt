@@ -1,4 +1,4 @@
-use Rattle.std.proofs.Common.{arith, rules}
+use Rattle.std.proofs.Common.{arith}
 use Rattle.lvish_calculus.specs.Program.{machine_of}
 use Rattle.lvish_run.proofs.Walks.{walk_stops, walk_goes}
 use Rattle.lvish_run.proofs.runner.walk.Goals as goal

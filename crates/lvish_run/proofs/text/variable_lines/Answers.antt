@@ -1,5 +1,4 @@
-use Rattle.std.proofs.Common.{◌≡◌, ◌∙◌, ◌+◌, ap, sym, arith, length, take, string_bytes, true, false}
-use Rattle.std.specs.Prelude.{nat_lt}
+use Rattle.std.proofs.Common.{◌∙◌, ◌+◌, ap, sym, arith, length, take, string_bytes}
 use Rattle.std.proofs.lemmas.Bool.{lt-ltb, both_ways}
 use Rattle.lvish_run.specs.Text.{variables_of, shown_line, variable_lines}
 use Rattle.lvish_run.proofs.Texts.{state_there, pushed, passed}
