@@ -1,3 +1,4 @@
+pub mod Watching
 pub mod Keyed
 pub mod KeyedEvents
 pub mod Pointwise
@@ -36,5 +37,6 @@ pub mod StateReads
 pub mod PartReads
 pub mod AnyReads
 pub mod AnyReadLaws
+pub mod AnyWatch
 pub mod Clashes
 pub mod Refusals

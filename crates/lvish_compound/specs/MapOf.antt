@@ -148,3 +148,8 @@ module _ {K L E : Type 0} {ko : ord.Ghosts K} {ke : partial_eq.Ghosts K} {kp : p
           → HasEvents empty joined (λ (x y : K × E). keq x.0 y.0 && eeq x.1 y.1) (by_both ko.cmp C) (λ (m : MapOf K L E ko ke kp l le eo ee ep). events_of l.events_of m.entries)
       map_has_events keq eeq kt et = subst (λ (t : K × E → K × E → Bool). HasEvents empty joined t (by_both ko.cmp C) (λ (m : MapOf K L E ko ke kp l le eo ee ep). events_of l.events_of m.entries))
           (λ i x y. sym (kt x.0 y.0) i && sym (et x.1 y.1) i) map_events
+
+      -- an event of a key is among a map's where it is among those of what the key holds
+      pub map_has : (keq : K → K → Bool) (eeq : E → E → Bool) → ((x y : K) → keq x y ≡ is_eq (ko.cmp x y)) → ((x y : E) → eeq x y ≡ is_eq (C x y)) → (m : MapOf K L E ko ke kp l le eo ee ep) (q : K) (y : E)
+          → is_member (λ (x z : K × E). keq x.0 z.0 && eeq x.1 z.1) (events_of l.events_of m.entries) (q, y) ≡ is_member eeq (l.events_of (at m q)) y
+      map_has keq eeq kt et m q y = (λ i. is_member (λ (x z : K × E). kt x.0 z.0 i && et x.1 z.1 i) (events_of l.events_of m.entries) (q, y)) ∙ places_have m q y ∙ (λ i. is_member (λ x z. sym (et x z) i) (l.events_of (at m q)) y)

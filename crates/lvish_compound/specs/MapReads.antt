@@ -1,16 +1,17 @@
 -- Reads of what one key holds.
-use Rattle.std.specs.Prelude.{◌≡◌, ◌⊎◌, Bool, true, false, cond, not, [], ◌∷◌, map, Option, Some, None, refl}
+use Rattle.std.specs.Prelude.{◌≡◌, ◌⊎◌, Bool, true, false, cond, not, ◌&&◌, [], ◌∷◌, map, Option, Some, None, option_map, refl}
 use Rattle.std.proofs.Common.{sym, ◌∙◌, ap, subst, inl, inr}
 use Rattle.std.specs.Cmp.{IsTotalOrder, Equal-is, tied_itself}
 use Rattle.std.specs.declared.cmp.Ordering.{Ordering}
 use Rattle.std.specs.declared.cmp.Ordering.TheVariants.{Equal}
 use Rattle.std.specs.Ordering.{eq_by_cmp, is_eq}
 use Rattle.std.specs.List.Sorted.{IsStrictlySortedBy}
-use Rattle.lvish_lattice.specs.Lattice.{IsIdentity, IsJoin, IsBelow, Answers, IsChecked, IsAnswered}
+use Rattle.lvish_lattice.specs.Lattice.{IsIdentity, IsJoin, IsBelow, HasEvents, Answers, IsChecked, IsAnswered, IsWatched, BringsAt}
+use Rattle.lvish_compound.specs.Watching.{brings_there, was_there}
 use Rattle.lvish_lattice.specs.Ascending.{and_both}
 use Rattle.lvish_compound.specs.Keyed as keyed
 use Rattle.lvish_compound.specs.Keyed.{key, has_no, alone}
-use Rattle.lvish_compound.specs.MapOf.{same_map, joined, at, joined_by_places, joins_places, joins_exist}
+use Rattle.lvish_compound.specs.MapOf.{same_map, joined, at, joined_by_places, joins_places, joins_exist, map_has, map_events_of}
 use Rattle.std.specs.declared.cmp.Ord as ord
 use Rattle.std.specs.declared.cmp.PartialEq as partial_eq
 use Rattle.std.specs.declared.cmp.PartialOrd as partial_ord
@@ -26,6 +27,16 @@ module _ {K L E Q A : Type 0} {ko : ord.Ghosts K} {ke : partial_eq.Ghosts K} {kp
   -- the answer to what the key holds
   abbrev pub answer_of : (Q → L → Option A) → AtKey K Q → MapOf K L E ko ke kp l le eo ee ep → Option A
   answer_of answer r m = answer r.read (at m r.key)
+
+-- the key, and the spot of what it holds
+abbrev pub spot_of : {K E W : Type 0} → (E → W) → K × E → K × W
+spot_of spot e = (e.0, spot e.1)
+
+abbrev pub at_key_spot : {K W : Type 0} → K → W → K × W
+at_key_spot k w = (k, w)
+
+abbrev pub watched : {K Q W : Type 0} → (Q → Option W) → AtKey K Q → Option (K × W)
+watched watch r = option_map (at_key_spot r.key) (watch r.read)
 
 module _ {K L : Type 0} (cmp : K → K → Ordering) (eq : L → L → Bool) (least : L) where
   pub alone_rises : (k : K) (v : L) → IsStrictlySortedBy cmp (map key (alone eq least k v))
@@ -106,3 +117,13 @@ module _ {K L E : Type 0} {ko : ord.Ghosts K} {ke : partial_eq.Ghosts K} {kp : p
           (λ e. let m : Answers l.joined (member r.read) (at s r.key) a = part.0 e in (holding r.key m.0, (m.0, m.1, refl), below_map (holding r.key m.0) s r.key m.0 refl m.2)),
           λ m. part.1 (m.1.0, m.1.1, below_part m.0 s r.key m.1.0 m.1.2 m.2),
         )
+
+    pub map_waits : (C : E → E → Ordering) (oc : IsTotalOrder C) (same_event : (x y : E) → C x y ≡ Equal → x ≡ y) (h : HasEvents l.least l.joined (eq_by_cmp C) C l.events_of)
+        → (keq : K → K → Bool) (eeq : E → E → Bool) → ((x y : K) → keq x y ≡ is_eq (ko.cmp x y)) → ((x y : E) → eeq x y ≡ is_eq (C x y))
+        → {Q A W : Type 0} (spot : E → W) (watch : Q → Option W) (answer : Q → L → Option A) → IsWatched eeq l.events_of spot watch answer
+        → IsWatched {S = MapOf K L E ko ke kp l le eo ee ep} (λ (x y : K × E). keq x.0 y.0 && eeq x.1 y.1) map_events_of (spot_of spot) (watched watch) (answer_of answer)
+    map_waits C oc same_event h keq eeq kt et spot watch answer law r w is old new a none some =
+        let v = was_there (at_key_spot r.key) (watch r.read) w is in
+        subst (λ w. BringsAt (λ (x y : K × E). keq x.0 y.0 && eeq x.1 y.1) map_events_of (spot_of spot) old new w) v.2
+            (brings_there (λ (m : MapOf K L E ko ke kp l le eo ee ep). at m r.key) (λ y. (r.key, y)) (at_key_spot r.key) (λ m y. map_has o same_key j itself same C oc same_event h keq eeq kt et m r.key y) (λ y. refl) old new v.0
+            (law r.read v.0 v.1 (at old r.key) (at new r.key) a none some))

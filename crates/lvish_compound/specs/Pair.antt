@@ -36,3 +36,12 @@ module _ {A B : Type 0} where
   abbrev pub answer_of : {R T X Y : Type 0} → (R → A → Option X) → (T → B → Option Y) → SideOf R T → Pair A B → Option (SideOf X Y)
   answer_of f g (One r) p = option_map of_one (f r p.one)
   answer_of f g (Two r) p = option_map of_two (g r p.two)
+
+-- the spot of a side's event
+abbrev pub spot_of : {E F V W : Type 0} → (E → V) → (F → W) → SideOf E F → SideOf V W
+spot_of f g (One e) = One (f e)
+spot_of f g (Two e) = Two (g e)
+
+abbrev pub watched : {R T V W : Type 0} → (R → Option V) → (T → Option W) → SideOf R T → Option (SideOf V W)
+watched f g (One r) = option_map of_one (f r)
+watched f g (Two r) = option_map of_two (g r)

@@ -3,12 +3,13 @@ use Rattle.std.specs.Prelude.{◌≡◌, ◌⊎◌, ◌↔◌, Bool, true, false
 use Rattle.std.proofs.Common.{sym, ◌∙◌, ap, subst, inl, inr}
 use Rattle.std.specs.declared.cmp.Ordering.{Ordering}
 use Rattle.std.specs.declared.cmp.Ordering.TheVariants.{Less}
-use Rattle.lvish_lattice.specs.Lattice.{IsIdentity, IsJoin, HasEvents, IsChecked, IsAnswered, Answers}
+use Rattle.lvish_lattice.specs.Lattice.{IsIdentity, IsJoin, HasEvents, IsChecked, IsAnswered, Answers, IsWatched, BringsAt}
 use Rattle.lvish_compound.specs.declared.pair.Pair.{Pair}
 use Rattle.lvish_compound.specs.declared.side_of.SideOf.{SideOf}
 use Rattle.lvish_compound.specs.declared.side_of.SideOf.TheVariants.{One, Two}
-use Rattle.lvish_compound.specs.Pair.{both, joined, events_of, Member, answer_of, of_one, of_two}
-use Rattle.lvish_compound.specs.SideEvents.{same_ones, same_twos, sides_unite, sides_rise}
+use Rattle.lvish_compound.specs.Pair.{both, joined, events_of, Member, answer_of, of_one, of_two, spot_of, watched}
+use Rattle.lvish_compound.specs.Watching.{brings_there, was_there, was_none}
+use Rattle.lvish_compound.specs.SideEvents.{same_ones, same_twos, sides_unite, sides_rise, has_one, has_two}
 
 pub both_true : (a b : Bool) → (a && b) ≡ true → (a ≡ true) × (b ≡ true)
 both_true true b e = (refl, e)
@@ -150,3 +151,19 @@ module _ {A B : Type 0} where
             λ w. ap (option_map of_two) (by_part.1 (w.0.two, w.1.1, (both_there _ _ p w.2).1)),
           )
       pair_answers (Two r) checked p (One x) = (λ e. absurd (not_one (ab r p.two) x e), λ w. absurd w.1)
+
+  module _ {E F V W R T X Y : Type 0} (ee : E → E → Bool) (ef : F → F → Bool) (va : A → List E) (vb : B → List F) (sa : E → V) (sb : F → W) (wa : R → Option V) (wb : T → Option W) (aa : R → A → Option X) (ab : T → B → Option Y)
+      (eq : SideOf E F → SideOf E F → Bool) (xx : (x z : E) → eq (One x) (One z) ≡ ee x z) (yy : (y w : F) → eq (Two y) (Two w) ≡ ef y w) (xy : (x : E) (y : F) → eq (One x) (Two y) ≡ false) (yx : (x : E) (y : F) → eq (Two y) (One x) ≡ false) where
+    pub pair_waits : IsWatched ee va sa wa aa → IsWatched ef vb sb wb ab → IsWatched eq (events_of va vb) (spot_of sa sb) (watched wa wb) (answer_of aa ab)
+    pair_waits la lb (One r) w is old new a none some =
+        let v = was_there of_one (wa r) w is in
+        let x = was_there of_one (aa r new.one) a some in
+        subst (λ w. BringsAt eq (events_of va vb) (spot_of sa sb) old new w) v.2
+            (brings_there (λ (p : Pair A B). p.one) of_one of_one (λ p y. has_one ee ef eq xx yy xy yx (va p.one) (vb p.two) y) (λ y. refl) old new v.0
+            (la r v.0 v.1 old.one new.one x.0 (was_none of_one (aa r old.one) none) x.1))
+    pair_waits la lb (Two r) w is old new a none some =
+        let v = was_there of_two (wb r) w is in
+        let x = was_there of_two (ab r new.two) a some in
+        subst (λ w. BringsAt eq (events_of va vb) (spot_of sa sb) old new w) v.2
+            (brings_there (λ (p : Pair A B). p.two) of_two of_two (λ p y. has_two ee ef eq xx yy xy yx (va p.one) (vb p.two) y) (λ y. refl) old new v.0
+            (lb r v.0 v.1 old.two new.two x.0 (was_none of_two (ab r old.two) none) x.1))

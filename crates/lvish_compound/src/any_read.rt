@@ -3,10 +3,12 @@ ghost use Rattle.lvish_compound.specs.Places.{fits, IsApart};
 ghost use Rattle.lvish_compound.specs.Refusals.{IsRefused};
 
 use crate::any::Any;
+use crate::event::Event;
 use crate::kind::Kind;
 use crate::number_test::Test;
 use crate::part::Part;
 use crate::place::Place;
+use crate::spots::at_spot;
 use lvish_lattice::{Flat, Range, Reads};
 
 /// A read of a script's variable.
@@ -118,14 +120,21 @@ impl Test {
 
 impl Reads for Any {
     ghost use Rattle.lvish_compound.specs.AnyReads.{Member, answer_of};
+    ghost use Rattle.lvish_compound.specs.AnyWatch.{spot_of, watched};
 
     type Read = AnyRead;
 
     type Answer = i64;
 
+    type Spot = Event;
+
     ghost member = { Member };
 
     ghost answer_of = { answer_of };
+
+    ghost spot_of = { spot_of };
+
+    ghost watched = { watched };
 
     fn check(read: &AnyRead) -> bool {
         is_apart(read.place.kind(), &read.test)
@@ -140,6 +149,42 @@ impl Reads for Any {
             Place::Side(number, kind) => read.test.in_side(number, kind, state),
         }
     }
+
+    fn spot(event: &Event) -> Event {
+        Event {
+            key: event.key,
+            kind: event.kind,
+            number: match event.kind {
+                Kind::Cell => 0,
+                Kind::Set => event.number,
+                Kind::Max => event.number,
+                Kind::Map => 0,
+            },
+        }
+    }
+
+    fn watch(read: &AnyRead) -> Option<Event> {
+        match read.place {
+            Place::Cell => at_spot(0, Kind::Cell, read.test.number_by(Kind::Cell)),
+            Place::Set => at_spot(0, Kind::Set, read.test.number_by(Kind::Set)),
+            Place::Max => at_spot(0, Kind::Max, read.test.number_by(Kind::Max)),
+            Place::Key(key) => Some(Event {
+                key,
+                kind: Kind::Map,
+                number: 0,
+            }),
+            Place::Side(number, kind) => {
+                at_spot(if number == 1 { 1 } else { 2 }, kind, read.test.number_by(kind))
+            }
+        }
+    }
+
+    ghost use Rattle.std.specs.Prelude.{refl};
+    ghost use Rattle.lvish_compound.specs.Kinds.{kinds_identical};
+    ghost use Rattle.lvish_compound.specs.StateEvents.{by_name};
+    ghost use Rattle.lvish_compound.specs.AnyWatch.{any_waits};
+
+    ghost waits = { any_waits ⟦<Event as PartialEq>⟧.eq (by_name ⟦<Kind as PartialEq>⟧.eq (kinds_identical _ refl refl refl refl refl refl refl refl refl refl refl refl) refl refl refl refl _ (λ d e. refl)) };
 
     ghost use Rattle.lvish_compound.specs.AnyReadLaws.{any_answers};
 

@@ -44,6 +44,7 @@ mod part;
 mod place;
 mod side_of;
 mod sides;
+mod spots;
 
 pub use above::Above;
 pub use any::{Any, Wrong};

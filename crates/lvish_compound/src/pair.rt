@@ -107,15 +107,21 @@ impl<A: Lattice, B: Lattice> Lattice for Pair<A, B> {
 }
 
 impl<A: Reads, B: Reads> Reads for Pair<A, B> {
-    ghost use Rattle.lvish_compound.specs.Pair.{Member, answer_of};
+    ghost use Rattle.lvish_compound.specs.Pair.{Member, answer_of, spot_of, watched};
 
     type Read = SideOf<A::Read, B::Read>;
 
     type Answer = SideOf<A::Answer, B::Answer>;
 
+    type Spot = SideOf<A::Spot, B::Spot>;
+
     ghost member = { Member A.least B.least A.member B.member };
 
     ghost answer_of = { answer_of A.answer_of B.answer_of };
+
+    ghost spot_of = { spot_of A.spot_of B.spot_of };
+
+    ghost watched = { watched A.watched B.watched };
 
     fn check(read: &SideOf<A::Read, B::Read>) -> bool {
         match read {
@@ -134,7 +140,30 @@ impl<A: Reads, B: Reads> Reads for Pair<A, B> {
         }
     }
 
-    ghost use Rattle.lvish_compound.specs.PairLaws.{pair_answers};
+    fn spot(event: &SideOf<A::Event, B::Event>) -> SideOf<A::Spot, B::Spot> {
+        match event {
+            SideOf::One(event) => SideOf::One(A::spot(event)),
+            SideOf::Two(event) => SideOf::Two(B::spot(event)),
+        }
+    }
+
+    fn watch(read: &SideOf<A::Read, B::Read>) -> Option<SideOf<A::Spot, B::Spot>> {
+        match read {
+            SideOf::One(read) => match A::watch(read) {
+                Some(spot) => Some(SideOf::One(spot)),
+                None => None,
+            },
+            SideOf::Two(read) => match B::watch(read) {
+                Some(spot) => Some(SideOf::Two(spot)),
+                None => None,
+            },
+        }
+    }
+
+    ghost use Rattle.std.specs.Prelude.{refl};
+    ghost use Rattle.lvish_compound.specs.PairLaws.{pair_answers, pair_waits};
+
+    ghost waits = { pair_waits A.Event.eq B.Event.eq A.events_of B.events_of A.spot_of B.spot_of A.watched B.watched A.answer_of B.answer_of _ (λ x z. refl) (λ y w. refl) (λ x y. refl) (λ x y. refl) A.waits B.waits };
 
     ghost answers = { pair_answers A.is_join B.is_join A.member B.member A.answer_of B.answer_of A.answers B.answers };
 }

@@ -30,3 +30,4 @@ pub mod NextHanded
 pub mod Begins
 pub mod Takes
 pub mod Waiting
+pub mod Spotted

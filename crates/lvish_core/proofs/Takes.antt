@@ -16,7 +16,7 @@ use Rattle.lvish_picture.proofs.Tables.{logged_len}
 use Rattle.lvish_picture.proofs.Hands.{next_is}
 use Rattle.lvish_core.specs.declared.fault.Fault.{Fault}
 use Rattle.lvish_core.specs.Core.{View, picture, state, at_fault, IsRunTo, IsNext, CanTake}
-use Rattle.lvish_core.specs.CoreLaws.{TakesCoreRuns, TakesSomething, HandsOneEvent}
+use Rattle.lvish_core.specs.CoreLaws.{TakesCoreRuns, TakesSomething, HandsOneEvent, HandsWhatComes}
 use Rattle.lvish_core.proofs.Coming.{coming, next_one}
 use Rattle.lvish_core.proofs.Goes.{at_state, pictured_by}
 
@@ -91,6 +91,14 @@ module _ {P S E R A L : Type 0} (M : Machine S E R A L) (ok : IsLawful M) (posts
       by : (g : Option (Fault E)) → c.fault ≡ g → e ≡ f
       by None is = next_one M ok c.table posts xs (pictured_by M c xs is k) name e f take.1 comes
       by (Some g) is = absurd (subst (λ d. CanStep M (at_fault (state M c) d) (Hand name e)) is take.0)
+
+module _ {P S E R A L : Type 0} (M : Machine S E R A L) (ok : IsLawful M) (next : HandsTheNext M) where
+  pub hands_what_comes : HandsWhatComes P M
+  hands_what_comes c xs k none name e n =
+      let f = coming M ok c.table name e n in
+      let got : next_of M.event_same n.at.log n.beside.held f.0.name ≡ Some e = subst (λ q. next_of M.event_same n.at.log n.beside.held q ≡ Some e) (sym f.2) n.next in
+      let z = (next xs c.table n.variable n.at n.beside f.0 (pictured_by M c xs none k) f.1 e).0 got in
+      (subst (λ d. CanStep M d (Hand name e)) (sym (at_state M c none)) (subst (λ q. IsEnabled M (state M c) (Hand q e)) f.2 z.0), n)
 
 module _ {P S E R A L : Type 0} (M : Machine S E R A L) (ok : IsLawful M) (ord : IsOrdered M) (below : HandsBelowTheEnd M) (next : HandsTheNext M) (held : HandsTheHeld M) where
   cannot : (c : View P S E L) (f : Fault E) → c.fault ≡ Some f → (l : Label E) → CanStep M (picture M c) l → ⊥

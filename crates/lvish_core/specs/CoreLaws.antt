@@ -1,5 +1,5 @@
 -- What a core's labels are to its runs.
-use Rattle.std.specs.Prelude.{◌≡◌, ◌↔◌, List, [], ◌∷◌, ◌++◌}
+use Rattle.std.specs.Prelude.{◌≡◌, ◌↔◌, List, [], ◌∷◌, ◌++◌, None}
 use Rattle.lvish_calculus.specs.declared.label.Label.{Label}
 use Rattle.lvish_calculus.specs.declared.label.Label.TheVariants.{Hand}
 use Rattle.lvish_calculus.specs.Machine.{Machine}
@@ -25,3 +25,8 @@ HandsToEach {S} {E} {R} {A} {L} P M = (c : View P S E L) (xs : List (Label E)) �
 abbrev pub HandsOneEvent : {S E R A L : Type 0} → Type 0 → Machine S E R A L → Type 0
 HandsOneEvent {S} {E} {R} {A} {L} P M = (c : View P S E L) (xs : List (Label E)) → IsRunTo M c xs
     → (h : Handler E) (e f : E) → CanTake M c (Hand h e) → IsNext M.event_same c.table h f → e ≡ f
+
+-- without an error, what comes next for a handler can be handed
+abbrev pub HandsWhatComes : {S E R A L : Type 0} → Type 0 → Machine S E R A L → Type 0
+HandsWhatComes {S} {E} {R} {A} {L} P M = (c : View P S E L) (xs : List (Label E)) → IsRunTo M c xs → c.fault ≡ None
+    → (h : Handler E) (e : E) → IsNext M.event_same c.table h e → CanTake M c (Hand h e)

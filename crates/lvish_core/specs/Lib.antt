@@ -10,3 +10,4 @@ pub mod Handed
 pub mod Beside
 pub mod CoreLaws
 pub mod Waiting
+pub mod Spots

@@ -1,6 +1,7 @@
 //! What the labels of a core are to its runs, as contracts of functions with no code.
 
-ghost use Rattle.lvish_core.specs.CoreLaws.{TakesCoreRuns, TakesSomething, HandsToEach, HandsOneEvent};
+ghost use Rattle.lvish_core.specs.CoreLaws.{TakesCoreRuns, TakesSomething, HandsToEach, HandsOneEvent, HandsWhatComes};
+ghost use Rattle.lvish_core.specs.Spots.{PassesAtItsSpot};
 ghost use Rattle.lvish_core.specs.Waiting.{WaitsUntilTouched, EndsByCounts};
 
 use lvish_calculus::laws::{handing_kept, lawful, waiting};
@@ -36,12 +37,16 @@ pub fn hands_to_each<P: Program>()
     handing_kept::<P>();
 }
 
-/// A handler is handed no event but the one that comes next for it, which `Core::next` answers.
+/// A handler is handed the event that comes next for it, which `Core::next` answers, and no other.
 pub fn hands_one_event<P: Program>()
-    ensures { (p : P) → HandsOneEvent P (⟦<P as Meaning>⟧.machine p) }
+    // None but the one that comes next.
+    ensures one { (p : P) → HandsOneEvent P (⟦<P as Meaning>⟧.machine p) }
+    // Without an error, what comes next can be handed.
+    ensures open { (p : P) → HandsWhatComes P (⟦<P as Meaning>⟧.machine p) }
 {
     lawful::<P>();
     handlers_are_held::<P>();
+    handed_next::<P>();
 }
 
 /// What the tasks that wait have to be asked again for, and what an end is told from.
@@ -55,4 +60,12 @@ pub fn waiting_tasks<P: Program>()
     lawful::<P>();
     waiting::<P>();
     ends_by_cursors::<P>();
+}
+
+/// A step wakes a get that waits at a spot only where it brings an event of this spot to the log of
+/// the get's variable.
+pub fn passes_at_its_spot<P: Program>()
+    ensures { (p : P) → PassesAtItsSpot P (⟦<P as Meaning>⟧.machine p) P.Lat.spot_of P.Lat.watched }
+{
+    lawful::<P>();
 }

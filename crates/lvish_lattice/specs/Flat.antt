@@ -5,6 +5,7 @@ use Rattle.lvish_lattice.specs.declared.flat.Flat.{Flat}
 use Rattle.lvish_lattice.specs.declared.flat.Flat.TheVariants.{Bottom, Value}
 use Rattle.lvish_lattice.specs.declared.flat.FlatRead.{FlatRead}
 use Rattle.lvish_lattice.specs.declared.flat.FlatRead.TheVariants.{Any, In}
+use Rattle.lvish_lattice.specs.declared.flat.Whole.{Whole}
 
 module _ {V : Type 0} where
   -- two different values join to top
@@ -28,3 +29,10 @@ module _ {V : Type 0} where
   answer_of eq r Bottom = None
   answer_of eq Any (Value x) = Some x
   answer_of eq (In xs) (Value x) = cond (list_any (eq x) xs) (Some x) None
+
+  -- all values have one spot: a cell is written once
+  abbrev pub spot_of : V → Whole
+  spot_of x = record {}
+
+  abbrev pub watched : FlatRead V → Option Whole
+  watched r = Some (record {})

@@ -11,8 +11,9 @@ use Rattle.lvish_lattice.specs.declared.flat.Flat.{Flat}
 use Rattle.lvish_lattice.specs.declared.flat.Flat.TheVariants.{Bottom, Value}
 use Rattle.lvish_lattice.specs.declared.flat.FlatRead.{FlatRead}
 use Rattle.lvish_lattice.specs.declared.flat.FlatRead.TheVariants.{Any, In}
-use Rattle.lvish_lattice.specs.Lattice.{IsIdentity, IsJoin, IsBelow, HasEvents, IsChecked, IsAnswered}
-use Rattle.lvish_lattice.specs.Flat.{joined, events_of, Member, answer_of}
+use Rattle.lvish_lattice.specs.Lattice.{IsIdentity, IsJoin, IsBelow, HasEvents, IsChecked, IsAnswered, IsWatched}
+use Rattle.lvish_lattice.specs.declared.flat.Whole.{Whole}
+use Rattle.lvish_lattice.specs.Flat.{joined, events_of, Member, answer_of, spot_of, watched}
 
 module _ {V : Type 0} (eq : V → V → Bool) (same : IsIdentity eq) where
   pub flat_identical : (test : Flat V → Flat V → Bool) → ((y : V) → test Bottom (Value y) ≡ false) → ((x : V) → test (Value x) Bottom ≡ false) → ((x y : V) → test (Value x) (Value y) ≡ eq x y) → IsIdentity test
@@ -135,3 +136,18 @@ module _ {V : Type 0} (eq : V → V → Bool) (same : IsIdentity eq) (laws : IsE
       by_test : (t : Bool) → eq x y ≡ t → ((Value x ≡ Value y) × (a ≡ b)) ⊎ (joined eq (Value x) (Value y) ≡ None)
       by_test true is = let s : x ≡ y = same x y is in inl (ap (λ (v : V). Value v) s, sym (answer_is r x a p) ∙ s ∙ answer_is r y b q)
       by_test false is = inr (ap (λ t. cond t (Some (Value x)) None) is)
+
+  same_answer : (r : FlatRead V) (x y a : V) → eq x y ≡ true → answer_of eq r (Value y) ≡ None → answer_of eq r (Value x) ≡ Some a → ⊥
+  same_answer r x y a is none some = differ (sym (ap (λ (v : V). answer_of eq r (Value v)) (same x y is) ∙ none) ∙ some)
+    where
+      differ : None ≡ Some a → ⊥
+      differ h = cc
+
+  pub flat_waits : IsWatched eq events_of spot_of watched (answer_of eq)
+  flat_waits r w is old Bottom a none some = absurd cc
+  flat_waits r w is Bottom (Value x) a none some = record { event = x; there = ap (λ b. b || false) (laws.refl x); missing = refl; at = refl }
+  flat_waits r w is (Value y) (Value x) a none some = record { event = x; there = ap (λ b. b || false) (laws.refl x); missing = by_test (eq x y) refl; at = refl }
+    where
+      by_test : (t : Bool) → eq x y ≡ t → (eq x y || false) ≡ false
+      by_test true h = absurd (same_answer r x y a h none some)
+      by_test false h = ap (λ b. b || false) h

@@ -1,5 +1,5 @@
 -- What a lattice with events and a threshold read are.
-use Rattle.std.specs.Prelude.{◌≡◌, ◌⊎◌, ◌↔◌, List, [], Bool, true, not, Option, Some, None, filter, option_and_then}
+use Rattle.std.specs.Prelude.{◌≡◌, ◌⊎◌, ◌↔◌, List, [], Bool, true, false, not, Option, Some, None, filter, option_and_then}
 use Rattle.std.specs.Set.{is_member, IsUnion}
 use Rattle.std.specs.List.Sorted.{IsStrictlySortedBy}
 use Rattle.std.specs.declared.cmp.Ordering.{Ordering}
@@ -46,3 +46,14 @@ Answers {S} join member state a = (m : S) × member m a × IsBelow join m state
 -- in each state there is an answer exactly where a member at or below the state gives it
 abbrev pub IsAnswered : {S A : Type 0} → (S → S → Option S) → (S → A → Type 0) → (S → Option A) → Type 0
 IsAnswered {S} {A} join member answer_of = (s : S) (a : A) → (answer_of s ≡ Some a) ↔ Answers join member s a
+
+-- an event of this spot is among those of the new state and not among those of the old one
+pub record BringsAt {S E W : Type 0} (eq : E → E → Bool) (events : S → List E) (spot_of : E → W) (old new : S) (w : W) : Type 0 where
+  pub event : E
+  pub there : is_member eq (events new) event ≡ true
+  pub missing : is_member eq (events old) event ≡ false
+  pub at : spot_of event ≡ w
+
+-- where a read that waits at a spot has no answer in one state and has one in another, that one has an event of the spot which the first hasn't
+abbrev pub IsWatched : {S E R A W : Type 0} → (E → E → Bool) → (S → List E) → (E → W) → (R → Option W) → (R → S → Option A) → Type 0
+IsWatched {S} {E} {R} {A} {W} eq events spot_of watched answer_of = (r : R) (w : W) → watched r ≡ Some w → (old new : S) (a : A) → answer_of r old ≡ None → answer_of r new ≡ Some a → BringsAt eq events spot_of old new w

@@ -1,6 +1,13 @@
 -- Reads by a list: the first that passes, and where one value alone is listed.
-use Rattle.std.specs.Prelude.{◌≡◌, Bool, true, false, cond, List, [], ◌∷◌, Option, Some, None, Contains, find, option_map, refl}
-use Rattle.std.proofs.Common.{sym, ◌∙◌, ap, subst, arith, suc}
+use Rattle.std.specs.Prelude.{◌≡◌, ◌⊎◌, Bool, true, false, ◌&&◌, cond, List, [], ◌∷◌, Option, Some, None, Contains, find, option_map, refl}
+use Rattle.std.proofs.Common.{sym, ◌∙◌, ap, subst, arith, zero, suc, inl, inr}
+use Rattle.std.specs.List.{list_all}
+use Rattle.lvish_lattice.specs.Lattice.{IsIdentity}
+
+both_hold : (a b : Bool) → (a && b) ≡ true → (a ≡ true) × (b ≡ true)
+both_hold true true e = (refl, refl)
+both_hold true false e = absurd cc
+both_hold false b e = absurd cc
 
 module _ {X : Type 0} where
   first_contained : (x : X) (xs : List X) → Contains (x ∷ xs) x
@@ -34,3 +41,38 @@ module _ {X : Type 0} where
     where
       clash : (x : X) → Some x ≡ None → ⊥
       clash x h = cc
+
+  -- the one value that is listed, however often; none where there is none, or several
+  abbrev pub one_of : (X → X → Bool) → List X → Option X
+  one_of eq [] = None
+  one_of eq (x ∷ xs) = cond (list_all (eq x) xs) (Some x) None
+
+  one_when : (b : Bool) (x y : X) → cond b (Some x) None ≡ Some y → (b ≡ true) × (x ≡ y)
+  one_when true x y e = (refl, cc)
+  one_when false x y e = absurd cc
+
+  listed_cases : (z : X) (zs : List X) (y : X) → Contains (z ∷ zs) y → (z ≡ y) ⊎ Contains zs y
+  listed_cases z zs y (zero, lt, e) = inl e
+  listed_cases z zs y (suc k, lt, e) = inr (k, omega (arith, lt), e)
+
+  all_are : (eq : X → X → Bool) (same : IsIdentity eq) (x : X) (xs : List X) → list_all (eq x) xs ≡ true → (y : X) → Contains xs y → x ≡ y
+  all_are eq same x [] h y c = absurd (omega (arith, c.1))
+  all_are eq same x (z ∷ zs) h y c =
+      let b = both_hold (eq x z) (list_all (eq x) zs) h in
+      elim (listed_cases z zs y c) [ inl e ↦ same x z b.0 ∙ e | inr d ↦ all_are eq same x zs b.1 y d ]
+
+  -- it is each value that is listed, and is listed
+  pub one_is_each : (eq : X → X → Bool) (same : IsIdentity eq) (xs : List X) (x : X) → one_of eq xs ≡ Some x → Contains xs x × ((y : X) → Contains xs y → x ≡ y)
+  one_is_each eq same [] x e = absurd cc
+  one_is_each eq same (z ∷ zs) x e =
+      let h = one_when (list_all (eq z) zs) z x e in
+      (subst (λ q. Contains (z ∷ zs) q) h.1 (first_contained z zs), λ y c. elim (listed_cases z zs y c) [ inl d ↦ sym h.1 ∙ d | inr d ↦ sym h.1 ∙ all_are eq same z zs h.0 y d ])
+
+  -- where nothing is found, nothing that is listed passes
+  pub missed : (test : X → Bool) (xs : List X) (x : X) → find test xs ≡ None → Contains xs x → test x ≡ false
+  missed test [] x e c = absurd (omega (arith, c.1))
+  missed test (y ∷ ys) x e c = by_test (test y) refl (λ h d. missed test ys x h d) e
+    where
+      by_test : (b : Bool) → test y ≡ b → (find test ys ≡ None → Contains ys x → test x ≡ false) → cond b (Some y) (find test ys) ≡ None → test x ≡ false
+      by_test true t later h = absurd cc
+      by_test false t later h = elim (listed_cases y ys x c) [ inl d ↦ ap test (sym d) ∙ t | inr d ↦ later h d ]

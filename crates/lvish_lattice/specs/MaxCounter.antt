@@ -1,10 +1,11 @@
 -- Numbers that only grow.
-use Rattle.std.specs.Prelude.{◌≡◌, ℤ, pos, cond, List, Option, Some, Contains, find, map, option_map, nat_le}
+use Rattle.std.specs.Prelude.{◌≡◌, ℤ, pos, Bool, cond, List, Option, Some, Contains, find, map, option_map, nat_le}
 use Rattle.std.proofs.Common.{lit≤}
 use Rattle.std.specs.List.{range_with_len}
 use Rattle.lvish_lattice.specs.declared.max_counter.MaxCounter.{MaxCounter}
 use Rattle.lvish_lattice.specs.declared.max_counter.Levels.{Levels}
 use Rattle.lvish_lattice.specs.declared.max_counter.Levels.TheVariants.{In}
+use Rattle.lvish_lattice.specs.Listed.{one_of}
 
 -- the number that a counter holds
 abbrev pub number_of : MaxCounter → ℤ
@@ -32,3 +33,10 @@ Member r c a = Contains (listed r) c × (number_of c ≡ a)
 -- the number of the first of the listed levels that the counter has reached
 abbrev pub answer_of : Levels → MaxCounter → Option ℤ
 answer_of r c = option_map number_of (find (λ level. nat_le level.value c.value) (listed r))
+
+-- a level is its own spot
+abbrev pub spot_of : ℤ → ℤ
+spot_of n = n
+
+abbrev pub watched : (MaxCounter → MaxCounter → Bool) → Levels → Option ℤ
+watched eq r = option_map number_of (one_of eq (listed r))

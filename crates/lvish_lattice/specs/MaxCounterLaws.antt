@@ -1,5 +1,5 @@
 -- Counters are a lattice, and reads by levels answer.
-use Rattle.std.specs.Prelude.{◌≡◌, ◌↔◌, ℕ, ◌+◌, ◌-◌, ◌<◌, ◌≤◌, ℤ, pos, negsuc, Bool, true, false, cond, not, ◌&&◌, ◌||◌, List, [], ◌∷◌, ◌++◌, length, map, Some, option_map, filter, find, max, Contains, nat_eq, nat_le, nat_lt, refl}
+use Rattle.std.specs.Prelude.{◌≡◌, ◌↔◌, ℕ, ◌+◌, ◌-◌, ◌<◌, ◌≤◌, ℤ, pos, negsuc, Bool, true, false, cond, not, ◌&&◌, ◌||◌, List, [], ◌∷◌, ◌++◌, length, map, Option, Some, None, option_map, filter, find, max, Contains, nat_eq, nat_le, nat_lt, int_le, refl}
 use Rattle.std.proofs.Common.{zero, suc, sym, ◌∙◌, ap, inl, ⊎_elim, arith}
 use Rattle.std.proofs.Math.Bridge.{le_prop}
 use mathlib.Core.HLevel.{Σ_prop_path}
@@ -14,9 +14,9 @@ use Rattle.std.specs.declared.cmp.Ordering.TheVariants.{Less}
 use Rattle.std.specs.Set.{is_member, IsUnion}
 use Rattle.lvish_lattice.specs.declared.max_counter.MaxCounter.{MaxCounter}
 use Rattle.lvish_lattice.specs.declared.max_counter.Levels.{Levels}
-use Rattle.lvish_lattice.specs.Lattice.{IsIdentity, IsJoin, IsBelow, HasEvents, fresh_of, IsChecked, IsAnswered}
-use Rattle.lvish_lattice.specs.Listed.{found, found_one, mapped, some_is_not_none}
-use Rattle.lvish_lattice.specs.MaxCounter.{number_of, zero as none, joined, events_of, listed, Member, answer_of}
+use Rattle.lvish_lattice.specs.Lattice.{IsIdentity, IsJoin, IsBelow, HasEvents, fresh_of, IsChecked, IsAnswered, IsWatched}
+use Rattle.lvish_lattice.specs.Listed.{found, found_one, mapped, some_is_not_none, one_of, one_is_each, missed}
+use Rattle.lvish_lattice.specs.MaxCounter.{number_of, zero as none, joined, events_of, listed, Member, answer_of, spot_of, watched}
 
 -- two counters of the same number are the same
 pub same_counter : (a b : MaxCounter) → a.value ≡ b.value → a ≡ b
@@ -152,3 +152,33 @@ counters_answer r checked s a = (
       (m.0, (f.0, m.2), (reaches m.0 s).1 f.1)),
   λ m. ap (option_map number_of) (found_one (λ level. nat_le level.value s.value) (listed r) m.0 m.1.0 (λ y c. checked_is_one r checked y m.0 c m.1.0) ((reaches m.0 s).0 m.2)) ∙ ap (λ (n : ℤ). Some n) m.1.1,
 )
+
+-- a level that is reached in one state and not in another is an event of the one and not of the other
+pub level_is_there : (old new : MaxCounter) (n : ℤ) → int_le n (number_of new) ≡ true → int_le n (number_of old) ≡ false → (is_member int_eq (events_of new) n ≡ true) × (is_member int_eq (events_of old) n ≡ false)
+level_is_there old new (pos k) there missing = (has_level 1 new.value (pos k) ∙ among, has_level 1 old.value (pos k) ∙ beyond)
+  where
+    among : is_among 1 new.value (pos k) ≡ true
+    among = grind (arith, nat_tests)
+
+    beyond : is_among 1 old.value (pos k) ≡ false
+    beyond = grind (arith, nat_tests)
+level_is_there old new (negsuc k) there missing = absurd cc
+
+none_found : {X : Type 0} {A : Type 0} (f : X → A) (r : Option X) → option_map f r ≡ None → r ≡ None
+none_found f (Some x) e = absurd cc
+none_found f None e = refl
+
+pub counters_wait : (eq : MaxCounter → MaxCounter → Bool) → IsIdentity eq → IsWatched int_eq events_of spot_of (watched eq) answer_of
+counters_wait eq same r w is old new a none some =
+    let h = mapped number_of (one_of eq (listed r)) w is in
+    let one = one_is_each eq same (listed r) h.0 h.1 in
+    let m = mapped number_of (find (λ level. nat_le level.value new.value) (listed r)) a some in
+    let f = found (λ level. nat_le level.value new.value) (listed r) m.0 m.1 in
+    let got : nat_le h.0.value new.value ≡ true = ap (λ (x : MaxCounter). nat_le x.value new.value) (one.1 m.0 f.0) ∙ f.1 in
+    let late : nat_le h.0.value old.value ≡ false = missed (λ level. nat_le level.value old.value) (listed r) h.0 (none_found number_of _ none) one.0 in
+    record {
+      event = pos h.0.value;
+      there = has_level 1 new.value (pos h.0.value) ∙ grind (arith, nat_tests);
+      missing = has_level 1 old.value (pos h.0.value) ∙ grind (arith, nat_tests);
+      at = h.2;
+    }

@@ -8,6 +8,7 @@ use Rattle.lvish_lattice.specs.declared.grow_set.GrowSet.{GrowSet}
 use Rattle.lvish_lattice.specs.declared.grow_set.Members.{Members}
 use Rattle.lvish_lattice.specs.declared.grow_set.Members.TheVariants.{In}
 use Rattle.lvish_lattice.specs.GrowSet.{items_of}
+use Rattle.lvish_lattice.specs.Listed.{one_of}
 
 -- the elements that are waited for
 abbrev pub listed : {V : Type 0} → Members V → List V
@@ -21,3 +22,10 @@ module _ {V : Type 0} {o : ord.Ghosts V} {e : partial_eq.Ghosts V} {p : partial_
   -- the first of the listed elements that the set has
   abbrev pub answer_of : (V → V → Bool) → Members V → GrowSet V o e p → Option V
   answer_of eq r s = find (is_member eq (items_of s)) (listed r)
+
+-- an element is its own spot
+abbrev pub spot_of : {V : Type 0} → V → V
+spot_of x = x
+
+abbrev pub watched : {V : Type 0} → (V → V → Bool) → Members V → Option V
+watched eq r = one_of eq (listed r)

@@ -10,11 +10,11 @@ use Rattle.std.specs.declared.cmp.PartialEq as partial_eq
 use Rattle.std.specs.declared.cmp.PartialOrd as partial_ord
 use Rattle.lvish_lattice.specs.declared.grow_set.GrowSet.{GrowSet}
 use Rattle.lvish_lattice.specs.declared.grow_set.Members.{Members}
-use Rattle.lvish_lattice.specs.Lattice.{IsIdentity, IsBelow, IsChecked, IsAnswered}
+use Rattle.lvish_lattice.specs.Lattice.{IsIdentity, IsBelow, IsChecked, IsAnswered, IsWatched}
 use Rattle.lvish_lattice.specs.Ascending.{ties_are_same, one_rises, within_by}
-use Rattle.lvish_lattice.specs.GrowSet.{joined, same_set, joined-union, below_from}
-use Rattle.lvish_lattice.specs.Listed.{found, found_one, some_is_not_none}
-use Rattle.lvish_lattice.specs.Members.{listed, Member, answer_of}
+use Rattle.lvish_lattice.specs.GrowSet.{joined, same_set, joined-union, below_from, items_of}
+use Rattle.lvish_lattice.specs.Listed.{found, found_one, some_is_not_none, one_is_each, missed}
+use Rattle.lvish_lattice.specs.Members.{listed, Member, answer_of, spot_of, watched}
 
 module _ {V : Type 0} {o : ord.Ghosts V} {e : partial_eq.Ghosts V} {p : partial_ord.Ghosts V} (total : IsTotalOrder o.cmp) where
   abbrev single : V → GrowSet V o e p
@@ -53,3 +53,9 @@ module _ {V : Type 0} {o : ord.Ghosts V} {e : partial_eq.Ghosts V} {p : partial_
       (λ h. let f = found (is_member eq s.items) (listed r) a h in (single a, (f.0, refl), below_has (single a) s a refl f.1)),
       λ m. found_one (is_member eq s.items) (listed r) a m.1.0 (λ y c. checked_is_one r checked y a c m.1.0) (has_below m.0 s a m.1.1 m.2),
     )
+
+    pub sets_wait : IsWatched eq (items_of {o = o} {e = e} {p = p}) spot_of (watched eq) (answer_of {o = o} {e = e} {p = p} eq)
+    sets_wait r w is old new a none some =
+        let one = one_is_each eq same (listed r) w is in
+        let f = found (is_member eq new.items) (listed r) a some in
+        record { event = w; there = ap (is_member eq new.items) (one.1 a f.0) ∙ f.1; missing = missed (is_member eq old.items) (listed r) w none one.0; at = refl }

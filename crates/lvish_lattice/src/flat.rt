@@ -12,6 +12,16 @@ pub enum Flat<V> {
     Value(V),
 }
 
+/// Where a cell is read: as a whole.
+#[derive(Clone, Copy, Debug, PartialEq, Eq, PartialOrd, Ord)]
+pub struct Whole;
+
+impl Plain for Whole {
+    ghost use Rattle.std.specs.Prelude.{refl};
+
+    ghost identical = { λ x y e. refl };
+}
+
 /// What is waited for: any value, or one of a list.
 #[derive(Debug, Drop)]
 pub enum FlatRead<V> {
@@ -94,15 +104,21 @@ impl<V: Plain> Lattice for Flat<V> {
 }
 
 impl<V: Plain> Reads for Flat<V> {
-    ghost use Rattle.lvish_lattice.specs.Flat.{Member, answer_of};
+    ghost use Rattle.lvish_lattice.specs.Flat.{Member, answer_of, spot_of, watched};
 
     type Read = FlatRead<V>;
 
     type Answer = V;
 
+    type Spot = Whole;
+
     ghost member = { Member };
 
     ghost answer_of = { answer_of V.eq };
+
+    ghost spot_of = { spot_of };
+
+    ghost watched = { watched };
 
     fn check(_read: &FlatRead<V>) -> bool {
         true
@@ -124,7 +140,17 @@ impl<V: Plain> Reads for Flat<V> {
         }
     }
 
-    ghost use Rattle.lvish_lattice.specs.FlatLaws.{flat_answers};
+    fn spot(_event: &V) -> Whole {
+        Whole
+    }
+
+    fn watch(_read: &FlatRead<V>) -> Option<Whole> {
+        Some(Whole)
+    }
+
+    ghost use Rattle.lvish_lattice.specs.FlatLaws.{flat_answers, flat_waits};
+
+    ghost waits = { flat_waits V.eq V.identical V.Eq.laws };
 
     ghost answers = { flat_answers V.eq V.identical V.Eq.laws };
 }

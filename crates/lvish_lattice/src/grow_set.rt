@@ -5,7 +5,7 @@ ghost use Rattle.std.specs.List.Sorted.{IsStrictlySortedBy, IsStrictlySortedBy-p
 use crate::ascending::{beyond, has, is_within, merged, sorted};
 use crate::items::Items;
 use crate::lattice::{Lattice, Plain, Reads};
-use crate::reads::has_one_value;
+use crate::reads::{has_one_value, one_of};
 use std::alloc::{AllocError, Global};
 
 /// A set that only grows.
@@ -148,16 +148,22 @@ fn first_held<V: Plain>(listed: &[V], items: &[V]) -> Option<V>
 }
 
 impl<V: Plain> Reads for GrowSet<V> {
-    ghost use Rattle.lvish_lattice.specs.Members.{Member, answer_of};
-    ghost use Rattle.lvish_lattice.specs.MembersLaws.{sets_answer};
+    ghost use Rattle.lvish_lattice.specs.Members.{Member, answer_of, spot_of, watched};
+    ghost use Rattle.lvish_lattice.specs.MembersLaws.{sets_answer, sets_wait};
 
     type Read = Members<V>;
 
     type Answer = V;
 
+    type Spot = V;
+
     ghost member = { Member };
 
     ghost answer_of = { answer_of V.eq };
+
+    ghost spot_of = { spot_of };
+
+    ghost watched = { watched V.eq };
 
     fn check(read: &Members<V>) -> bool {
         has_one_value(read.listed())
@@ -166,6 +172,16 @@ impl<V: Plain> Reads for GrowSet<V> {
     fn trigger(read: &Members<V>, state: &GrowSet<V>) -> Option<V> {
         first_held(read.listed(), state.items())
     }
+
+    fn spot(event: &V) -> V {
+        *event
+    }
+
+    fn watch(read: &Members<V>) -> Option<V> {
+        one_of(read.listed())
+    }
+
+    ghost waits = { sets_wait V.Ord.total V.eq V.matches_eq V.identical };
 
     ghost answers = { sets_answer V.Ord.total V.eq V.matches_eq V.identical };
 }

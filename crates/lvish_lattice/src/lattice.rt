@@ -1,5 +1,5 @@
 ghost use Rattle.std.specs.Prelude.{◌≡◌, ◌↔◌, List, Option, Some, IfOk, IfErr, is_some, unwrap_or, IsTrue};
-ghost use Rattle.lvish_lattice.specs.Lattice.{IsIdentity, IsJoin, IsBelow, HasEvents, IsChecked, IsAnswered, fresh_of};
+ghost use Rattle.lvish_lattice.specs.Lattice.{IsIdentity, IsJoin, IsBelow, HasEvents, IsChecked, IsAnswered, IsWatched, fresh_of};
 
 use std::alloc::{AllocError, Global};
 
@@ -77,11 +77,20 @@ pub trait Reads: Lattice {
     /// What a read answers: never the content, only which member was reached.
     type Answer: Copy;
 
+    /// What an event has in common with the reads that it can wake.
+    type Spot: Plain;
+
     /// The members of a threshold set, each a state with its answer.
     ghost member: { Self.Read → Self → Self.Answer → Type 0 };
 
     /// The answer of a read in a state, if there is one.
     ghost answer_of: { Self.Read → Self → Option Self.Answer };
+
+    /// The spot of an event.
+    ghost spot_of: { Self.Event → Self.Spot };
+
+    /// The one spot whose events can wake the read; `None` where any event can.
+    ghost watched: { Self.Read → Option Self.Spot };
 
     /// Whether any two different members join to top.
     fn check(read: &Self::Read) -> bool
@@ -91,6 +100,17 @@ pub trait Reads: Lattice {
     /// it, if there is one.
     fn trigger(read: &Self::Read, state: &Self) -> Option<Self::Answer>
         ensures { result ≡ answer_of read.now state.now };
+
+    /// The spot of the event.
+    fn spot(event: &Self::Event) -> Self::Spot
+        ensures { result ≡ spot_of event.now };
+
+    /// The spot at which a read waits: an answer comes to it only with an event of this spot; `None`
+    /// where any event can bring it.
+    fn watch(read: &Self::Read) -> Option<Self::Spot>
+        ensures { result ≡ watched read.now };
+
+    ghost waits: { IsWatched Self.Event.eq Self.events_of spot_of watched answer_of };
 
     ghost answers: { (r : Self.Read) → IsChecked Self.joined (member r) → IsAnswered Self.joined (member r) (answer_of r) };
 }

@@ -39,9 +39,10 @@ mod numbered;
 mod reads;
 mod tuples;
 
-pub use flat::{Flat, FlatRead};
+pub use flat::{Flat, FlatRead, Whole};
 pub use grow_set::{GrowSet, Members};
 pub use items::Items;
 pub use lattice::{Lattice, Plain, Reads};
 pub use max_counter::{Levels, MaxCounter, Range};
 pub use numbered::Numbered;
+pub use reads::one_of;

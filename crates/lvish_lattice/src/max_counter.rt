@@ -3,7 +3,7 @@ ghost use Rattle.std.specs.List.{range_with_len};
 
 use crate::items::Items;
 use crate::lattice::{Lattice, Plain, Reads};
-use crate::reads::has_one_value;
+use crate::reads::{has_one_value, one_of};
 use std::alloc::{AllocError, Global};
 use thiserror::Error;
 
@@ -129,16 +129,23 @@ impl Lattice for MaxCounter {
 }
 
 impl Reads for MaxCounter {
-    ghost use Rattle.lvish_lattice.specs.MaxCounter.{Member, answer_of};
-    ghost use Rattle.lvish_lattice.specs.MaxCounterLaws.{counters_answer};
+    ghost use Rattle.std.specs.Prelude.{refl};
+    ghost use Rattle.lvish_lattice.specs.MaxCounter.{Member, answer_of, spot_of, watched};
+    ghost use Rattle.lvish_lattice.specs.MaxCounterLaws.{counters_identical, counters_answer, counters_wait};
 
     type Read = Levels;
 
     type Answer = i64;
 
+    type Spot = i64;
+
     ghost member = { Member };
 
     ghost answer_of = { answer_of };
+
+    ghost spot_of = { spot_of };
+
+    ghost watched = { watched ⟦<MaxCounter as PartialEq>⟧.eq };
 
     fn check(read: &Levels) -> bool {
         has_one_value(read.listed())
@@ -151,6 +158,19 @@ impl Reads for MaxCounter {
             .find(|level| level.value <= state.value)?;
         Some(reached.get())
     }
+
+    fn spot(event: &i64) -> i64 {
+        *event
+    }
+
+    fn watch(read: &Levels) -> Option<i64> {
+        match one_of(read.listed()) {
+            Some(level) => Some(level.get()),
+            None => None,
+        }
+    }
+
+    ghost waits = { counters_wait ⟦<MaxCounter as PartialEq>⟧.eq (counters_identical _ (λ a b. refl)) };
 
     ghost answers = { counters_answer };
 }

@@ -35,4 +35,6 @@ pub trait ReadNotation: Notation + Reads {
     fn read(alloc: Global, text: &str) -> Result<Self::Read, Fault>;
 
     fn write_answer(answer: &Self::Answer, out: &mut String) -> Result<(), AllocError>;
+
+    fn write_spot(spot: &Self::Spot, out: &mut String) -> Result<(), AllocError>;
 }

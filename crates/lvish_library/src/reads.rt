@@ -15,6 +15,7 @@ pub fn answer<L: ReadNotation>(alloc: Global, words: &[&str]) -> Result<String, 
             let state = L::state(alloc, state)?;
             Ok(answer_text::<L>(alloc, L::trigger(&read, &state))?)
         }
+        ["watch", read] => Ok(spot_text::<L>(alloc, L::watch(&L::read(alloc, read)?))?),
         _ => lattices::answer::<L>(alloc, words),
     }
 }
@@ -28,6 +29,16 @@ pub fn answer_text<L: ReadNotation>(
     match answer {
         Some(answer) => L::write_answer(&answer, &mut text)?,
         None => text.push_str("none")?,
+    }
+    Ok(text)
+}
+
+/// The spot at which a read waits, `any` where it waits for any event.
+fn spot_text<L: ReadNotation>(alloc: Global, spot: Option<L::Spot>) -> Result<String, AllocError> {
+    let mut text = String::new(alloc);
+    match spot {
+        Some(spot) => L::write_spot(&spot, &mut text)?,
+        None => text.push_str("any")?,
     }
     Ok(text)
 }

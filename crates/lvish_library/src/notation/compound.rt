@@ -66,6 +66,11 @@ impl<L: ReadNotation> ReadNotation for MapOf<i64, L> {
     fn write_answer(answer: &L::Answer, out: &mut String) -> Result<(), AllocError> {
         L::write_answer(answer, out)
     }
+
+    fn write_spot(spot: &(i64, L::Spot), out: &mut String) -> Result<(), AllocError> {
+        write!(out, "{}:", spot.0)?;
+        L::write_spot(&spot.1, out)
+    }
 }
 
 impl<A: Notation, B: Notation> Notation for Pair<A, B> {
@@ -115,6 +120,19 @@ impl<A: ReadNotation, B: ReadNotation> ReadNotation for Pair<A, B> {
             SideOf::Two(answer) => {
                 out.push_str("2/")?;
                 B::write_answer(answer, out)
+            }
+        }
+    }
+
+    fn write_spot(spot: &SideOf<A::Spot, B::Spot>, out: &mut String) -> Result<(), AllocError> {
+        match spot {
+            SideOf::One(spot) => {
+                out.push_str("1/")?;
+                A::write_spot(spot, out)
+            }
+            SideOf::Two(spot) => {
+                out.push_str("2/")?;
+                B::write_spot(spot, out)
             }
         }
     }

@@ -3,7 +3,7 @@
 use super::{Notation, ReadNotation, Value};
 use crate::fault::Fault;
 use crate::words::{halves, integer, integers, items_of};
-use lvish_lattice::{Flat, FlatRead, GrowSet, Items, Levels, MaxCounter, Members};
+use lvish_lattice::{Flat, FlatRead, GrowSet, Items, Levels, MaxCounter, Members, Whole};
 use std::alloc::{AllocError, Global};
 use std::fmt::Write;
 
@@ -93,6 +93,10 @@ impl<V: Value> ReadNotation for Flat<V> {
     fn write_answer(answer: &V, out: &mut String) -> Result<(), AllocError> {
         answer.write_value(out)
     }
+
+    fn write_spot(_spot: &Whole, out: &mut String) -> Result<(), AllocError> {
+        out.push_str("whole")
+    }
 }
 
 impl<V: Value> Notation for GrowSet<V> {
@@ -121,6 +125,10 @@ impl<V: Value> ReadNotation for GrowSet<V> {
     fn write_answer(answer: &V, out: &mut String) -> Result<(), AllocError> {
         answer.write_value(out)
     }
+
+    fn write_spot(spot: &V, out: &mut String) -> Result<(), AllocError> {
+        spot.write_value(out)
+    }
 }
 
 impl Notation for MaxCounter {
@@ -148,5 +156,9 @@ impl ReadNotation for MaxCounter {
 
     fn write_answer(answer: &i64, out: &mut String) -> Result<(), AllocError> {
         answer.write_value(out)
+    }
+
+    fn write_spot(spot: &i64, out: &mut String) -> Result<(), AllocError> {
+        spot.write_value(out)
     }
 }

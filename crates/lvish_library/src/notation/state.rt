@@ -107,4 +107,8 @@ impl ReadNotation for Any {
     fn write_answer(answer: &i64, out: &mut String) -> Result<(), AllocError> {
         write!(out, "{answer}")
     }
+
+    fn write_spot(spot: &Event, out: &mut String) -> Result<(), AllocError> {
+        Any::write_event(spot, out)
+    }
 }
