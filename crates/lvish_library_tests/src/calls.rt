@@ -69,3 +69,17 @@ pub fn answer_of<L: Reads>(read: &L::Read, state: &L) -> Option<L::Answer>
 {
     L::trigger(read, state)
 }
+
+/// The spot of an event.
+pub fn spot_of<L: Reads>(event: &L::Event) -> L::Spot
+    ensures { result ≡ L.spot_of event.now }
+{
+    L::spot(event)
+}
+
+/// The spot at which a read waits, `None` where it waits for any event.
+pub fn watched_by<L: Reads>(read: &L::Read) -> Option<L::Spot>
+    ensures { result ≡ L.watched read.now }
+{
+    L::watch(read)
+}
