@@ -98,7 +98,7 @@ cell_waits t (Value y) (Value x) a none some = record { event = x; there = ap (�
     by_test true h = absurd (no_answer a (cell_answer t (Value x)) (ap (λ (v : ℤ). cell_answer t (Value v)) (int_identical x y h) ∙ none) some)
     by_test false h = ap (λ b. b || false) h
 
--- what is found of one number alone: it passes now, and didn't
+-- where an answer comes to who waits for one number alone, that number passes, and before it didn't
 when_some : (b : Bool) (n a : ℤ) → cond b (Some n) None ≡ Some a → b ≡ true
 when_some true n a e = refl
 when_some false n a e = absurd cc
@@ -107,24 +107,24 @@ when_none : (b : Bool) (n : ℤ) → cond b (Some n) None ≡ None → b ≡ fal
 when_none true n e = absurd cc
 when_none false n e = refl
 
-passes_now : (t : Test) (w : ℤ) → one_in t ≡ Some w → (before after : ℤ → Bool) (a : ℤ) → first_that before t ≡ None → first_that after t ≡ Some a → (after w ≡ true) × (before w ≡ false)
-passes_now test.Any w is before after a none some = absurd cc
-passes_now (test.In xs) w is before after a none some =
+one_passes : (t : Test) (w : ℤ) → one_in t ≡ Some w → (before after : ℤ → Bool) (a : ℤ) → first_that before t ≡ None → first_that after t ≡ Some a → (after w ≡ true) × (before w ≡ false)
+one_passes test.Any w is before after a none some = absurd cc
+one_passes (test.In xs) w is before after a none some =
     let one = one_is_each int_eq int_identical xs w is in
     let f = found after xs a some in
     (ap after (one.1 a f.0) ∙ f.1, missed before xs w none one.0)
-passes_now (test.At n) w is before after a none some =
+one_passes (test.At n) w is before after a none some =
     let e : n ≡ w = cc in
     (subst (λ k. after k ≡ true) e (when_some (after n) n a some), subst (λ k. before k ≡ false) e (when_none (before n) n none))
 
 set_waits : (t : Test) (w : ℤ) → one_in t ≡ Some w → (old new : Held Set) (a : ℤ) → first_that (is_member int_eq (set.items_of old)) t ≡ None → first_that (is_member int_eq (set.items_of new)) t ≡ Some a → BringsAt int_eq set.items_of (spot_by kind.Set) old new w
 set_waits t w is old new a none some =
-    let p = passes_now t w is (is_member int_eq (set.items_of old)) (is_member int_eq (set.items_of new)) a none some in
+    let p = one_passes t w is (is_member int_eq (set.items_of old)) (is_member int_eq (set.items_of new)) a none some in
     record { event = w; there = p.0; missing = p.1; at = refl }
 
 max_waits : (t : Test) (w : ℤ) → one_in t ≡ Some w → (old new : MaxCounter) (a : ℤ) → first_that (is_reached (number_of old)) t ≡ None → first_that (is_reached (number_of new)) t ≡ Some a → BringsAt int_eq max.events_of (spot_by kind.Max) old new w
 max_waits t w is old new a none some =
-    let p = passes_now t w is (is_reached (number_of old)) (is_reached (number_of new)) a none some in
+    let p = one_passes t w is (is_reached (number_of old)) (is_reached (number_of new)) a none some in
     let l = level_is_there old new w p.0 p.1 in
     record { event = w; there = l.0; missing = l.1; at = refl }
 
@@ -231,7 +231,7 @@ module _ (en : Event → Event → Bool) (by : IsByName en) where
   waits_at place.Max t w is old new a none some = whole_waits kind.Max t w is old new a none some
   waits_at (place.Key k) t w is old new a none some =
       subst (Brings old new) (event_same (at_spot k kind.Map (pos 0)) w is)
-          (brings_there (λ s. map_of.at (map_in s) k) (λ n. name_of (Two (One (k, n)))) (at_spot k kind.Map) (λ s n. has_entry s k n) (λ n. refl) old new (pos 0) (cell_waits t (map_of.at (map_in old) k) (map_of.at (map_in new) k) a none some))
+      (brings_there (λ s. map_of.at (map_in s) k) (λ n. name_of (Two (One (k, n)))) (at_spot k kind.Map) (λ s n. has_entry s k n) (λ n. refl) old new (pos 0) (cell_waits t (map_of.at (map_in old) k) (map_of.at (map_in new) k) a none some))
   waits_at (place.Side i l) t w is old new a none some = side_waits (nat_eq i 1) l t w is old new a none some
 
   pub any_waits : IsWatched en events_of spot_of watched answer_of

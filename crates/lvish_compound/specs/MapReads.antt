@@ -125,5 +125,5 @@ module _ {K L E : Type 0} {ko : ord.Ghosts K} {ke : partial_eq.Ghosts K} {kp : p
     map_waits C oc same_event h keq eeq kt et spot watch answer law r w is old new a none some =
         let v = was_there (at_key_spot r.key) (watch r.read) w is in
         subst (λ w. BringsAt (λ (x y : K × E). keq x.0 y.0 && eeq x.1 y.1) map_events_of (spot_of spot) old new w) v.2
-            (brings_there (λ (m : MapOf K L E ko ke kp l le eo ee ep). at m r.key) (λ y. (r.key, y)) (at_key_spot r.key) (λ m y. map_has o same_key j itself same C oc same_event h keq eeq kt et m r.key y) (λ y. refl) old new v.0
-            (law r.read v.0 v.1 (at old r.key) (at new r.key) a none some))
+        (brings_there (λ (m : MapOf K L E ko ke kp l le eo ee ep). at m r.key) (λ y. (r.key, y)) (at_key_spot r.key) (λ m y. map_has o same_key j itself same C oc same_event h keq eeq kt et m r.key y) (λ y. refl) old new v.0
+        (law r.read v.0 v.1 (at old r.key) (at new r.key) a none some))

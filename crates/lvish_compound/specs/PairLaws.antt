@@ -159,11 +159,11 @@ module _ {A B : Type 0} where
         let v = was_there of_one (wa r) w is in
         let x = was_there of_one (aa r new.one) a some in
         subst (λ w. BringsAt eq (events_of va vb) (spot_of sa sb) old new w) v.2
-            (brings_there (λ (p : Pair A B). p.one) of_one of_one (λ p y. has_one ee ef eq xx yy xy yx (va p.one) (vb p.two) y) (λ y. refl) old new v.0
-            (la r v.0 v.1 old.one new.one x.0 (was_none of_one (aa r old.one) none) x.1))
+        (brings_there (λ (p : Pair A B). p.one) of_one of_one (λ p y. has_one ee ef eq xx yy xy yx (va p.one) (vb p.two) y) (λ y. refl) old new v.0
+        (la r v.0 v.1 old.one new.one x.0 (was_none of_one (aa r old.one) none) x.1))
     pair_waits la lb (Two r) w is old new a none some =
         let v = was_there of_two (wb r) w is in
         let x = was_there of_two (ab r new.two) a some in
         subst (λ w. BringsAt eq (events_of va vb) (spot_of sa sb) old new w) v.2
-            (brings_there (λ (p : Pair A B). p.two) of_two of_two (λ p y. has_two ee ef eq xx yy xy yx (va p.one) (vb p.two) y) (λ y. refl) old new v.0
-            (lb r v.0 v.1 old.two new.two x.0 (was_none of_two (ab r old.two) none) x.1))
+        (brings_there (λ (p : Pair A B). p.two) of_two of_two (λ p y. has_two ee ef eq xx yy xy yx (va p.one) (vb p.two) y) (λ y. refl) old new v.0
+        (lb r v.0 v.1 old.two new.two x.0 (was_none of_two (ab r old.two) none) x.1))

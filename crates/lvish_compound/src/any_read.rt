@@ -174,7 +174,11 @@ impl Reads for Any {
                 number: 0,
             }),
             Place::Side(number, kind) => {
-                at_spot(if number == 1 { 1 } else { 2 }, kind, read.test.number_by(kind))
+                at_spot(
+                    if number == 1 { 1 } else { 2 },
+                    kind,
+                    read.test.number_by(kind),
+                )
             }
         }
     }
