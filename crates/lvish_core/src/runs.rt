@@ -62,6 +62,12 @@ pub trait Runs: Program {
     /// The log's entry that the handler is handed next.
     ghost is_next: { View Self Self.Lat Self.Lat.Event Self.Local → Handler Self.Lat.Event → Self.Lat.Event → Type 0 };
 
+    /// The picture has a handler of this name.
+    ghost is_held: { View Self Self.Lat Self.Lat.Event Self.Local → Handler Self.Lat.Event → Type 0 };
+
+    /// Every handler was handed the whole log of its variable.
+    ghost are_drained: { View Self Self.Lat Self.Lat.Event Self.Local → Type 0 };
+
     /// So many tasks of the picture haven't ended.
     ghost has_running: { View Self Self.Lat Self.Lat.Event Self.Local → ℕ → Type 0 };
 
@@ -73,11 +79,11 @@ pub trait Runs: Program {
 }
 
 impl<P: Program> Runs for P {
-    ghost use Rattle.std.specs.Prelude.{option_map};
+    ghost use Rattle.std.specs.Prelude.{option_map, IsSome};
     ghost use Rattle.lvish_calculus.specs.Calculus.{IsEnded};
     ghost use Rattle.lvish_core.specs.Core.{picture, state, IsReached, IsRunTo, IsBegun, CanTake, IsStep, IsRefused, IsNext};
     ghost use Rattle.lvish_core.specs.Changes.{IsMoved, local_of};
-    ghost use Rattle.lvish_core.specs.Reads.{IsItsRequest, IsItsPlace, HasRunning, AreStates, AreHandlers};
+    ghost use Rattle.lvish_core.specs.Reads.{IsItsRequest, IsItsPlace, HasRunning, AreStates, AreHandlers, AreDrained};
     ghost use Rattle.lvish_core.specs.Labels.{AreLabels};
 
     ghost picture = { λ c. picture (⟦<P as Meaning>⟧.machine c.program) c };
@@ -109,6 +115,10 @@ impl<P: Program> Runs for P {
     ghost request_in = { λ c t. option_map (P.functions c.program).request (local_of ((state (⟦<P as Meaning>⟧.machine c.program) c).tasks t)) };
 
     ghost is_next = { λ c h e. IsNext P.Lat.Event.eq c.table h e };
+
+    ghost is_held = { λ c h. IsSome ((state (⟦<P as Meaning>⟧.machine c.program) c).handlers h) };
+
+    ghost are_drained = { λ c. AreDrained c.table };
 
     ghost has_running = { λ c n. HasRunning (⟦<P as Meaning>⟧.machine c.program) c n };
 

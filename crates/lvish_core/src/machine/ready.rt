@@ -3,7 +3,6 @@
 ghost use Rattle.std.specs.Prelude.{◌≡◌, ◌↔◌, ◌≤◌, IsTrue, IfOk};
 ghost use Rattle.lvish_calculus.specs.Calculus.{IsReady, IsReadyTask};
 ghost use Rattle.lvish_core.specs.Core.{state};
-ghost use Rattle.lvish_core.specs.Reads.{AreDrained};
 ghost use Rattle.lvish_core.specs.Tasks.{standing};
 
 use super::Core;
@@ -59,17 +58,5 @@ impl<'p, P: Program> Core<'p, P> {
             }
             Stage::Ended => Ok(false),
         }
-    }
-
-    /// Whether every handler was handed the whole log of its variable.
-    pub(super) fn is_drained(&self) -> bool
-        ensures { IsTrue result ↔ AreDrained self.now.table }
-    {
-        for (variable, handlers) in self.variables.iter().zip(self.handlers.iter()) {
-            if !handlers.drained(variable) {
-                return false;
-            }
-        }
-        true
     }
 }

@@ -1,6 +1,6 @@
 //! What a core shows by reference or number.
 
-ghost use Rattle.std.specs.Prelude.{◌≡◌, ◌<◌, MatchOption, option_copied};
+ghost use Rattle.std.specs.Prelude.{◌≡◌, ◌<◌, ◌↔◌, IsTrue, MatchOption, option_copied};
 ghost use Rattle.lvish_handlers.specs.Handlers.{IsByName};
 
 use super::Core;
@@ -41,6 +41,25 @@ impl<'p, P: Program> Core<'p, P> {
             return None;
         };
         self.handlers[place.variable].next(&self.variables[place.variable], name)
+    }
+
+    /// Whether there is a handler of this name.
+    pub fn holds(&self, name: &HandlerName<<P::Lat as Lattice>::Event>) -> bool
+        ensures { IsTrue result ↔ ⟦<P as Runs>⟧.is_held self.now name.now }
+    {
+        self.places.get(name).is_some()
+    }
+
+    /// Whether every handler was handed the whole log of its variable.
+    pub fn is_drained(&self) -> bool
+        ensures { IsTrue result ↔ ⟦<P as Runs>⟧.are_drained self.now }
+    {
+        for (variable, handlers) in self.variables.iter().zip(self.handlers.iter()) {
+            if !handlers.drained(variable) {
+                return false;
+            }
+        }
+        true
     }
 
     /// The variable's handlers, by name.

@@ -1,0 +1,94 @@
+-- What is among lists, and lists in which nothing comes twice.
+use Rattle.std.proofs.Common.{◌≡◌, ◌⊎◌, inl, inr, ℕ, zero, suc, ◌<◌, List, [], ◌∷◌, ◌++◌, length, get_or, Contains, Ordering, sym, subst, arith, append_assoc}
+use Rattle.std.specs.declared.cmp.Ordering.TheVariants.{Less, Equal}
+use Rattle.std.specs.Cmp.{IsTotalOrder}
+use Rattle.std.specs.List.{AllByRecursion}
+use Rattle.std.specs.List.Sorted.{IsStrictlySortedBy, IsPermutation}
+use Rattle.std.proofs.lemmas.List.Sorted.{Contains-permutation}
+use Rattle.std.proofs.lemmas.Cmp.{tied_itself}
+use Rattle.lvish_calculus.specs.Handing.{IsAmong, NoRepeats}
+use Rattle.lvish_core.proofs.Listing.{among_first}
+
+module _ {X : Type 0} where
+  -- in two lists with one more between them
+  pub at_middle : (z x : X) (xs ys : List X) → IsAmong z (xs ++ x ∷ ys) → (z ≡ x) ⊎ IsAmong z (xs ++ ys)
+  at_middle z x [] ys i = i
+  at_middle z x (w ∷ xs) ys (inl e) = inr (inl e)
+  at_middle z x (w ∷ xs) ys (inr i) = elim (at_middle z x xs ys i) [
+    | inl e ↦ inl e
+    | inr j ↦ inr (inr j)
+  ]
+
+  pub in_middle : (z x : X) (xs ys : List X) → (z ≡ x) ⊎ IsAmong z (xs ++ ys) → IsAmong z (xs ++ x ∷ ys)
+  in_middle z x [] ys i = i
+  in_middle z x (w ∷ xs) ys (inl e) = inr (in_middle z x xs ys (inl e))
+  in_middle z x (w ∷ xs) ys (inr (inl e)) = inl e
+  in_middle z x (w ∷ xs) ys (inr (inr i)) = inr (in_middle z x xs ys (inr i))
+
+  pub once_less : (x : X) (xs ys : List X) → NoRepeats (xs ++ x ∷ ys) → (IsAmong x (xs ++ ys) → ⊥) × NoRepeats (xs ++ ys)
+  once_less x [] ys n = n
+  once_less x (w ∷ xs) ys n =
+      let r = once_less x xs ys n.1 in (
+        λ i. elim i [
+          | inl e ↦ n.0 (in_middle w x xs ys (inl (sym e)))
+          | inr j ↦ r.0 j
+        ],
+        (λ j. n.0 (in_middle w x xs ys (inr j)), r.1),
+      )
+
+  pub once_more : (x : X) (xs ys : List X) → (IsAmong x (xs ++ ys) → ⊥) → NoRepeats (xs ++ ys) → NoRepeats (xs ++ x ∷ ys)
+  once_more x [] ys a n = (a, n)
+  once_more x (w ∷ xs) ys a n = (
+    λ i. elim (at_middle w x xs ys i) [
+      | inl e ↦ a (inl (sym e))
+      | inr j ↦ n.0 j
+    ],
+    once_more x xs ys (λ i. a (inr i)) n.1,
+  )
+
+  -- one is moved from the second list to the end of the first
+  pub once_moved : (x : X) (bs xs ys : List X) → NoRepeats (bs ++ (xs ++ x ∷ ys)) → NoRepeats ((bs ++ x ∷ []) ++ (xs ++ ys))
+  once_moved x bs xs ys n =
+      let r = once_less x (bs ++ xs) ys (subst (λ zs. NoRepeats zs) (sym (append_assoc bs xs (x ∷ ys))) n) in
+      let same = append_assoc bs xs ys in
+      subst (λ zs. NoRepeats zs) (sym (append_assoc bs (x ∷ []) (xs ++ ys)))
+      (once_more x bs (xs ++ ys) (subst (λ zs. IsAmong x zs → ⊥) same r.0) (subst (λ zs. NoRepeats zs) same r.1))
+
+  pub once_first : (xs ys : List X) → NoRepeats (xs ++ ys) → NoRepeats xs
+  once_first [] ys n = tt
+  once_first (x ∷ xs) ys n = (λ i. n.0 (among_first x xs ys i), once_first xs ys n.1)
+
+  pub once_last : (xs ys : List X) → NoRepeats (xs ++ ys) → NoRepeats ys
+  once_last [] ys n = n
+  once_last (x ∷ xs) ys n = once_last xs ys n.1
+
+  pub contains_among : (x : X) (xs : List X) → IsAmong x xs → Contains xs x
+  contains_among x [] i = absurd i
+  contains_among x (y ∷ ys) (inl e) = (0, omega arith, sym e)
+  contains_among x (y ∷ ys) (inr i) = let r = contains_among x ys i in (suc r.0, omega (arith, r.1), r.2)
+
+  among_place : (x : X) (xs : List X) (k : ℕ) → k < length xs → get_or xs k x ≡ x → IsAmong x xs
+  among_place x [] k lt e = absurd (omega arith)
+  among_place x (y ∷ ys) zero lt e = inl (sym e)
+  among_place x (y ∷ ys) (suc k) lt e = inr (among_place x ys k (omega arith) e)
+
+  pub among_contains : (x : X) (xs : List X) → Contains xs x → IsAmong x xs
+  among_contains x xs c = among_place x xs c.0 c.1 c.2
+
+  pub among_permuted : (x : X) (xs ys : List X) → IsPermutation xs ys → IsAmong x xs → IsAmong x ys
+  among_permuted x xs ys p i = among_contains x ys (Contains-permutation xs ys x p (contains_among x xs i))
+
+module _ {X : Type 0} {cmp : X → X → Ordering} (o : IsTotalOrder cmp) where
+  not_above : (x : X) (xs : List X) → AllByRecursion (λ y. cmp x y ≡ Less) xs → IsAmong x xs → ⊥
+  not_above x [] a i = i
+  not_above x (y ∷ ys) a (inl e) =
+      let less : cmp x x ≡ Less = subst (λ z. cmp x z ≡ Less) (sym e) a.0 in
+      let equal : cmp x x ≡ Equal = tied_itself o x in
+      absurd cc
+  not_above x (y ∷ ys) a (inr i) = not_above x ys a.1 i
+
+  -- what ascends doesn't repeat
+  pub once_ascending : (xs : List X) → IsStrictlySortedBy cmp xs → NoRepeats xs
+  unfolding IsStrictlySortedBy
+  once_ascending [] s = tt
+  once_ascending (x ∷ xs) s = (not_above x xs s.0, once_ascending xs s.1)

@@ -1,0 +1,16 @@
+pub mod Acting
+pub mod Among
+pub mod Blocked
+pub mod Concerned
+pub mod Handing
+pub mod Lists
+pub mod Naming
+pub mod Parking
+pub mod Shelving
+pub mod Sorting
+pub mod Steps
+pub mod Sweeping
+pub mod Those
+pub mod Waking
+pub mod Wakened
+pub mod Woken

@@ -1,0 +1,78 @@
+use Rattle.std.proofs.Common.{◌≡◌, inl, Some, true, false, refl, sym, ap, subst, ◌∙◌, vec_capacity}
+use Rattle.std.specs.Map.{lookup, values_of}
+use Rattle.std.specs.BTreeMap.{is_at}
+use Rattle.lvish_calculus.specs.declared.label.Label.TheVariants.{Task}
+use Rattle.lvish_calculus.specs.Program.{machine_of}
+use Rattle.lvish_calculus.specs.Handing.{IsAmong}
+use Rattle.lvish_core.specs.Core.{CanTake}
+use Rattle.lvish_core.specs.Changes.{local_of}
+use Rattle.lvish_picture.specs.Picture.{task_of}
+use Rattle.lvish_names.specs.OrderLaws.{name_total}
+use Rattle.lvish_names.specs.NameOrder.{name_cmp}
+use Rattle.lvish_names.proofs.NameLaws.{name_cmp-iff}
+use Rattle.lvish_board.specs.Waking.{AreNamed, Wakes}
+use Rattle.lvish_board.proofs.Among.{in_middle}
+use Rattle.lvish_board.proofs.Naming.{found_at, none_at, removed_named, wakes_named, gone_named}
+use Rattle.lvish_board.proofs.Steps.{of_task}
+use Rattle.lvish_board.proofs.Waking.{wakes_none}
+use Rattle.lvish_board.proofs.by_name.ByName.wake.Goals.{in-Some-remove, in_default-remove}
+use Rattle.lvish_board.proofs.by_name.ByName.wake.Goals as goal
+
+pub returns-in_default-clause-wakes : goal.returns-in_default-clause-wakes
+returns-in_default-clause-wakes g c =
+    let o = g.met.P.Lat.Event.Ord in
+    let exact = name_cmp-iff g.P.Lat.Event.Ord.cmp g.met.P.Lat.Event.Plain.identical o.matches_eq o.total in
+    wakes_none _ _ _ _ (λ p i same can. none_at exact c.args.name.now c.self.inside.asked.entries c.self.invariant.0 (sym c.in_default.ensures.value) p (subst (λ ps. IsAmong p ps) (sym c.self.view_is) i) same)
+
+pub returns-in_default-clause-gone : goal.returns-in_default-clause-gone
+returns-in_default-clause-gone g c = λ t i.
+    let o = g.met.P.Lat.Event.Ord in
+    let exact = name_cmp-iff g.P.Lat.Event.Ord.cmp g.met.P.Lat.Event.Plain.identical o.matches_eq o.total in
+    let r = of_task c.args.name.now c.args.self.now i in
+    none_at exact c.args.name.now c.self.inside.asked.entries c.self.invariant.0 (sym c.in_default.ensures.value) r.0 (subst (λ ps. IsAmong r.0 ps) (sym c.self.view_is) r.1) r.2
+
+pub can-requires : goal.can-requires
+can-requires g c = λ l f a p live.
+    let o = g.met.P.Lat.Event.Ord in
+    let exact = name_cmp-iff g.P.Lat.Event.Ord.cmp g.met.P.Lat.Event.Plain.identical o.matches_eq o.total in
+    let asked = c.in-Some.asked.now in
+    let r = found_at exact c.args.name.now c.self.inside.asked.entries asked c.self.invariant.0 (sym c.in-Some.ensures.value) in
+    let here : IsAmong asked c.args.self.now = subst (λ ps. IsAmong asked ps) (sym r.3 ∙ c.self.view_is) (in_middle asked asked r.0 r.1 (inl refl)) in
+    let stands : local_of (task_of g.P.Lat.Event.PartialEq.eq c.args.core.now.table.tasks c.args.name.now) ≡ Some asked.from =
+    subst (λ t. local_of (task_of g.P.Lat.Event.PartialEq.eq c.args.core.now.table.tasks t) ≡ Some asked.from) r.2 (c.requires.current asked here) in
+    let both : Some l ≡ Some asked.from = sym (ap local_of live) ∙ stands in
+    let same : l ≡ asked.from = cc in
+    ap (λ k. (g.P.Program.functions c.args.core.now.program).request k) same ∙ ap (λ q. (g.P.Program.functions q).request asked.from) c.requires.program ∙ sym c.asks.ensures.request
+
+pub returns-then-not-can-clause-wakes : goal.returns-then-not-can-clause-wakes
+returns-then-not-can-clause-wakes g c =
+    let M = machine_of g.P.Lat.PartialEq.eq g.P.Lat.Event.PartialEq.eq g.P.Lat.Event.Ord.cmp g.P.Lat.Lattice.least g.P.Lat.Lattice.joined g.P.Lat.Lattice.events_of g.P.Lat.Reads.answer_of (g.P.Program.functions c.args.core.now.program) in
+    wakes_none _ _ _ _ (λ p i same can.
+    let yes : c.can.result ≡ true = c.can.ensures.1 (subst (λ t. CanTake M c.args.core.now (Task t)) same can) in
+    let both : true ≡ false = sym yes ∙ c.if-not-can.true in
+    absurd cc)
+
+pub invariant_of-self : goal.invariant_of-self
+invariant_of-self g c =
+    (subst (λ es. AreNamed es) (sym c.remove.ensures.entries) (removed_named (is_at (name_cmp g.P.Lat.Event.Ord.cmp c.args.name.now)) c.self.inside.asked.entries c.self.invariant.0), c.remove.ensures.ordered)
+
+pub returns : goal.returns
+returns g c =
+    let M = machine_of g.P.Lat.PartialEq.eq g.P.Lat.Event.PartialEq.eq g.P.Lat.Event.Ord.cmp g.P.Lat.Lattice.least g.P.Lat.Lattice.joined g.P.Lat.Lattice.events_of g.P.Lat.Reads.answer_of (g.P.Program.functions c.args.core.now.program) in
+    let o = g.met.P.Lat.Event.Ord in
+    let exact = name_cmp-iff g.P.Lat.Event.Ord.cmp g.met.P.Lat.Event.Plain.identical o.matches_eq o.total in
+    let total = name_total o.total in
+    elim c.match-remove.branch [
+      | in-Some-remove w ↦
+          let asked = w.in-Some-remove.asked in
+          let at : lookup (is_at (name_cmp g.P.Lat.Event.Ord.cmp c.args.name.now)) c.self.inside.asked.entries ≡ Some asked = sym w.in-Some-remove.ensures.value in
+          let r = found_at exact c.args.name.now c.self.inside.asked.entries asked c.self.invariant.0 at in
+          let can = subst (λ t. CanTake M c.args.core.now (Task t)) (sym r.2) (c.can.ensures.0 c.if-not-can.false) in
+          record {
+            wakes = subst (λ ps. Wakes (λ p. CanTake M c.args.core.now (Task p.task)) (λ p. p.task ≡ c.args.name.now) ps (values_of c.remove.new.self.entries) c.args.woken.now.items c.match-remove.woken.items) c.self.view_is
+                (wakes_named (λ p. CanTake M c.args.core.now (Task p.task)) total exact c.args.name.now c.self.inside.asked.entries c.remove.new.self.entries c.self.invariant.0 c.self.invariant.1 asked at c.remove.ensures.entries can c.args.woken.now.items c.match-remove.woken.items (ap (λ v. v.items) w.woken-is ∙ w.push_reserved.ensures.items));
+            gone = λ t. gone_named (λ p. CanTake M c.args.core.now (Task p.task)) total exact c.args.name.now c.self.inside.asked.entries c.remove.new.self.entries c.self.invariant.0 c.self.invariant.1 asked at c.remove.ensures.entries;
+            capacity = ap (λ v. vec_capacity v) w.woken-is ∙ w.push_reserved.ensures.capacity;
+          }
+      | in_default-remove w ↦ let a = c.in-Some.ensures.value in let b = c.remove.ensures.value in let d = w.in_default-remove.is in absurd cc
+    ]

@@ -1,0 +1,46 @@
+use Rattle.std.proofs.Common.{rules, ◌≡◌, ◌+◌, suc, inl, inr, ◌∷◌, [], ◌++◌, Some, take, sym, ap, subst, ◌∙◌, arith}
+use Rattle.std.proofs.Math.Seq.{take-suc}
+use Rattle.std.proofs.lemmas.List.{take_all}
+use Rattle.lvish_calculus.specs.Program.{machine_of}
+use Rattle.lvish_calculus.specs.declared.label.Label.TheVariants.{Task as Act}
+use Rattle.lvish_core.specs.Core.{CanTake}
+use Rattle.lvish_core.specs.declared.touched.Touched.TheVariants.{Put}
+use Rattle.lvish_board.specs.Shelved.{WaitsAt}
+use Rattle.lvish_board.specs.Woken.{MayWake}
+use Rattle.lvish_board.proofs.Woken.{may_first, may_more}
+use Rattle.lvish_board.proofs.Waking.{wakes_fewer, wakes_then}
+use Rattle.lvish_board.proofs.parked.Parked.wake_gets.Goals as goal
+
+pub loop-entry-init : goal.loop-entry-init
+loop-entry-init g c = record {
+  wakes = wakes_fewer _ _ _ _ _ _ _ c.wake_at.ensures.wakes (λ p i may. may_first g.P.Lat.Reads.spot_of g.P.Lat.Reads.watched c.args.variable ((g.P.Program.functions c.args.core.now.program).request p.from) may);
+  capacity = c.wake_at.ensures.capacity;
+}
+
+pub wake_at-requires-in-loop-entry-clause-current : goal.wake_at-requires-in-loop-entry-clause-current
+wake_at-requires-in-loop-entry-clause-current g c = λ p i. c.requires.current p (c.loop-entry.invariant.wakes.woken.stay p i).0
+
+pub loop-entry-preserved : goal.loop-entry-preserved
+loop-entry-preserved g c =
+    let next : c.loop-entry.entry-index + 1 ≡ suc c.loop-entry.entry-index = omega arith in
+    let more : take (c.loop-entry.entry-index + 1) c.args.fresh.now ≡ take c.loop-entry.entry-index c.args.fresh.now ++ c.entry-item.result ∷ [] =
+    ap (λ k. take k c.args.fresh.now) next ∙ take-suc c.args.fresh.now c.loop-entry.entry-index c.entry-item.result c.loop-entry-test.true ∙ ap (λ e. take c.loop-entry.entry-index c.args.fresh.now ++ e ∷ []) (sym c.entry-item.is) in
+    let M = machine_of g.P.Lat.PartialEq.eq g.P.Lat.Event.PartialEq.eq g.P.Lat.Event.Ord.cmp g.P.Lat.Lattice.least g.P.Lat.Lattice.joined g.P.Lat.Lattice.events_of g.P.Lat.Reads.answer_of (g.P.Program.functions c.args.core.now.program) in
+    record {
+      wakes = wakes_then (λ p. CanTake M c.args.core.now (Act p.task))
+          (λ p. MayWake g.P.Lat.Reads.spot_of g.P.Lat.Reads.watched (Some (Put c.args.variable)) (take (c.loop-entry.entry-index + 1) c.args.fresh.now) ((g.P.Program.functions c.args.core.now.program).request p.from))
+          (λ p. MayWake g.P.Lat.Reads.spot_of g.P.Lat.Reads.watched (Some (Put c.args.variable)) (take c.loop-entry.entry-index c.args.fresh.now) ((g.P.Program.functions c.args.core.now.program).request p.from))
+          (λ p. WaitsAt g.P.Lat.Reads.watched (c.args.variable, Some c.spot-spot.result) ((g.P.Program.functions c.args.core.now.program).request p.from))
+          c.args.self.now c.loop-entry.self c.wake_at-in-loop-entry.new.self c.args.woken.now.items c.loop-entry.woken.items c.wake_at-in-loop-entry.new.woken.items c.loop-entry.invariant.wakes c.wake_at-in-loop-entry.ensures.wakes (λ p i j one two may can.
+          let q = (g.P.Program.functions c.args.core.now.program).request p.from in
+          elim (may_more g.P.Lat.Reads.spot_of g.P.Lat.Reads.watched c.args.variable (take c.loop-entry.entry-index c.args.fresh.now) c.entry-item.result q (subst (λ es. MayWake g.P.Lat.Reads.spot_of g.P.Lat.Reads.watched (Some (Put c.args.variable)) es q) more may)) [
+            | inl old ↦ one old can
+            | inr at ↦ two (subst (λ w. WaitsAt g.P.Lat.Reads.watched (c.args.variable, Some w) q) (sym c.spot-spot.ensures) at) can
+          ]);
+      capacity = c.wake_at-in-loop-entry.ensures.capacity ∙ c.loop-entry.invariant.capacity;
+    }
+
+pub returns : goal.returns
+returns g c =
+    let all : take c.loop-entry.entry-index c.args.fresh.now ≡ c.args.fresh.now = take_all c.loop-entry.entry-index c.args.fresh.now (search rules) in
+    rw (← all) c.loop-entry.invariant.wakes

@@ -1,0 +1,17 @@
+use Rattle.std.proofs.Common.{◌≡◌, Some, take}
+use Rattle.std.specs.Prelude.{vec_capacity}
+use Rattle.lvish_calculus.specs.Program.{machine_of}
+use Rattle.lvish_calculus.specs.declared.label.Label.TheVariants.{Task as Act}
+use Rattle.lvish_core.specs.declared.touched.Touched.TheVariants.{Put}
+use Rattle.lvish_core.specs.Core.{CanTake}
+use Rattle.lvish_board.specs.Waking.{Wakes}
+use Rattle.lvish_board.specs.Woken.{MayWake}
+use Rattle.lvish_board.proofs.parked.Parked.wake_gets.Given as goal
+
+abbrev pub invariant-loop-entry : goal.invariant-loop-entry
+invariant-loop-entry g l =
+    let M = (machine_of g.P.Lat.PartialEq.eq g.P.Lat.Event.PartialEq.eq g.P.Lat.Event.Ord.cmp g.P.Lat.Lattice.least g.P.Lat.Lattice.joined g.P.Lat.Lattice.events_of g.P.Lat.Reads.answer_of (g.P.Program.functions l.core.program)) in
+    record {
+      wakes : Wakes (λ p. CanTake M l.core (Act p.task)) (λ p. MayWake g.P.Lat.Reads.spot_of g.P.Lat.Reads.watched (Some (Put l.variable)) (take l.entry-index l.fresh) ((g.P.Program.functions l.core.program).request p.from)) l.fn.self l.self l.fn.woken.items l.woken.items;
+      capacity : vec_capacity l.woken ≡ vec_capacity l.fn.woken;
+    }

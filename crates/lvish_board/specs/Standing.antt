@@ -1,0 +1,63 @@
+-- What a board stands for.
+use Rattle.std.specs.Prelude.{◌≡◌, ◌≤◌, ℕ, List, [], map, length, Option, None, Some}
+use Rattle.lvish_calculus.specs.declared.label.Label.{Label}
+use Rattle.lvish_calculus.specs.declared.label.Label.TheVariants.{Task as Act}
+use Rattle.lvish_calculus.specs.Machine.{Machine}
+use Rattle.lvish_calculus.specs.Calculus.{Name, IsEnded}
+use Rattle.lvish_calculus.specs.Handing.{IsAmong, NoRepeats}
+use Rattle.lvish_core.specs.Core.{View, IsRunTo, IsBegun, CanTake, picture, state}
+use Rattle.lvish_core.specs.Changes.{local_of}
+use Rattle.lvish_board.specs.Place.{Place}
+use Rattle.lvish_board.specs.declared.entry.Entry.{Entry}
+use Rattle.lvish_board.specs.declared.outcome.Outcome.{Outcome}
+use Rattle.lvish_board.specs.declared.outcome.Outcome.TheVariants.{Ended, Error, Budget}
+
+-- what contracts see of a board: the trace of its steps, its core, how it is over, and the tasks that are parked
+pub record Standing (P S E L : Type 0) : Type 0 where
+  pub trace : List (Entry E)
+  pub core : View P S E L
+  pub over : Option (Outcome E)
+  pub parked : List (Place E L)
+
+-- the labels of a trace
+abbrev pub labels_of : {E : Type 0} → List (Entry E) → List (Label E)
+labels_of trace = map (λ e. e.label) trace
+
+-- the tasks of places
+abbrev pub tasks_of : {E L : Type 0} → List (Place E L) → List (Name E)
+tasks_of places = map (λ p. p.task) places
+
+-- the task is at this local state
+abbrev pub IsCurrent : {P S E R A L : Type 0} → Machine S E R A L → View P S E L → Place E L → Type 0
+IsCurrent M c p = local_of ((state M c).tasks p.task) ≡ Some p.from
+
+-- the task is at this local state, and can't go on
+pub record IsBlocked {P S E R A L : Type 0} (M : Machine S E R A L) (c : View P S E L) (p : Place E L) : Type 0 where
+  pub current : IsCurrent M c p
+  pub blocked : CanTake M c (Act p.task) → ⊥
+
+-- how a board is over, if it is: at an end; with the error of its last step; or with as many steps as its budget where one more could be made
+abbrev pub OverIs : {P S E R A L : Type 0} → Machine S E R A L → ℕ → Standing P S E L → Option (Outcome E) → Type 0
+OverIs M budget s None = s.core.fault ≡ None
+OverIs M budget s (Some Ended) = IsEnded M (picture M s.core)
+OverIs M budget s (Some (Error kind v t)) = s.core.fault ≡ Some (record { kind = kind; variable = v; task = t })
+OverIs {E = E} M budget s (Some Budget) = (length s.trace ≡ budget) × ((l : Label E) × CanTake M s.core l)
+
+-- what every board keeps: its trace is a run of the program, no longer than the budget, in which handlers are handed events in the order of their introduction; its core is where this run leads;
+-- the parked tasks are blocked, and none is parked twice
+pub record IsSound {P S E R A L : Type 0} (M : Machine S E R A L) (program : P) (budget : ℕ) (s : Standing P S E L) : Type 0 where
+  pub program_is : s.core.program ≡ program
+  pub leads : IsRunTo M s.core (labels_of s.trace)
+  pub counted : s.core.steps ≡ length s.trace
+  pub within : length s.trace ≤ budget
+  pub bounded : budget ≤ 1000000
+  pub over_is : OverIs M budget s s.over
+  pub blocked : (p : Place E L) → IsAmong p s.parked → IsBlocked M s.core p
+  pub once : NoRepeats (tasks_of s.parked)
+
+-- a board before any step
+pub record IsOpened {P S E R A L : Type 0} (M : Machine S E R A L) (program : P) (s : Standing P S E L) : Type 0 where
+  pub trace : s.trace ≡ []
+  pub core : IsBegun M program s.core
+  pub over : s.over ≡ None
+  pub parked : s.parked ≡ []

@@ -1,0 +1,188 @@
+//! The work that a step leaves.
+
+ghost use Rattle.std.specs.Prelude.{◌≡◌, ◌<◌, ◌≤◌, ◌+◌, ◌++◌, [], length, vec_len, vec_capacity};
+ghost use Rattle.lvish_calculus.specs.Handing.{IsAmong, NoRepeats};
+ghost use Rattle.lvish_board.specs.Place.{Place};
+ghost use Rattle.lvish_board.specs.Standing.{tasks_of};
+ghost use Rattle.lvish_board.specs.Listed.{HasNext, stretches, acts};
+ghost use Rattle.lvish_board.specs.Left.{AddsHandings, IsLeft, IsListOf, IsLogged, candidates, fresh_in, own_ticket, made_ticket, listed};
+
+use crate::asked::Asked;
+use crate::named::Named;
+use crate::parked::Parked;
+use crate::room::Room;
+use crate::ticket::Ticket;
+use crate::work::Work;
+use lvish_calculus::{Meaning, Program};
+use lvish_core::{Core, Made, Moved, Runs, Touched};
+use lvish_lattice::Lattice;
+use lvish_names::HandlerName;
+use lvish_variable::Entry;
+
+/// What a step leaves by itself: the tickets of its tasks, and a handler that it added.
+#[derive(Drop)]
+pub(crate) struct Left<P: Program, J: Named<P>> {
+    pub own: Option<Ticket<P, J>>,
+    pub made: Option<Ticket<P, J>>,
+    pub added: Option<HandlerName<<P::Lat as Lattice>::Event>>,
+}
+
+/// What the step of a task leaves by itself.
+pub(crate) fn left_by<P: Program, J: Named<P>>(
+    asked: Asked<P, J>,
+    moved: Moved<<P::Lat as Lattice>::Event, P::Local>,
+) -> Left<P, J>
+    ensures own { result.own ≡ own_ticket asked.task moved.own }
+    ensures made { result.made ≡ made_ticket moved.made }
+    ensures added { result.added ≡ moved.added }
+{
+    let Moved { own, made, added } = moved;
+    let own = match own {
+        Some(local) => Some(Ticket::new(asked.into_task(), local)),
+        None => None,
+    };
+    Left {
+        own,
+        made: ticket_of(made),
+        added,
+    }
+}
+
+/// The ticket of a task that a step made.
+pub(crate) fn ticket_of<P: Program, J: Named<P>>(
+    made: Option<Made<<P::Lat as Lattice>::Event, P::Local>>,
+) -> Option<Ticket<P, J>>
+    ensures { result ≡ made_ticket made }
+{
+    match made {
+        Some(Made { name, local }) => Some(Ticket::new(name, local)),
+        None => None,
+    }
+}
+
+/// The entries that the last step brought, where the log of its variable had so many before it.
+fn fresh<'c, P: Program>(
+    core: &'c Core<'_, P>,
+    logged: usize,
+) -> &'c [Entry<<P::Lat as Lattice>::Event>]
+    requires { IsLogged core.now.table.variables logged core.now.touched }
+    ensures { result.now ≡ fresh_in core.now.table.variables logged core.now.touched }
+{
+    match core.last_touched() {
+        Some(Touched::Put(variable)) => &core.states()[variable].log()[logged..],
+        _ => &[],
+    }
+}
+
+/// The work that a step leaves: the tickets, the parked tasks that it woke, by name, and of the
+/// handlers that it concerned those with something left.
+///
+/// In `room` are the handlers that a put may concern; the log of its variable had so many entries
+/// before the step.
+pub(crate) fn leave<P: Program, J: Named<P>>(
+    core: &Core<'_, P>,
+    parked: &mut Parked<P, J>,
+    left: Left<P, J>,
+    room: Room<P, J>,
+    logged: usize,
+) -> Vec<Work<P, J>>
+    requires program { core.now.program ≡ J.program }
+    requires logged { IsLogged core.now.table.variables logged core.now.touched }
+    requires current { (p : Place P.Lat.Event P.Local) → IsAmong p parked.old → ⟦<P as Runs>⟧.local_in core.now p.task ≡ Some p.from }
+    requires empty { (room.list.items ≡ []) × (room.woken.items ≡ []) }
+    requires list_room { 2 + length parked.old + (length room.hands.items + length (listed left.added)) ≤ vec_capacity room.list }
+    requires woken_room { length parked.old ≤ vec_capacity room.woken }
+    requires hands_room { length room.hands.items + length (listed left.added) ≤ vec_capacity room.hands }
+    ensures left { IsLeft P.Lat.Event.cmp (⟦<P as Meaning>⟧.machine core.now.program) P.Lat.spot_of P.Lat.watched core.now logged left.own left.made left.added room.hands.items parked.old parked.new result.items }
+    ensures once { NoRepeats (tasks_of parked.old) → NoRepeats (tasks_of parked.new) }
+{
+    let Room {
+        list,
+        mut woken,
+        mut hands,
+    } = room;
+    let entries = fresh(core, logged);
+    parked.wake(core, entries, &mut woken);
+    let Left { own, made, added } = left;
+    keep_candidates(entries, &mut hands, added);
+    list_work(core, list, own, made, woken, hands)
+}
+
+/// Leaves the handlers that a step may concern: none of a put's where it brought no entry, and an
+/// added one.
+fn keep_candidates<E: Drop>(
+    entries: &[Entry<E>],
+    hands: &mut Vec<HandlerName<E>>,
+    added: Option<HandlerName<E>>,
+)
+    requires room { length hands.old.items + length (listed added) ≤ vec_capacity hands.old }
+    ensures are { hands.new.items ≡ candidates entries.now hands.old.items added }
+    ensures few { vec_len hands.new ≤ length hands.old.items + length (listed added) }
+{
+    if entries.is_empty() {
+        hands.clear();
+    }
+    if let Some(name) = added {
+        hands.push_reserved(name);
+    }
+}
+
+/// The list of this work.
+fn list_work<P: Program, J: Named<P>>(
+    core: &Core<'_, P>,
+    mut list: Vec<Work<P, J>>,
+    own: Option<Ticket<P, J>>,
+    made: Option<Ticket<P, J>>,
+    woken: Vec<Asked<P, J>>,
+    hands: Vec<HandlerName<<P::Lat as Lattice>::Event>>,
+) -> Vec<Work<P, J>>
+    requires empty { list.items ≡ [] }
+    requires room { 2 + vec_len woken + vec_len hands ≤ vec_capacity list }
+    ensures { IsListOf (⟦<P as Meaning>⟧.machine core.now.program) core.now own made woken.items hands.items result.items }
+{
+    list_ticket(&mut list, own);
+    list_ticket(&mut list, made);
+    list_acts(&mut list, woken);
+    list_hands(core, &mut list, hands);
+    list
+}
+
+/// Lists the ticket, if there is one.
+fn list_ticket<P: Program, J: Named<P>>(list: &mut Vec<Work<P, J>>, ticket: Option<Ticket<P, J>>)
+    requires room { vec_len list.old < vec_capacity list.old }
+    ensures items { list.new.items ≡ list.old.items ++ stretches (listed ticket) }
+    ensures capacity { vec_capacity list.new ≡ vec_capacity list.old }
+    ensures len { vec_len list.new ≤ vec_len list.old + 1 }
+{
+    if let Some(ticket) = ticket {
+        list.push_reserved(Work::Stretch(ticket));
+    }
+}
+
+/// Lists what the woken tasks ask for.
+fn list_acts<P: Program, J: Named<P>>(list: &mut Vec<Work<P, J>>, woken: Vec<Asked<P, J>>)
+    requires room { vec_len list.old + vec_len woken ≤ vec_capacity list.old }
+    ensures items { list.new.items ≡ list.old.items ++ acts woken.items }
+    ensures capacity { vec_capacity list.new ≡ vec_capacity list.old }
+    ensures len { vec_len list.new ≡ vec_len list.old + vec_len woken }
+{
+    for asked in woken {
+        list.push_reserved(Work::Act(asked));
+    }
+}
+
+/// Lists those of the handlers with something left for them.
+fn list_hands<P: Program, J: Named<P>>(
+    core: &Core<'_, P>,
+    list: &mut Vec<Work<P, J>>,
+    hands: Vec<HandlerName<<P::Lat as Lattice>::Event>>,
+)
+    requires room { vec_len list.old + vec_len hands ≤ vec_capacity list.old }
+    ensures { AddsHandings (λ h. HasNext (⟦<P as Meaning>⟧.machine core.now.program) core.now h) hands.items list.old.items list.new.items }
+{
+    for handler in hands {
+        if core.next(&handler).is_some() {
+            list.push_reserved(Work::Hand(handler));
+        }
+    }
+}

@@ -1,0 +1,206 @@
+//! The tasks that wait.
+
+ghost use Rattle.std.specs.Prelude.{◌≡◌, ◌+◌, ◌≤◌, ◌⊎◌, [], None, Some, Option, IfOk, IfErr, OnOk, length, vec_len, vec_capacity};
+ghost use Rattle.std.specs.List.Sorted.{IsPermutation, IsSortedBy, IsStrictlySortedBy};
+ghost use Rattle.std.specs.Ordering.{is_lt};
+ghost use Rattle.lvish_names.specs.NameOrder.{name_cmp};
+ghost use Rattle.lvish_calculus.specs.declared.label.Label.TheVariants.{Task};
+ghost use Rattle.lvish_calculus.specs.Handing.{IsAmong, NoRepeats};
+ghost use Rattle.lvish_board.specs.Place.{Place};
+ghost use Rattle.lvish_board.specs.Standing.{tasks_of};
+ghost use Rattle.lvish_board.specs.Waking.{Wakes};
+ghost use Rattle.lvish_board.specs.Shelved.{WaitsAt};
+ghost use Rattle.lvish_core.specs.declared.touched.Touched.TheVariants.{Put, Handed};
+ghost use Rattle.lvish_board.specs.Woken.{IsWaiting, IsParkedBeside, IsWoken, MayWake};
+
+use crate::asked::Asked;
+use crate::by_name::ByName;
+use crate::named::Named;
+use crate::shelves::Shelves;
+use lvish_calculus::{Program, Request};
+use lvish_core::{Core, Runs, Touched};
+use lvish_lattice::{Lattice, Reads};
+use lvish_names::TaskName;
+use lvish_variable::Entry;
+use std::alloc::Global;
+use std::cmp::Ordering;
+use std::marker::Model;
+
+/// The tasks that wait, each once, and on one list each.
+#[derive(Drop)]
+pub(crate) struct Parked<P: Program, J: Named<P>> {
+    tasks: ByName<P, J>,
+    /// By the variable and the spot at which they wait.
+    gets: Shelves<(usize, Option<<P::Lat as Reads>::Spot>), TaskName<<P::Lat as Lattice>::Event>>,
+    /// By the variable.
+    freezes: Shelves<usize, TaskName<<P::Lat as Lattice>::Event>>,
+}
+
+impl<P: Program, J: Named<P>> Model for Parked<P, J> {
+    ghost use Rattle.std.specs.Prelude.{List};
+    ghost use Rattle.lvish_calculus.specs.Handing.{IsAmong};
+    ghost use Rattle.lvish_board.specs.Place.{Place};
+    ghost use Rattle.lvish_board.specs.Shelved.{IsOnItsList};
+
+    ghost Value = { List (Place P.Lat.Event P.Local) };
+
+    ghost view = { λ p. p.tasks };
+
+    ghost invariant = { λ p. (q : Place P.Lat.Event P.Local) → IsAmong q p.tasks → IsOnItsList P.Lat.Spot.cmp P.Lat.watched p.gets.lists p.freezes.lists ((P.functions J.program).request q.from) q.task };
+}
+
+impl<P: Program, J: Named<P>> Parked<P, J> {
+    /// No task.
+    pub(crate) fn new(alloc: Global) -> Parked<P, J>
+        ensures { result ≡ [] }
+    {
+        Parked {
+            tasks: ByName::new(alloc),
+            gets: Shelves::new(alloc),
+            freezes: Shelves::new(alloc),
+        }
+    }
+
+    /// How many tasks wait.
+    pub(crate) fn len(&self) -> usize
+        ensures { result ≡ length self.now }
+    {
+        self.tasks.len()
+    }
+
+    /// Keeps a task that waits, in place of any at its name.
+    ///
+    /// # Errors
+    ///
+    /// Where there is no room for it, what was to be kept; nothing has changed.
+    pub(crate) fn park(&mut self, alloc: Global, asked: Asked<P, J>) -> Result<(), Asked<P, J>>
+        requires waiting { IsWaiting ((P.functions J.program).request asked.from) }
+        requires same { (q : Place P.Lat.Event P.Local) → IsAmong q self.old → q.task ≡ asked.task → q ≡ asked }
+        ensures ok { IfOk result (λ _. IsParkedBeside self.old asked self.new) }
+        ensures once { NoRepeats (tasks_of self.old) → NoRepeats (tasks_of self.new) }
+        ensures err { IfErr result (λ a. (a ≡ asked) × (self.new ≡ self.old)) }
+    {
+        self.tasks.each_waits_once();
+        if self.tasks.has(asked.task()) {
+            return Ok(());
+        }
+        let Ok(name) = asked.task().copy(alloc) else {
+            return Err(asked);
+        };
+        match &asked.asks().request {
+            Request::Get(variable, read) => {
+                let key = (*variable, <P::Lat as Reads>::watch(read));
+                if self.gets.reserve(alloc, key).is_err() {
+                    return Err(asked);
+                }
+                self.tasks.insert(alloc, asked)?;
+                self.gets.push_reserved(&key, name);
+            }
+            Request::Freeze(variable, _) => {
+                let key = *variable;
+                if self.freezes.reserve(alloc, key).is_err() {
+                    return Err(asked);
+                }
+                self.tasks.insert(alloc, asked)?;
+                self.freezes.push_reserved(&key, name);
+            }
+            _ => {}
+        }
+        Ok(())
+    }
+
+    /// Gives away the tasks that the last step woke, in the order of their names: these entries are
+    /// what it brought to the log of its variable.
+    pub(crate) fn wake(
+        &mut self,
+        core: &Core<'_, P>,
+        fresh: &[Entry<<P::Lat as Lattice>::Event>],
+        woken: &mut Vec<Asked<P, J>>,
+    )
+        requires program { core.now.program ≡ J.program }
+        requires current { (p : Place P.Lat.Event P.Local) → IsAmong p self.old → ⟦<P as Runs>⟧.local_in core.now p.task ≡ Some p.from }
+        requires empty { woken.old.items ≡ [] }
+        requires room { length self.old ≤ vec_capacity woken.old }
+        ensures woken { IsWoken (λ p. ⟦<P as Runs>⟧.can_take core.now (Task p.task)) (λ p. MayWake P.Lat.spot_of P.Lat.watched core.now.touched fresh.now ((P.functions core.now.program).request p.from)) self.old self.new woken.new.items }
+        ensures by_name { IsStrictlySortedBy (name_cmp P.Lat.Event.cmp) (tasks_of woken.new.items) }
+        ensures once { NoRepeats (tasks_of self.old) → NoRepeats (tasks_of self.new) }
+        ensures few { vec_len woken.new ≤ length self.old }
+    {
+        self.tasks.each_waits_once();
+        match core.last_touched() {
+            Some(Touched::Put(variable)) => self.wake_gets(core, variable, fresh, woken),
+            Some(Touched::Handed(variable)) => self.wake_freezes(core, variable, woken),
+            Some(Touched::Ended(variable)) => self.wake_freezes(core, variable, woken),
+            Some(Touched::Other) => {}
+            None => {}
+        }
+        sort_by_task(woken);
+    }
+
+    /// Gives away the gets that these entries of the variable's log woke.
+    fn wake_gets(
+        &mut self,
+        core: &Core<'_, P>,
+        variable: usize,
+        fresh: &[Entry<<P::Lat as Lattice>::Event>],
+        woken: &mut Vec<Asked<P, J>>,
+    )
+        requires program { core.now.program ≡ J.program }
+        requires current { (p : Place P.Lat.Event P.Local) → IsAmong p self.old → ⟦<P as Runs>⟧.local_in core.now p.task ≡ Some p.from }
+        requires room { vec_len woken.old + length self.old ≤ vec_capacity woken.old }
+        ensures { Wakes (λ p. ⟦<P as Runs>⟧.can_take core.now (Task p.task)) (λ p. MayWake P.Lat.spot_of P.Lat.watched (Some (Put variable)) fresh.now ((P.functions core.now.program).request p.from)) self.old self.new woken.old.items woken.new.items }
+    {
+        self.wake_at(core, (variable, None), woken);
+        for entry in fresh {
+            let spot = <P::Lat as Reads>::spot(&entry.event);
+            self.wake_at(core, (variable, Some(spot)), woken);
+        }
+    }
+
+    /// Gives away the gets that wait here and can go on.
+    fn wake_at(
+        &mut self,
+        core: &Core<'_, P>,
+        key: (usize, Option<<P::Lat as Reads>::Spot>),
+        woken: &mut Vec<Asked<P, J>>,
+    )
+        requires program { core.now.program ≡ J.program }
+        requires current { (p : Place P.Lat.Event P.Local) → IsAmong p self.old → ⟦<P as Runs>⟧.local_in core.now p.task ≡ Some p.from }
+        requires room { vec_len woken.old + length self.old ≤ vec_capacity woken.old }
+        ensures wakes { Wakes (λ p. ⟦<P as Runs>⟧.can_take core.now (Task p.task)) (λ p. WaitsAt P.Lat.watched key ((P.functions core.now.program).request p.from)) self.old self.new woken.old.items woken.new.items }
+        ensures capacity { vec_capacity woken.new ≡ vec_capacity woken.old }
+    {
+        if let Some(names) = self.gets.lists.get_mut(&key) {
+            self.tasks.wake_each(core, names, woken);
+        }
+    }
+
+    /// Gives away the freezes of the variable that can go on.
+    fn wake_freezes(&mut self, core: &Core<'_, P>, variable: usize, woken: &mut Vec<Asked<P, J>>)
+        requires program { core.now.program ≡ J.program }
+        requires current { (p : Place P.Lat.Event P.Local) → IsAmong p self.old → ⟦<P as Runs>⟧.local_in core.now p.task ≡ Some p.from }
+        requires room { vec_len woken.old + length self.old ≤ vec_capacity woken.old }
+        ensures { Wakes (λ p. ⟦<P as Runs>⟧.can_take core.now (Task p.task)) (λ p. MayWake P.Lat.spot_of P.Lat.watched (Some (Handed variable)) [] ((P.functions core.now.program).request p.from)) self.old self.new woken.old.items woken.new.items }
+    {
+        if let Some(names) = self.freezes.lists.get_mut(&variable) {
+            self.tasks.wake_each(core, names, woken);
+        }
+    }
+}
+
+/// Orders these tasks by their names.
+fn sort_by_task<P: Program, J: Named<P>>(woken: &mut Vec<Asked<P, J>>)
+    ensures permutation { IsPermutation woken.old.items woken.new.items }
+    ensures sorted { IsSortedBy (λ x y. is_lt (name_cmp P.Lat.Event.cmp x.task y.task)) woken.new.items }
+    ensures len { vec_len woken.new ≡ vec_len woken.old }
+    ensures capacity { vec_capacity woken.new ≡ vec_capacity woken.old }
+{
+    woken.sort_unstable_by(order);
+}
+
+/// The order of the names of two tasks.
+fn order<P: Program, J: Named<P>>(one: &Asked<P, J>, other: &Asked<P, J>) -> Ordering
+    ensures { result ≡ name_cmp P.Lat.Event.cmp one.now.task other.now.task }
+{
+    one.task().cmp(other.task())
+}

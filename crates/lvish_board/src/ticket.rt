@@ -1,0 +1,68 @@
+ghost use Rattle.std.specs.Prelude.{◌≡◌, IfOk};
+
+use crate::named::Named;
+use lvish_calculus::Program;
+use lvish_lattice::Lattice;
+use lvish_names::TaskName;
+use std::alloc::{AllocError, Global};
+use std::marker::{Model, PhantomData};
+
+/// A task at a local state.
+#[derive(Drop)]
+pub struct Ticket<P: Program, J: Named<P>> {
+    pub(crate) task: TaskName<<P::Lat as Lattice>::Event>,
+    pub(crate) from: P::Local,
+    of: PhantomData<J>,
+}
+
+impl<P: Program, J: Named<P>> Model for Ticket<P, J> {
+    ghost use Rattle.lvish_board.specs.Place.{Place};
+
+    ghost Value = { Place P.Lat.Event P.Local };
+
+    ghost view = { λ t. record { task = t.task; from = t.from } };
+}
+
+impl<P: Program, J: Named<P>> Ticket<P, J> {
+    pub(crate) fn new(task: TaskName<<P::Lat as Lattice>::Event>, from: P::Local) -> Ticket<P, J>
+        ensures { result ≡ record { task = task; from = from } }
+    {
+        Ticket {
+            task,
+            from,
+            of: PhantomData,
+        }
+    }
+
+    /// The task's name.
+    pub fn task(&self) -> &TaskName<<P::Lat as Lattice>::Event>
+        ensures { result.now ≡ self.now.task }
+    {
+        &self.task
+    }
+
+    /// An equal ticket.
+    ///
+    /// # Errors
+    ///
+    /// Where there is no room for it.
+    pub fn copy(&self, alloc: Global, program: &P) -> Result<Ticket<P, J>, AllocError>
+        ensures { IfOk result (λ t. t ≡ self.now) }
+    {
+        let task = self.task.copy(alloc)?;
+        let from = program.copy_local(alloc, &self.from)?;
+        Ok(Ticket::new(task, from))
+    }
+
+    /// The task's name, let go of the local state.
+    pub(crate) fn into_task(self) -> TaskName<<P::Lat as Lattice>::Event>
+        ensures { result ≡ self.task }
+    {
+        let Ticket {
+            task,
+            from: _,
+            of: _,
+        } = self;
+        task
+    }
+}
