@@ -323,7 +323,7 @@ module _ {P S E R A L : Type 0} (cmp : E → E → Ordering) (M : Machine S E R 
 
         quietly : change.0.joined ≡ None → handlers ≡ []
             → ((h : Handler E) → IsAmong h (candidates (fresh_in d.table.variables logged d.touched) handlers added) ↔ Concerns M c (Act t) h) × IsStrictlySortedBy (handler_cmp cmp) (candidates (fresh_in d.table.variables logged d.touched) handlers added)
-        quietly j none =
+        quietly j empty =
             let only : listed added ≡ candidates (fresh_in d.table.variables logged d.touched) handlers added = sym (ap (λ es. candidates es handlers added) (quiet j).0) in
             subst (λ hs. ((h : Handler E) → IsAmong h hs ↔ Concerns M c (Act t) h) × IsStrictlySortedBy (handler_cmp cmp) hs) only (λ h. quiet_concerns j added same h, listed_sorted added)
 
