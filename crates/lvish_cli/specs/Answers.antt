@@ -1,5 +1,5 @@
 -- What the program answers to an order and the bytes of a script, and with which status.
-use Rattle.std.specs.Prelude.{◌≡◌, ◌≢◌, ◌⊎◌, ℕ, Bool, List, [], ◌++◌, Option, Some, None, codes, slice_get, unwrap_or, option_map, length}
+use Rattle.std.specs.Prelude.{◌≡◌, ◌≢◌, ◌≤◌, ◌⊎◌, ℕ, Bool, List, ◌++◌, Option, Some, None, codes, slice_get, unwrap_or, option_map, length}
 use Rattle.lvish_names.specs.Names.{Name}
 use Rattle.lvish_names.specs.NameText.{name_text}
 use Rattle.lvish_syntax.specs.Words.{Word}
@@ -10,9 +10,11 @@ use Rattle.lvish_syntax.specs.declared.declaration.Declaration.{Declaration}
 use Rattle.lvish_syntax.specs.declared.script.Script.{Script}
 use Rattle.lvish_checks.specs.declared.script_fault.ScriptFault.{ScriptFault}
 use Rattle.lvish_checks.specs.declared.fault.Fault.TheVariants as fault
+use Rattle.lvish_run.specs.declared.fault.RunFault.{RunFault}
+use Rattle.lvish_run.specs.declared.fault.RunFault.TheVariants as run
 use Rattle.lvish_run.specs.declared.report.Report.{Report}
-use Rattle.lvish_run.specs.declared.outcome.Outcome.{Outcome}
-use Rattle.lvish_run.specs.declared.outcome.Outcome.TheVariants as outcome
+use Rattle.lvish_board.specs.declared.outcome.Outcome.{Outcome}
+use Rattle.lvish_board.specs.declared.outcome.Outcome.TheVariants as outcome
 use Rattle.lvish_run.specs.Honest.{labels_of}
 use Rattle.lvish_run.specs.Text.{HasText, variables_of, report_lines}
 use Rattle.lvish_run.specs.TraceText.{trace_lines}
@@ -65,30 +67,34 @@ IsReportAnswer variables budget all report Unwritten text = ⊥
 abbrev pub HasStates : List Declaration → Report Value Event → Type 0
 HasStates declarations report = HasText report.outcome → length report.states ≡ length (variables_of declarations)
 
--- an honest report of a script's run by picks, within a budget
+-- an honest report of a script's run by so many workers, within a budget
 abbrev pub Runs : Type 1
-Runs = Script → List ℕ → ℕ → Report Value Event → Type 0
+Runs = Script → ℕ → ℕ → Report Value Event → Type 0
+
+-- an honest report of a script's run by picks, within a budget
+abbrev pub PickedRuns : Type 1
+PickedRuns = Script → List ℕ → ℕ → Report Value Event → Type 0
 
 -- the answer to a script that is checked
 abbrev pub IsCheckAnswer : Status → List ℕ → Type 0
 IsCheckAnswer status text = (status ≡ Done) × (text ≡ ok_text)
 
--- the answer to a script that is run
-abbrev pub IsRunAnswer : Runs → Script → ℕ → Bool → Status → List ℕ → Type 0
-IsRunAnswer is_run script budget all status text =
-    (report : Report Value Event) × is_run script [] budget report × IsReportAnswer (variables_of script.declarations) budget all report status text
+-- the answer to a script that so many workers run
+abbrev pub IsRunAnswer : Runs → Script → (workers budget : ℕ) → Bool → Status → List ℕ → Type 0
+IsRunAnswer is_run script workers budget all status text =
+    (report : Report Value Event) × is_run script workers budget report × IsReportAnswer (variables_of script.declarations) budget all report status text
 
 -- the answer to a script that is run by picks: the trace comes before the text of the report
-abbrev pub IsPickAnswer : Runs → Script → List ℕ → ℕ → Bool → Status → List ℕ → Type 0
-IsPickAnswer is_run script picks budget all status text =
-    (report : Report Value Event) × is_run script picks budget report
+abbrev pub IsPickAnswer : PickedRuns → Script → List ℕ → ℕ → Bool → Status → List ℕ → Type 0
+IsPickAnswer is_picked_run script picks budget all status text =
+    (report : Report Value Event) × is_picked_run script picks budget report
     × ((rest : List ℕ) × IsReportAnswer (variables_of script.declarations) budget all report status rest × (text ≡ trace_text report ++ rest))
 
 -- the answer to an order about a script
-abbrev pub IsScriptAnswer : Runs → Script → Order → Status → List ℕ → Type 0
-IsScriptAnswer is_run script Check status text = IsCheckAnswer status text
-IsScriptAnswer is_run script (Run workers budget all) status text = IsRunAnswer is_run script budget all status text
-IsScriptAnswer is_run script (Pick picks budget all) status text = IsPickAnswer is_run script picks budget all status text
+abbrev pub IsScriptAnswer : Runs → PickedRuns → Script → Order → Status → List ℕ → Type 0
+IsScriptAnswer is_run is_picked_run script Check status text = IsCheckAnswer status text
+IsScriptAnswer is_run is_picked_run script (Run workers budget all) status text = IsRunAnswer is_run script workers budget all status text
+IsScriptAnswer is_run is_picked_run script (Pick picks budget all) status text = IsPickAnswer is_picked_run script picks budget all status text
 
 -- the answer to a text that is no script
 abbrev pub IsRefusalAnswer : ScriptFault → Status → List ℕ → Type 0
@@ -96,7 +102,24 @@ IsRefusalAnswer e status text =
     (e.fault ≢ fault.Memory) × (status ≡ Refused) × (text ≡ refusal_text (fault_number e.fault) (fault_name e.fault) e.line)
 
 -- the answer to an order about the bytes of a script: about the script that they spell, or their first fault
-abbrev pub IsAnswer : Runs → Order → List ℕ → Status → List ℕ → Type 0
-IsAnswer is_run order input status text =
-    ((script : Script) × Spells input script × IsScriptAnswer is_run script order status text)
+abbrev pub IsAnswer : Runs → PickedRuns → Order → List ℕ → Status → List ℕ → Type 0
+IsAnswer is_run is_picked_run order input status text =
+    ((script : Script) × Spells input script × IsScriptAnswer is_run is_picked_run script order status text)
     ⊎ ((e : ScriptFault) × IsRefused input e × IsRefusalAnswer e status text)
+
+-- the order asks for a run by at least so many workers
+abbrev pub AsksWorkers : ℕ → Order → Type 0
+AsksWorkers least Check = ⊥
+AsksWorkers least (Run workers budget all) = least ≤ workers
+AsksWorkers least (Pick picks budget all) = ⊥
+
+-- a fault that an order about a script can meet: a thread can be missing where there are two workers, and nothing stops them
+abbrev pub CanMeet : Order → RunFault → Type 0
+CanMeet order run.NoThread = AsksWorkers 2 order
+CanMeet order run.Memory = Unit {0}
+CanMeet order run.Stopped = ⊥
+CanMeet order run.Mixed = AsksWorkers 1 order
+
+-- why there is no answer to an order about bytes: for want of memory, or since they spell a script whose run met this fault
+abbrev pub IsUnanswered : Order → List ℕ → RunFault → Type 0
+IsUnanswered order input fault = (fault ≡ run.Memory) ⊎ ((script : Script) × Spells input script × CanMeet order fault)

@@ -1,5 +1,7 @@
 -- The statuses with which the program ends, and what it says on standard error.
 use Rattle.std.specs.Prelude.{ℕ, List, Option, None, Some, codes, string_bytes}
+use Rattle.lvish_run.specs.declared.fault.RunFault.{RunFault}
+use Rattle.lvish_run.specs.declared.fault.RunFault.TheVariants as run
 use Rattle.lvish_cli.specs.Lines.{line_of}
 use Rattle.lvish_cli.specs.declared.status.Status.{Status}
 use Rattle.lvish_cli.specs.declared.status.Status.TheVariants.{Done, Blocked, Usage, Unreadable, Refused, Error, Budget, Memory, NoThread, Stopped, Mixed, Unwritten}
@@ -33,3 +35,10 @@ status_message NoThread = Some (line_of (codes "nothread"))
 status_message Stopped = Some (line_of (codes "stopped"))
 status_message Mixed = Some (line_of (codes "mixed"))
 status_message Unwritten = None
+
+-- how the program ends where a run by workers gave no report
+abbrev pub fault_status : RunFault → Status
+fault_status run.NoThread = NoThread
+fault_status run.Memory = Memory
+fault_status run.Stopped = Stopped
+fault_status run.Mixed = Mixed

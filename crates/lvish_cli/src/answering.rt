@@ -1,15 +1,17 @@
-ghost use Rattle.std.specs.Prelude.{◌≤◌, ◌≡◌, IfOk, string_bytes};
+ghost use Rattle.std.specs.Prelude.{◌≤◌, ◌≡◌, IfErr, IfOk, string_bytes};
 ghost use Rattle.lvish_cli.specs.Orders.{IsWithin};
-ghost use Rattle.lvish_cli.specs.Answers.{IsAnswer, IsScriptAnswer, IsCheckAnswer, IsRefusalAnswer};
+ghost use Rattle.lvish_cli.specs.Answers.{IsAnswer, IsUnanswered, CanMeet, IsScriptAnswer, IsCheckAnswer, IsRefusalAnswer};
 
 use crate::lines::{ok_line, refusal_line};
 use crate::order::Order;
 use crate::running::{pick_answer, run_answer};
 use crate::status::Status;
-use lvish_run::Runs;
+use lvish_run::{RunFault, Runs};
 use lvish_script::{Fault, ScriptFault, read_script};
 use lvish_syntax::Script;
 use std::alloc::{AllocError, Global};
+use std::sync::Wait;
+use std::thread::Threads;
 
 /// What goes to standard output, and the status that goes with it.
 #[derive(Debug, Drop)]
@@ -19,28 +21,48 @@ pub struct Answer {
 }
 
 /// The answer to an order about the script that the input spells.
-pub fn answer_to(alloc: Global, order: &Order, input: &[u8]) -> Result<Answer, AllocError>
+///
+/// # Errors
+///
+/// `Memory` where a growth was refused; of a run by workers the fault that left no report.
+pub fn answer_to<R: Threads + Wait + Sync>(
+    rt: &R,
+    alloc: Global,
+    order: &Order,
+    input: &[u8],
+) -> Result<Answer, RunFault>
     requires { IsWithin order.now }
-    ensures { IfOk result (λ answer.
-        IsAnswer ⟦<Script as Runs>⟧.is_picked_run order.now input.now answer.status (string_bytes answer.text)) }
+    ensures ok { IfOk result (λ answer.
+        IsAnswer ⟦<Script as Runs>⟧.is_run ⟦<Script as Runs>⟧.is_picked_run order.now input.now answer.status (string_bytes answer.text)) }
+    ensures err { IfErr result (λ fault. IsUnanswered order.now input.now fault) }
 {
     match read_script(alloc, input) {
-        Ok(script) => script_answer(alloc, order, &script),
-        Err(fault) => refusal_answer(alloc, fault),
+        Ok(script) => script_answer(rt, alloc, order, &script),
+        Err(fault) => Ok(refusal_answer(alloc, fault)?),
     }
 }
 
 /// The answer to an order about a script.
-fn script_answer(alloc: Global, order: &Order, script: &Script) -> Result<Answer, AllocError>
+fn script_answer<R: Threads + Wait + Sync>(
+    rt: &R,
+    alloc: Global,
+    order: &Order,
+    script: &Script,
+) -> Result<Answer, RunFault>
     requires { IsWithin order.now }
-    ensures { IfOk result (λ answer.
-        IsScriptAnswer ⟦<Script as Runs>⟧.is_picked_run script.now order.now answer.status (string_bytes answer.text)) }
+    ensures ok { IfOk result (λ answer.
+        IsScriptAnswer ⟦<Script as Runs>⟧.is_run ⟦<Script as Runs>⟧.is_picked_run script.now order.now answer.status (string_bytes answer.text)) }
+    ensures err { IfErr result (λ fault. CanMeet order.now fault) }
 {
     match order {
-        Order::Check => check_answer(alloc),
-        Order::Run { budget, all, .. } => run_answer(alloc, script, *budget, *all),
+        Order::Check => Ok(check_answer(alloc)?),
+        Order::Run {
+            workers,
+            budget,
+            all,
+        } => run_answer(rt, alloc, script, *workers, *budget, *all),
         Order::Pick { picks, budget, all } => {
-            pick_answer(alloc, script, picks.as_slice(), *budget, *all)
+            Ok(pick_answer(alloc, script, picks.as_slice(), *budget, *all)?)
         }
     }
 }

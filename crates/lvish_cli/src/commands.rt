@@ -43,7 +43,7 @@ Statuses:
   5  the run is in error: a line says which error, on which variable, in which task
   6  the run was stopped by its budget
   7  memory was refused
-  8  another fault, as a full disk at standard output";
+  8  another fault: a thread can't be started, or standard output is full";
 
 /// The words of a check.
 fn check<'a>(alloc: Global) -> Result<Command<'a>, AllocError> {

@@ -11,19 +11,22 @@ use lvish_run::Runs;
 use lvish_syntax::Script;
 use std::alloc::Global;
 use std::io::{Read, Write};
+use std::sync::Wait;
+use std::thread::Threads;
 
 /// Reads a script, does what the order asks, and writes the answer and nothing else.
 /// At most `MOST_READ` bytes are read; nothing is written where the script can't be read,
-/// or for want of memory.
-pub fn perform<R: Read, W: Write>(
+/// for want of memory, or where the workers gave no report.
+pub fn perform<T: Threads + Wait + Sync, R: Read, W: Write>(
+    rt: &T,
     alloc: Global,
     order: &Order,
     reader: &mut R,
     writer: &mut W,
 ) -> Status
     requires { IsWithin order.now }
-    ensures performs { Performs ⟦<Script as Runs>⟧.is_picked_run order.now (R.remaining reader.old)
-        (W.contents writer.old) (W.contents writer.new) result }
+    ensures performs { Performs ⟦<Script as Runs>⟧.is_run ⟦<Script as Runs>⟧.is_picked_run order.now
+        (R.remaining reader.old) (W.contents writer.old) (W.contents writer.new) result }
     ensures reads { GivesUpTo MOST_READ (R.remaining reader.old) (R.remaining reader.new) }
 {
     let input = match read_text(alloc, reader) {
@@ -31,8 +34,9 @@ pub fn perform<R: Read, W: Write>(
         Err(ReadFault::Unreadable) => return Status::Unreadable,
         Err(ReadFault::Memory) => return Status::Memory,
     };
-    let Ok(answer) = answer_to(alloc, order, input.as_slice()) else {
-        return Status::Memory;
+    let answer = match answer_to(rt, alloc, order, input.as_slice()) {
+        Ok(answer) => answer,
+        Err(fault) => return Status::from(fault),
     };
     match write_text(writer, answer.text.as_bytes()) {
         Ok(()) => answer.status,

@@ -10,18 +10,23 @@ use crate::writing::write_text;
 use std::convert::AsStr;
 use std::io::{ErrorKind, Write};
 use std::rt::Files;
+use std::sync::Wait;
+use std::thread::Threads;
 use std::{fs, io};
 
 /// Does what the words ask, from the file that they name, or from standard input, to standard output.
 /// Nothing goes to standard error: that is the status's message.
-pub fn command<R: AllocGlobal + Files + Input + Print, S: AsStr>(rt: &R, words: &[S]) -> Status
+pub fn command<R: AllocGlobal + Files + Input + Print + Threads + Wait + Sync, S: AsStr>(
+    rt: &R,
+    words: &[S],
+) -> Status
     // Having no words is no misuse.
     ensures { words.now ≡ [] → status_number result ≢ 2 }
 {
     let mut output = io::writer(rt);
     match order_of(rt.alloc(), words) {
         Ok((order, path)) if path.is_empty() => {
-            perform(rt.alloc(), &order, &mut rt.reader(), &mut output)
+            perform(rt, rt.alloc(), &order, &mut rt.reader(), &mut output)
         }
         Ok((order, path)) => perform_file(rt, &order, path.as_str(), &mut output),
         Err(UsageFault::Help(text)) => match write_text(&mut output, text.as_bytes()) {
@@ -34,7 +39,7 @@ pub fn command<R: AllocGlobal + Files + Input + Print, S: AsStr>(rt: &R, words: 
 }
 
 /// Does what the order asks of the file at the path.
-fn perform_file<R: AllocGlobal + Files, W: Write>(
+fn perform_file<R: AllocGlobal + Files + Threads + Wait + Sync, W: Write>(
     rt: &R,
     order: &Order,
     path: &str,
@@ -44,7 +49,7 @@ fn perform_file<R: AllocGlobal + Files, W: Write>(
     ensures { status_number result ≢ 2 }
 {
     match fs::open(rt, path) {
-        Ok(mut file) => perform(rt.alloc(), order, &mut file, output),
+        Ok(mut file) => perform(rt, rt.alloc(), order, &mut file, output),
         Err(error) if error.kind() == ErrorKind::OutOfMemory => Status::Memory,
         Err(_) => Status::Unreadable,
     }

@@ -1,4 +1,4 @@
-ghost use Rattle.std.specs.Prelude.{◌≤◌, ◌≡◌, Some, IfOk, string_bytes};
+ghost use Rattle.std.specs.Prelude.{◌<◌, ◌≤◌, ◌≡◌, ◌≢◌, Some, Err, IfOk, string_bytes};
 ghost use Rattle.lvish_run.specs.Text.{variables_of};
 ghost use Rattle.lvish_cli.specs.Faults.{kind_name};
 ghost use Rattle.lvish_cli.specs.Lines.{error_text};
@@ -11,23 +11,31 @@ use crate::status::Status;
 use crate::values::{Event, Value};
 use lvish_calculus::ErrorKind;
 use lvish_names::TaskName;
-use lvish_run::{Outcome, Report, Runs, report_text, run_picks, trace_text};
+use lvish_run::{Open, Outcome, Report, RunFault, Runs, report_text, run, run_picks, trace_text};
 use lvish_syntax::{Declaration, Script};
 use std::alloc::{AllocError, Global};
+use std::sync::Wait;
+use std::thread::Threads;
 
-/// The answer to a script that is run.
-pub fn run_answer(
+/// The answer to a script that so many workers run.
+pub fn run_answer<R: Threads + Wait + Sync>(
+    rt: &R,
     alloc: Global,
     script: &Script,
+    workers: usize,
     budget: u64,
     all: bool,
-) -> Result<Answer, AllocError>
-    requires { budget ≤ 1000000 }
-    ensures { IfOk result (λ answer.
-        IsRunAnswer ⟦<Script as Runs>⟧.is_picked_run script.now budget all answer.status (string_bytes answer.text)) }
+) -> Result<Answer, RunFault>
+    requires some { 0 < workers }
+    requires few { workers ≤ 8 }
+    requires bounded { budget ≤ 1000000 }
+    ensures ok { IfOk result (λ answer.
+        IsRunAnswer ⟦<Script as Runs>⟧.is_run script.now workers budget all answer.status (string_bytes answer.text)) }
+    ensures patient { result ≢ Err RunFault.Stopped }
+    ensures alone { workers ≡ 1 → result ≢ Err RunFault.NoThread }
 {
-    let report = run_picks(alloc, script, &[], budget)?;
-    report_answer(alloc, script, &report, budget, all)
+    let report = run(rt, alloc, script, workers, budget, &Open)?;
+    Ok(report_answer(alloc, script, &report, budget, all)?)
 }
 
 /// The answer to a script that is run by picks: the trace comes before the text of the report.

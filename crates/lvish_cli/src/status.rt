@@ -2,6 +2,8 @@ ghost use Rattle.std.specs.Prelude.{◌≡◌};
 ghost use Rattle.std.specs.Option.{option_map};
 ghost use Rattle.lvish_cli.specs.Statuses.{status_number, status_message};
 
+use lvish_run::RunFault;
+
 /// How the program ends.
 #[derive(Debug, PartialEq, Drop)]
 pub enum Status {
@@ -66,6 +68,22 @@ impl Status {
             | Status::Error
             | Status::Budget
             | Status::Unwritten => None,
+        }
+    }
+}
+
+impl From<RunFault> for Status {
+    ghost use Rattle.std.specs.Prelude.{◌≡◌};
+    ghost use Rattle.lvish_cli.specs.Statuses.{fault_status};
+
+    ghost from_gives = { λ fault status. status ≡ fault_status fault };
+
+    fn from(fault: RunFault) -> Status {
+        match fault {
+            RunFault::NoThread => Status::NoThread,
+            RunFault::Memory => Status::Memory,
+            RunFault::Stopped => Status::Stopped,
+            RunFault::Mixed => Status::Mixed,
         }
     }
 }

@@ -3,6 +3,9 @@
 
 use lvish_cli::{order_of, perform};
 use std::process::ExitCode;
+use std::rt::Files;
+use std::sync::Wait;
+use std::thread::Threads;
 use std::{fs, io};
 
 /// An example: the words of the program, and the file that has what it prints.
@@ -61,7 +64,7 @@ fn main(rt: HostRuntime) -> ExitCode {
 }
 
 /// Whether each example printed what is expected, with a line for each.
-fn run_all(rt: &HostRuntime) -> io::Result<bool> {
+fn run_all<R: AllocGlobal + Files + Print + Threads + Wait + Sync>(rt: &R) -> io::Result<bool> {
     let mut all = true;
     for example in &EXAMPLES {
         let told = if is_as_expected(rt, example)? {
@@ -76,13 +79,16 @@ fn run_all(rt: &HostRuntime) -> io::Result<bool> {
 }
 
 /// Whether the example printed what is expected.
-fn is_as_expected(rt: &HostRuntime, example: &Example) -> io::Result<bool> {
+fn is_as_expected<R: AllocGlobal + Files + Threads + Wait + Sync>(
+    rt: &R,
+    example: &Example,
+) -> io::Result<bool> {
     let expected = fs::read_to_string(rt, example.expected)?;
     let Ok((order, path)) = order_of(rt.alloc(), example.words) else {
         return Ok(false);
     };
     let mut file = fs::open(rt, path.as_str())?;
     let mut printed: Vec<u8> = Vec::new(rt.alloc());
-    perform(rt.alloc(), &order, &mut file, &mut printed);
+    perform(rt, rt.alloc(), &order, &mut file, &mut printed);
     Ok(printed.as_slice() == expected.as_bytes())
 }

@@ -4,7 +4,7 @@ use lvish_script::ScriptFault;
 use std::alloc::{AllocError, Global};
 
 /// What is printed, and the number of the status that goes with it.
-#[derive(Drop)]
+#[derive(PartialEq, Drop)]
 pub struct Answer {
     pub status: u8,
     pub text: String,

@@ -10,23 +10,26 @@ mod performed;
 mod reports;
 
 use crate::answer::Answer;
-use std::alloc::{AllocError, Global};
+use crate::host::Host;
+use std::alloc::AllocError;
 
 /// The answer to a question about a script: what the program `lvish` prints under these words, or,
 /// where the first word is one of the following, what the crates below it say.
-pub fn answer_to(alloc: Global, words: &[&str], script: &[u8]) -> Result<Answer, AllocError> {
+pub fn answer_to<R: Host>(rt: &R, words: &[&str], script: &[u8]) -> Result<Answer, AllocError> {
+    let alloc = rt.alloc();
     let (first, rest) = match words.split_first() {
         Some((first, rest)) => (*first, rest),
         None => ("", words),
     };
     match first {
         "canonical" => canonical::canonical_text(alloc, script),
-        "cuts" => cuts::statuses_of_cuts(alloc, script),
+        "cuts" => cuts::statuses_of_cuts(rt, script),
         "faults" => faults::numbered_faults(alloc),
         "lists" => lists::ends_by_lists(alloc, script),
+        "often" => performed::printed_often(rt, rest, script),
         "order" => orders::order_asked(alloc, rest),
         "parts" => parts::parts_read(alloc, script),
         "report" => reports::report_of(alloc, rest, script),
-        _ => performed::printed(alloc, words, script),
+        _ => performed::printed(rt, words, script),
     }
 }

@@ -2,6 +2,7 @@
 
 use crate::answer::Answer;
 use crate::answers::answer_to;
+use crate::host::Host;
 use crate::row::{Question, Row};
 use crate::script_text::script_of;
 use anyhow::{Context, Result};
@@ -25,9 +26,9 @@ impl Tally {
 }
 
 /// Compares the answers to the row's questions, and prints a line for each that isn't as expected.
-pub fn compare(rt: &HostRuntime, file: &str, row: &Row<'_>, tally: &mut Tally) -> Result<()> {
+pub fn compare<R: Host>(rt: &R, file: &str, row: &Row<'_>, tally: &mut Tally) -> Result<()> {
     for question in row.questions.iter() {
-        let answer = answered(rt.alloc(), row, question).context(format_args!("{}", row.name))?;
+        let answer = answered(rt, row, question).context(format_args!("{}", row.name))?;
         let is_same = is_expected(question, &answer);
         tally.count(is_same);
         if !is_same {
@@ -38,10 +39,11 @@ pub fn compare(rt: &HostRuntime, file: &str, row: &Row<'_>, tally: &mut Tally) -
 }
 
 /// The answer to a question about the row's script.
-fn answered(alloc: Global, row: &Row<'_>, question: &Question<'_>) -> Result<Answer> {
+fn answered<R: Host>(rt: &R, row: &Row<'_>, question: &Question<'_>) -> Result<Answer> {
+    let alloc = rt.alloc();
     let script = script_of(alloc, row.lines.as_slice(), question.filling)?;
     let words = words_of(alloc, question.words)?;
-    Ok(answer_to(alloc, words.as_slice(), script.as_slice())?)
+    Ok(answer_to(rt, words.as_slice(), script.as_slice())?)
 }
 
 /// The words between spaces; `""` stands for the empty word.
@@ -58,8 +60,8 @@ fn is_expected(question: &Question<'_>, answer: &Answer) -> bool {
 }
 
 /// Prints what was got in place of what is expected, on one line.
-fn print_other(
-    rt: &HostRuntime,
+fn print_other<R: Host>(
+    rt: &R,
     file: &str,
     name: &str,
     question: &Question<'_>,

@@ -9,18 +9,20 @@ mod answers;
 mod comparing;
 mod copies;
 mod escapes;
+mod host;
 mod reading;
 mod row;
 mod script_text;
 
 use anyhow::{Context, Result, bail};
 use comparing::{Tally, compare};
+use host::Host;
 use reading::rows_of;
 use std::process::ExitCode;
 use std::{env, fs};
 
 fn main(rt: HostRuntime) -> ExitCode {
-    match compare_all(&rt) {
+    match files(&rt).and_then(|files| compare_all(&rt, files.as_slice())) {
         Ok(true) => ExitCode::SUCCESS,
         Ok(false) => ExitCode::FAILURE,
         Err(error) => {
@@ -31,14 +33,18 @@ fn main(rt: HostRuntime) -> ExitCode {
     }
 }
 
-/// Whether all rows of all files that the words name are as expected.
-fn compare_all(rt: &HostRuntime) -> Result<bool> {
-    let files = env::args(rt)?.skip(1).collect::<Vec<String>>(rt.alloc())?;
+/// The names of the files.
+fn files(rt: &HostRuntime) -> Result<Vec<String>> {
+    Ok(env::args(rt)?.skip(1).collect(rt.alloc())?)
+}
+
+/// Whether all rows of all these files are as expected.
+fn compare_all<R: Host>(rt: &R, files: &[String]) -> Result<bool> {
     if files.is_empty() {
         bail!("usage: lvish_rows FILE..");
     }
     let mut all = true;
-    for file in files.iter() {
+    for file in files {
         if !is_as_expected(rt, file.as_str())? {
             all = false;
         }
@@ -47,7 +53,7 @@ fn compare_all(rt: &HostRuntime) -> Result<bool> {
 }
 
 /// Whether all rows of the file are as expected; prints a line for each that isn't, and one for the file.
-fn is_as_expected(rt: &HostRuntime, file: &str) -> Result<bool> {
+fn is_as_expected<R: Host>(rt: &R, file: &str) -> Result<bool> {
     let tally = compare_file(rt, file).context(format_args!("{file}"))?;
     if tally.others == 0 {
         rt.println(format_args!("{file}: {} as expected", tally.same))?;
@@ -58,7 +64,7 @@ fn is_as_expected(rt: &HostRuntime, file: &str) -> Result<bool> {
 }
 
 /// How many comparisons of the file's rows come out as expected, and how many don't.
-fn compare_file(rt: &HostRuntime, file: &str) -> Result<Tally> {
+fn compare_file<R: Host>(rt: &R, file: &str) -> Result<Tally> {
     let text = fs::read_to_string(rt, file)?;
     let rows = rows_of(rt.alloc(), text.as_str())?;
     let mut tally = Tally { same: 0, others: 0 };

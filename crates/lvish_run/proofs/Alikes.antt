@@ -6,9 +6,9 @@ use Rattle.lvish_calculus.specs.Machine.{Machine}
 use Rattle.lvish_calculus.specs.Calculus.{Name, Running, IsEnd, start}
 use Rattle.lvish_calculus.specs.Laws.{IsCrossed, FreezesAllBy, NeverErrs, SameEndIf}
 use Rattle.lvish_calculus.specs.Live.{HasLive}
-use Rattle.lvish_run.specs.declared.entry.Entry.{Entry}
+use Rattle.lvish_board.specs.declared.entry.Entry.{Entry}
 use Rattle.lvish_run.specs.declared.report.Report.{Report}
-use Rattle.lvish_run.specs.declared.outcome.Outcome.TheVariants.{Ended}
+use Rattle.lvish_board.specs.declared.outcome.Outcome.TheVariants.{Ended}
 use Rattle.lvish_run.specs.Honest.{labels_of, AreStates, Comes, IsOutcome, IsHonest}
 use Rattle.lvish_run.specs.Alike.{EndsAlikeIf, IsAlike}
 

@@ -3,4 +3,5 @@ mod Reports
 mod Texts
 pub mod Braces
 mod Alikes
+mod Tallies
 pub mod OfScript

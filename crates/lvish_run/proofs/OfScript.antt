@@ -12,8 +12,8 @@ use Rattle.lvish_calculus.specs.SameRuns.{SameState, SameConfiguration, HaveSame
 use Rattle.lvish_calculus.proofs.SameThere.{Base, over, Both, both_start, both_step, flip_state, flip_runs, reached, never_there, end_there, can_there, enabled_there, live_count, all_by_there, crossed_there, core_there, handed_there}
 use Rattle.lvish_run.specs.declared.report.FinalState.{FinalState}
 use Rattle.lvish_run.specs.declared.report.Report.{Report}
-use Rattle.lvish_run.specs.declared.outcome.Outcome.{Outcome}
-use Rattle.lvish_run.specs.declared.outcome.Outcome.TheVariants.{Ended, Error as ErrorOutcome, Budget}
+use Rattle.lvish_board.specs.declared.outcome.Outcome.{Outcome}
+use Rattle.lvish_board.specs.declared.outcome.Outcome.TheVariants.{Ended, Error as ErrorOutcome, Budget}
 use Rattle.lvish_run.specs.Honest.{labels_of, AreStates, Comes, IsOutcome, IsHonest}
 use Rattle.lvish_run.specs.Picked.{AreNext, IsPicked}
 use Rattle.lvish_run.specs.Alike.{EndsAlikeIf, IsAlike}
@@ -67,7 +67,6 @@ module _ {S E R A L K : Type 0} (B : Base S E R A) (f : Functions S E R A L) (g 
     within = h.within;
     outcome = outcome_there variables budget r r.outcome h.outcome;
     by_worker = h.by_worker;
-    adds_up = h.adds_up;
   }
 
   flip_configuration : (C : Configuration S E L) (D : Configuration S E K) → SameConfiguration (over B f) (over B g) C D → SameConfiguration (over B g) (over B f) D C
@@ -162,21 +161,23 @@ module _ {S E R A L K : Type 0} (B : Base S E R A) (f : Functions S E R A L) (g 
       }
 
 -- what is said of the flat code's report is said of the script's
-pub said_there : {S E R A L K : Type 0} (same : S → S → Bool) (event_same : E → E → Bool) (cmp : E → E → Ordering) (bottom : S) (join : S → S → Option S) (events : S → List E) (answer : R → S → Option A) (f : Functions S E R A L) (g : Functions S E R A K)
-    → HaveSameRuns (machine_of same event_same cmp bottom join events answer f) (machine_of same event_same cmp bottom join events answer g)
-    → (order : E → E → Ordering) (picks : List ℕ) (variables budget : ℕ) (r : Report S E)
-    → IsHonest (machine_of same event_same cmp bottom join events answer f) variables 1 budget r
-    → IsPicked order (machine_of same event_same cmp bottom join events answer f) picks [] (Running (start (machine_of same event_same cmp bottom join events answer f))) (labels_of r.trace)
-    → IsHandedWell (machine_of same event_same cmp bottom join events answer f) (labels_of r.trace)
-    → IsAlike (machine_of same event_same cmp bottom join events answer f) variables r
-    → IsHonest (machine_of same event_same cmp bottom join events answer g) variables 1 budget r
-    × IsPicked order (machine_of same event_same cmp bottom join events answer g) picks [] (Running (start (machine_of same event_same cmp bottom join events answer g))) (labels_of r.trace)
-    × IsHandedWell (machine_of same event_same cmp bottom join events answer g) (labels_of r.trace)
-    × IsAlike (machine_of same event_same cmp bottom join events answer g) variables r
-said_there {S} {E} {R} {A} same event_same cmp bottom join events answer f g H order picks variables budget r honest picked handed alike =
-    let B : Base S E R A = record { same = same; event_same = event_same; cmp = cmp; bottom = bottom; join = join; events = events; answer = answer } in (
-      honest_there B f g H variables 1 budget r honest,
-      picked_there B f g H order picks variables 1 budget r honest picked,
-      handed_there B f g H (labels_of r.trace) handed,
-      alike_there B f g H variables 1 budget r honest alike,
-    )
+module _ {S E R A L K : Type 0} (same : S → S → Bool) (event_same : E → E → Bool) (cmp : E → E → Ordering) (bottom : S) (join : S → S → Option S) (events : S → List E) (answer : R → S → Option A) (f : Functions S E R A L) (g : Functions S E R A K)
+    (H : HaveSameRuns (machine_of same event_same cmp bottom join events answer f) (machine_of same event_same cmp bottom join events answer g)) (variables workers budget : ℕ) (r : Report S E)
+    (honest : IsHonest (machine_of same event_same cmp bottom join events answer f) variables workers budget r) where
+  abbrev base : Base S E R A
+  base = record { same = same; event_same = event_same; cmp = cmp; bottom = bottom; join = join; events = events; answer = answer }
+
+  pub said_there : IsHandedWell (machine_of same event_same cmp bottom join events answer f) (labels_of r.trace)
+      → IsAlike (machine_of same event_same cmp bottom join events answer f) variables r
+      → IsHonest (machine_of same event_same cmp bottom join events answer g) variables workers budget r
+      × IsHandedWell (machine_of same event_same cmp bottom join events answer g) (labels_of r.trace)
+      × IsAlike (machine_of same event_same cmp bottom join events answer g) variables r
+  said_there handed alike = (
+    honest_there base f g H variables workers budget r honest,
+    handed_there base f g H (labels_of r.trace) handed,
+    alike_there base f g H variables workers budget r honest alike,
+  )
+
+  pub picks_there : (order : E → E → Ordering) (picks : List ℕ) → IsPicked order (machine_of same event_same cmp bottom join events answer f) picks [] (Running (start (machine_of same event_same cmp bottom join events answer f))) (labels_of r.trace)
+      → IsPicked order (machine_of same event_same cmp bottom join events answer g) picks [] (Running (start (machine_of same event_same cmp bottom join events answer g))) (labels_of r.trace)
+  picks_there order picks picked = picked_there base f g H order picks variables workers budget r honest picked

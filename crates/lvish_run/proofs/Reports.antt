@@ -1,5 +1,5 @@
 -- The report of a walk is honest.
-use Rattle.std.proofs.Common.{◌≡◌, ◌⊎◌, inl, inr, ℕ, suc, zero, ◌+◌, ◌<◌, ◌==◌, List, [], ◌∷◌, length, Option, Some, None, slice_get, sum, cond, Bool, Result, Ok, Err, IfOk, refl, sym, ap, ◌∙◌, subst, arith}
+use Rattle.std.proofs.Common.{◌≡◌, ◌⊎◌, inl, inr, ℕ, suc, zero, ◌+◌, ◌<◌, ◌≤◌, ◌==◌, List, [], ◌∷◌, length, Option, Some, None, slice_get, sum, cond, Bool, Result, Ok, Err, IfOk, refl, sym, ap, ◌∙◌, subst, arith}
 use Rattle.std.proofs.lemmas.Option.{slice_get-map}
 use Rattle.std.proofs.lemmas.List.{length-map}
 use Rattle.std.specs.List.{AllByRecursion, count_by, fold}
@@ -7,22 +7,24 @@ use Rattle.std.specs.Option.{option_map}
 use Rattle.std.specs.declared.cmp.Ordering.{Ordering}
 use Rattle.lvish_calculus.specs.declared.label.Label.{Label}
 use Rattle.lvish_calculus.specs.Machine.{Machine}
-use Rattle.lvish_calculus.specs.Calculus.{Running, Error, CanStep, IsRun, start}
+use Rattle.lvish_calculus.specs.Calculus.{Running, CanStep, IsRun, IsEnded, start}
 use Rattle.lvish_core.specs.declared.fault.Fault.{Fault}
-use Rattle.lvish_calculus.specs.Handing.{IsCoreRun, IsAmong}
+use Rattle.lvish_calculus.specs.Handing.{IsAmong}
 use Rattle.lvish_variable.specs.Variable.{View as Variable}
 use Rattle.lvish_core.specs.Core.{View, picture, state, at_fault, CanTake, IsRunTo}
 use Rattle.lvish_core.specs.CoreLaws.{TakesSomething}
-use Rattle.lvish_core.specs.Reads.{AreStates as AreVariables, HasRunning}
+use Rattle.lvish_core.specs.Reads.{AreStates as AreVariables}
 use Rattle.lvish_core.specs.Labels.{AreLabels}
 use Rattle.lvish_run.specs.declared.report.FinalState.{FinalState}
-use Rattle.lvish_run.specs.declared.entry.Entry.{Entry}
+use Rattle.lvish_board.specs.declared.entry.Entry.{Entry}
 use Rattle.lvish_run.specs.declared.report.Report.{Report}
-use Rattle.lvish_run.specs.declared.outcome.Outcome.{Outcome}
-use Rattle.lvish_run.specs.declared.outcome.Outcome.TheVariants.{Ended, Error as ErrorOutcome, Budget}
-use Rattle.lvish_run.specs.Honest.{labels_of, AreStates, Comes, IsOutcome, IsHonest}
+use Rattle.lvish_board.specs.declared.outcome.Outcome.{Outcome}
+use Rattle.lvish_board.specs.declared.outcome.Outcome.TheVariants.{Ended, Error as ErrorOutcome, Budget}
+use Rattle.lvish_run.specs.Honest.{labels_of, AreStates, Comes, IsOutcome, IsTally, IsHonest}
 use Rattle.lvish_run.specs.Picked.{IsPicked}
-use Rattle.lvish_run.specs.Walk.{IsStuck, IsWalked, IsAccount, AreCopies, IsStanding, IsOutcomeOf, IsReportOf}
+use Rattle.lvish_calculus.specs.Live.{HasLive}
+use Rattle.lvish_board.specs.Standing.{Standing, OverIs, IsSound}
+use Rattle.lvish_run.specs.Walk.{IsStuck, IsWalked, IsAccount, AreCopies, IsHow}
 
 -- as many as come before, and all of these
 fold_all : {E : Type 0} (n : ℕ) (xs : List (Entry E)) → AllByRecursion (λ e. e.worker ≡ 0) xs → fold (λ a x. a + cond (x.worker == 0) 1 0) n xs ≡ n + length xs
@@ -49,50 +51,116 @@ module _ {P S E R A L : Type 0} (M : Machine S E R A L) (variables : ℕ) (c : V
   stuck_then : IsStuck M c → (l : Label E) → CanStep M (picture M c) l → ⊥
   stuck_then stuck l can = let k = something c (labels_of trace) leads l can in stuck (k.0) k.1
 
-  abbrev comes : c.fault ≡ None → IsAccount M variables c r → Comes M variables r
-  comes is h = record { last = state M c; reached = at None is; states = h.states; blocked = h.blocked }
+  abbrev comes : c.fault ≡ None → AreStates variables (state M c) r.states × HasLive (state M c) r.blocked → Comes M variables r
+  comes is h = record { last = state M c; reached = at None is; states = h.0; blocked = h.1 }
 
-  outcome_is : (f : Option (Fault E)) (o : Outcome E) → c.fault ≡ f → (length trace ≡ budget) ⊎ IsStuck M c → IsOutcomeOf M variables c r f o → IsOutcome M variables budget r o
-  outcome_is None Ended is stopped h = (comes is h.0, λ l can. stuck_then h.1 l (can_back None is l can))
-  outcome_is None Budget is stopped h = (comes is h.0, elim stopped [ inl e ↦ steps ∙ e | inr stuck ↦ absurd (stuck h.1.0 h.1.1) ], (h.1.0, can_at None is h.1.0 h.1.1.0))
-  outcome_is None (ErrorOutcome kind v t) is stopped h = absurd h.1
-  outcome_is (Some f) Ended is stopped h = absurd h
-  outcome_is (Some f) Budget is stopped h = absurd h
-  outcome_is (Some f) (ErrorOutcome kind v t) is stopped h = (
-    subst (λ n. IsRun M (Running (start M)) (labels_of r.trace) (Error kind v n)) h.2
-        (subst (λ w. IsRun M (Running (start M)) (labels_of r.trace) (Error kind w f.task)) h.1
-        (subst (λ k. IsRun M (Running (start M)) (labels_of r.trace) (Error k f.variable f.task)) h.0 (at (Some f) is))),
-    h.3,
-    h.4,
-  )
+  outcome_is : (o : Outcome E) → IsHow M c o → (o ≡ Budget → length trace ≡ budget) → IsAccount M variables c o r.states r.blocked → IsOutcome M variables budget r o
+  outcome_is Ended h used a = (comes h.0 a, λ l can. stuck_then h.1 l (can_back None h.0 l can))
+  outcome_is Budget h used a = (comes h.0 a, steps ∙ used (λ i. Budget), (h.1.0, can_at None h.0 h.1.0 h.1.1.0))
+  outcome_is (ErrorOutcome kind v t) h used a = (at (Some (record { kind = kind; variable = v; task = t })) h, a.0, a.1)
 
-pub honest : {P S E R A L : Type 0} (M : Machine S E R A L) (cmp : E → E → Ordering) (p : P) (picks : List ℕ) (variables budget : ℕ) (c : View P S E L) (trace : List (Entry E)) (r : Report S E) → TakesSomething P M
-    → IsWalked cmp M p picks budget c trace → IsReportOf M variables c trace r → IsHonest M variables 1 budget r
-honest {E = E} M cmp p picks variables budget c trace r something w h = record {
-  core_run = subst (λ t. IsCoreRun M (labels_of t)) (sym h.trace_is) w.walk.leads.core;
-  steps = long ∙ sym (ap length h.trace_is);
-  within = let e = long in let b = w.within in omega arith;
-  outcome = outcome_is M variables c trace budget r h.trace_is long something w.walk.leads c.fault r.outcome refl w.stopped h.outcome;
-  by_worker = (ap length h.by_worker, each);
-  adds_up = ap sum h.by_worker ∙ sum_one c.steps ∙ sym h.steps;
-}
+-- where a core's steps are used up, there are as many as the budget
+pub used_up : {P S E R A L : Type 0} (M : Machine S E R A L) (c : View P S E L) (o : Outcome E) (many budget : ℕ) → IsHow M c o → (many ≡ budget) ⊎ IsStuck M c → o ≡ Budget → many ≡ budget
+used_up M c o many budget h (inl e) is = e
+used_up M c o many budget h (inr stuck) is =
+    let k : (c.fault ≡ None) × ((l : Label _) × CanTake M c l) = subst (λ (q : Outcome _). IsHow M c q) is h in
+    absurd (stuck k.1.0 k.1.1)
+
+-- the steps of one worker
+pub tally_of_one : {E : Type 0} (steps : ℕ) (trace : List (Entry E)) → steps ≡ length trace → AllByRecursion (λ e. e.worker ≡ 0) trace → IsTally 1 trace (steps ∷ [])
+tally_of_one {E} steps trace long one = record { count = refl; each = each; adds_up = sum_one steps ∙ long }
   where
-    long : r.steps ≡ length trace
-    long = h.steps ∙ w.walk.steps
-
     sum_one : (n : ℕ) → sum (n ∷ []) ≡ n
     sum_one n = omega arith
 
-    counted : count_by (λ (e : Entry E). e.worker == 0) r.trace ≡ c.steps
-    counted = ap (count_by (λ (e : Entry E). e.worker == 0)) h.trace_is ∙ all_by_one trace w.walk.workers ∙ sym w.walk.steps
-
-    each : (k : ℕ) → k < 1 → slice_get r.by_worker k ≡ Some (count_by (λ (e : Entry E). e.worker == k) r.trace)
-    each zero small = ap (λ ns. slice_get ns 0) h.by_worker ∙ ap (λ (n : ℕ). Some n) (sym counted)
+    each : (k : ℕ) → k < 1 → slice_get (steps ∷ []) k ≡ Some (count_by (λ (e : Entry E). e.worker == k) trace)
+    each zero small = ap (λ (n : ℕ). Some n) (long ∙ sym (all_by_one trace one))
     each (suc k) small = absurd (omega arith)
 
-pub picked : {P S E R A L : Type 0} (M : Machine S E R A L) (cmp : E → E → Ordering) (p : P) (picks : List ℕ) (variables budget : ℕ) (c : View P S E L) (trace : List (Entry E)) (r : Report S E)
-    → IsWalked cmp M p picks budget c trace → IsReportOf M variables c trace r → IsPicked cmp M picks [] (Running (start M)) (labels_of r.trace)
-picked M cmp p picks variables budget c trace r w h = subst (λ t. IsPicked cmp M picks [] (Running (start M)) (labels_of t)) (sym h.trace_is) w.walk.picked
+-- the report of steps that led to a core of the program p, in words of the machine of p
+pub honest_at : {P S E R A L : Type 0} (machine : P → Machine S E R A L) (variables : P → ℕ) (p : P) (c : View P S E L) (trace : List (Entry E)) (workers budget : ℕ) (o q : Outcome E) (states : List (FinalState S)) (steps blocked : ℕ) (by_worker : List ℕ) (r : Report S E)
+    → TakesSomething P (machine p) → c.program ≡ p → IsRunTo (machine p) c (labels_of trace) → length trace ≤ budget → (o ≡ Budget → length trace ≡ budget) → IsHow (machine p) c o → q ≡ o
+    → IsAccount (machine c.program) (variables c.program) c q states blocked → steps ≡ length trace → IsTally workers trace by_worker
+    → r ≡ record { outcome = q; states = states; steps = steps; blocked = blocked; trace = trace; by_worker = by_worker }
+    → IsHonest (machine p) (variables p) workers budget r
+honest_at {S = S} {E = E} machine variables p c trace workers budget o q states steps blocked by_worker r something is leads within used how same account long tally made =
+    subst (λ x. IsHonest (machine p) (variables p) workers budget x) (sym made) (record {
+      core_run = leads.core;
+      steps = long;
+      within = omega (arith, long, within);
+      outcome = outcome_is (machine p) (variables p) c trace budget report refl long something leads q (subst (λ (x : Outcome E). IsHow (machine p) c x) (sym same) how) (λ e. used (sym same ∙ e)) (subst (λ x. IsAccount (machine x) (variables x) c q states blocked) is account);
+      by_worker = tally;
+    })
+  where
+    report : Report S E
+    report = record { outcome = q; states = states; steps = steps; blocked = blocked; trace = trace; by_worker = by_worker }
+
+module _ {P S E R A L : Type 0} (machine : P → Machine S E R A L) (variables : P → ℕ) (cmp : E → E → Ordering) (p : P) (picks : List ℕ) (budget : ℕ) (b c : View P S E L) (trace : List (Entry E)) (r : Report S E)
+    (is : b.program ≡ p) (w : IsWalked cmp (machine b.program) b.program picks budget c trace) where
+  walked : IsWalked cmp (machine p) p picks budget c trace
+  walked = subst (λ q. IsWalked cmp (machine q) q picks budget c trace) is w
+
+  -- the report of a walk
+  pub walk_is_honest : (o q : Outcome E) (states : List (FinalState S)) (steps blocked : ℕ) (by_worker : List ℕ) → TakesSomething P (machine p) → IsHow (machine c.program) c o → q ≡ o
+      → IsAccount (machine c.program) (variables c.program) c q states blocked → steps ≡ c.steps → by_worker ≡ c.steps ∷ []
+      → r ≡ record { outcome = q; states = states; steps = steps; blocked = blocked; trace = trace; by_worker = by_worker }
+      → IsHonest (machine p) (variables p) 1 budget r
+  walk_is_honest o q states steps blocked by_worker something how same account long counts made =
+      let how_there : IsHow (machine p) c o = subst (λ x. IsHow (machine x) c o) walked.walk.program how in
+      honest_at machine variables p c trace 1 budget o q states steps blocked by_worker r something walked.walk.program walked.walk.leads walked.within
+      (used_up (machine p) c o (length trace) budget how_there walked.stopped) how_there same account (long ∙ walked.walk.steps)
+      (subst (λ ns. IsTally 1 trace ns) (sym counts) (tally_of_one c.steps trace walked.walk.steps walked.walk.workers)) made
+
+  pub walk_is_picked : r.trace ≡ trace → IsPicked cmp (machine p) picks [] (Running (start (machine p))) (labels_of r.trace)
+  walk_is_picked trace_is = subst (λ t. IsPicked cmp (machine p) picks [] (Running (start (machine p))) (labels_of t)) (sym trace_is) walked.walk.picked
+
+-- a core that can take a label has no error
+pub able : {P S E R A L : Type 0} (M : Machine S E R A L) (c : View P S E L) (l : Label E) → CanTake M c l → c.fault ≡ None
+able M c l can = by c.fault (λ i. c.fault)
+  where
+    by : (f : Option (Fault _)) → c.fault ≡ f → c.fault ≡ None
+    by None e = e
+    by (Some f) e = absurd (subst (λ g. CanStep M (at_fault (state M c) g) l) e can.0)
+
+-- nor has one at an end, which can take none
+pub ended_then : {P S E R A L : Type 0} (M : Machine S E R A L) (c : View P S E L) → IsEnded M (picture M c) → (c.fault ≡ None) × IsStuck M c
+ended_then M c end = (by c.fault (λ i. c.fault), stuck)
+  where
+    by : (f : Option (Fault _)) → c.fault ≡ f → c.fault ≡ None
+    by None e = e
+    by (Some f) e = absurd (subst (λ g. IsEnded M (at_fault (state M c) g)) e end)
+
+    none : c.fault ≡ None
+    none = by c.fault (λ i. c.fault)
+
+    stuck : IsStuck M c
+    stuck l can =
+        let at_end : IsEnded M (Running (state M c)) = subst (λ g. IsEnded M (at_fault (state M c) g)) none end in
+        at_end l (subst (λ g. CanStep M (at_fault (state M c) g) l) none can.0)
+
+-- how the steps of a board that is over came out
+over_how : {P S E R A L : Type 0} (M : Machine S E R A L) (budget : ℕ) (s : Standing P S E L) (o : Outcome E) → OverIs M budget s (Some o) → IsHow M s.core o
+over_how M budget s Ended h = ended_then M s.core h
+over_how M budget s Budget h = (able M s.core h.1.0 h.1.1, h.1)
+over_how M budget s (ErrorOutcome kind v t) h = h
+
+over_used : {P S E R A L : Type 0} (M : Machine S E R A L) (budget : ℕ) (s : Standing P S E L) (o : Outcome E) → OverIs M budget s (Some o) → o ≡ Budget → length s.trace ≡ budget
+over_used M budget s o h is =
+    let k : (length s.trace ≡ budget) × ((l : Label _) × CanTake M s.core l) = subst (λ (q : Outcome _). OverIs M budget s (Some q)) is h in
+    k.0
+
+-- the report of a board that is over
+pub board_is_honest : {P S E R A L : Type 0} (machine : P → Machine S E R A L) (variables : P → ℕ) (p : P) (s : Standing P S E L) (core : View P S E L) (trace : List (Entry E)) (workers budget : ℕ) (o q : Outcome E) (states : List (FinalState S)) (steps blocked : ℕ) (by_worker : List ℕ) (r : Report S E)
+    → TakesSomething P (machine p) → IsSound (machine p) p budget s → core ≡ s.core → trace ≡ s.trace → s.over ≡ Some o → q ≡ o
+    → IsAccount (machine core.program) (variables core.program) core q states blocked → steps ≡ length trace → IsTally workers trace by_worker
+    → r ≡ record { outcome = q; states = states; steps = steps; blocked = blocked; trace = trace; by_worker = by_worker }
+    → IsHonest (machine p) (variables p) workers budget r
+board_is_honest {S = S} {E = E} machine variables p s core trace workers budget o q states steps blocked by_worker r something sound core_is trace_is over same account long tally made =
+    let over_is : OverIs (machine p) budget s (Some o) = subst (λ (x : Option (Outcome E)). OverIs (machine p) budget s x) over sound.over_is in
+    let within : length trace ≤ budget = subst (λ t. length t ≤ budget) (sym trace_is) sound.within in
+    honest_at machine variables p s.core trace workers budget o q states steps blocked by_worker r something sound.program_is
+    (subst (λ t. IsRunTo (machine p) s.core (labels_of t)) (sym trace_is) sound.leads) within (λ e. ap length trace_is ∙ over_used (machine p) budget s o over_is e) (over_how (machine p) budget s o over_is) same
+    (subst (λ x. IsAccount (machine x.program) (variables x.program) x q states blocked) core_is account) long tally made
 
 -- a variable's state and mark
 abbrev copy_of : {S E : Type 0} → Variable S E → FinalState S
@@ -111,18 +179,6 @@ states_are {S = S} {E = E} M variables c xs states a copies = record {
       ∙ ap (λ (q : FinalState S). Some q) (copies_alike (there.0) ((state M c).content v) ((state M c).frozen v) there.2 there.3);
 }
 
--- a report without an error
-pub at_end : {P S E R A L : Type 0} (M : Machine S E R A L) (variables : ℕ) (c : View P S E L) (trace : List (Entry E)) (o : Outcome E) (contents : List (Variable S E)) (states : List (FinalState S)) (steps blocked : ℕ) (given : List (Entry E)) (by_worker : List ℕ)
-    → c.fault ≡ None → IsStanding M c o → AreVariables M variables c contents → AreCopies contents states → HasRunning M c blocked → steps ≡ c.steps → given ≡ trace → by_worker ≡ c.steps ∷ []
-    → IsReportOf M variables c trace (record { outcome = o; states = states; steps = steps; blocked = blocked; trace = given; by_worker = by_worker })
-at_end M variables c trace o contents states steps blocked given by_worker none stands a copies running s t b = record {
-  trace_is = t;
-  steps = s;
-  by_worker = b;
-  outcome = subst (λ f. IsOutcomeOf M variables c (record { outcome = o; states = states; steps = steps; blocked = blocked; trace = given; by_worker = by_worker }) f o) (sym none)
-      (record { states = states_are M variables c contents states a copies; blocked = running }, stands);
-}
-
 -- among the elements is the one at a place
 among_at : {X : Type 0} (xs : List X) (k : ℕ) (x : X) → slice_get xs k ≡ Some x → IsAmong x xs
 among_at [] zero x e = absurd cc
@@ -134,31 +190,21 @@ among_at (y ∷ ys) (suc k) x e = inr (among_at ys k x e)
 pub chosen_can : {P S E R A L : Type 0} (cmp : E → E → Ordering) (M : Machine S E R A L) (c : View P S E L) (ls : List (Label E)) (k : ℕ) (l : Label E) → AreLabels cmp M c ls → slice_get ls k ≡ Some l → CanTake M c l
 chosen_can cmp M c ls k l a e = (a.just l).0 (among_at ls k l e)
 
-module _ {P S E R A L : Type 0} (machine : P → Machine S E R A L) (variables : P → ℕ) (cmp : E → E → Ordering) (p : P) (picks : List ℕ) (budget : ℕ) (b c : View P S E L) (trace : List (Entry E)) (r : Report S E)
-    (is : b.program ≡ p) (something : TakesSomething P (machine p)) (w : IsWalked cmp (machine b.program) b.program picks budget c trace) (h : IsReportOf (machine c.program) (variables c.program) c trace r) where
-  walked : IsWalked cmp (machine p) p picks budget c trace
-  walked = subst (λ q. IsWalked cmp (machine q) q picks budget c trace) is w
+-- how a core without an error came out, by its labels
+pub no_label : {P S E R A L : Type 0} (cmp : E → E → Ordering) (M : Machine S E R A L) (c : View P S E L) (ls : List (Label E)) → c.fault ≡ None → AreLabels cmp M c ls → length ls ≡ 0 → IsHow M c Ended
+no_label cmp M c [] none a e = (none, λ l can. (a.just l).1 can)
+no_label cmp M c (x ∷ xs) none a e = absurd (omega (arith, e))
 
-  reported : IsReportOf (machine p) (variables p) c trace r
-  reported = subst (λ q. IsReportOf (machine q) (variables q) c trace r) (w.walk.program ∙ is) h
-
-  -- the report of a core of the program p, in words of the machine of p
-  pub honest_at : IsHonest (machine p) (variables p) 1 budget r
-  honest_at = honest (machine p) cmp p picks (variables p) budget c trace r something walked reported
-
-  pub picked_at : IsPicked cmp (machine p) picks [] (Running (start (machine p))) (labels_of r.trace)
-  picked_at = picked (machine p) cmp p picks (variables p) budget c trace r walked reported
-
--- how a core stands with these labels
-pub stands_ended : {P S E R A L : Type 0} (cmp : E → E → Ordering) (M : Machine S E R A L) (c : View P S E L) (ls : List (Label E)) → AreLabels cmp M c ls → length ls ≡ 0 → IsStanding M c Ended
-stands_ended cmp M c [] a e l can = (a.just l).1 can
-stands_ended cmp M c (x ∷ xs) a e l can = absurd (omega (arith, e))
-
-pub stands_open : {P S E R A L : Type 0} (cmp : E → E → Ordering) (M : Machine S E R A L) (c : View P S E L) (ls : List (Label E)) → AreLabels cmp M c ls → (length ls ≡ 0 → ⊥) → IsStanding M c Budget
-stands_open cmp M c [] a some = absurd (some refl)
-stands_open cmp M c (x ∷ xs) a some = (x, (a.just x).0 (inl refl))
+pub some_label : {P S E R A L : Type 0} (cmp : E → E → Ordering) (M : Machine S E R A L) (c : View P S E L) (ls : List (Label E)) → c.fault ≡ None → AreLabels cmp M c ls → (length ls ≡ 0 → ⊥) → IsHow M c Budget
+some_label cmp M c [] none a some = absurd (some refl)
+some_label cmp M c (x ∷ xs) none a some = (none, (x, (a.just x).0 (inl refl)))
 
 -- what four clauses say of a good answer
 pub four_ok : {T X : Type 0} {P Q R S U : T → Type 0} (r : Result T X) → ((x : T) → P x → Q x → R x → S x → U x) → IfOk r P → IfOk r Q → IfOk r R → IfOk r S → IfOk r U
 four_ok (Ok x) f p q s t = f x p q s t
 four_ok (Err e) f p q s t = tt
+
+-- what three clauses say of a good answer
+pub three_ok : {T X : Type 0} {P Q R U : T → Type 0} (r : Result T X) → ((x : T) → P x → Q x → R x → U x) → IfOk r P → IfOk r Q → IfOk r R → IfOk r U
+three_ok (Ok x) f p q s = f x p q s
+three_ok (Err e) f p q s = tt

@@ -8,7 +8,7 @@ use Rattle.lvish_calculus.specs.Machine.{Machine}
 use Rattle.lvish_calculus.specs.Calculus.{Configuration, Running, Error, IsRun, step, start}
 use Rattle.lvish_core.specs.Core.{View, picture, IsBegun, IsRunTo}
 use Rattle.lvish_core.specs.CoreLaws.{TakesCoreRuns}
-use Rattle.lvish_run.specs.declared.entry.Entry.{Entry}
+use Rattle.lvish_board.specs.declared.entry.Entry.{Entry}
 use Rattle.lvish_run.specs.Honest.{labels_of}
 use Rattle.lvish_run.specs.Picked.{IsChoice, IsPicked, pick}
 use Rattle.lvish_run.specs.Walk.{IsTaken, IsTurn, IsStuck, IsWalk, IsWalked}

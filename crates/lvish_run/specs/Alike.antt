@@ -6,7 +6,7 @@ use Rattle.lvish_calculus.specs.Calculus.{Name, State, Running, IsEnd, start}
 use Rattle.lvish_calculus.specs.Laws.{Reaches, IsCrossed, FreezesAllBy, NeverErrs}
 use Rattle.lvish_calculus.specs.Live.{HasLive}
 use Rattle.lvish_run.specs.declared.report.Report.{Report}
-use Rattle.lvish_run.specs.declared.outcome.Outcome.TheVariants.{Ended}
+use Rattle.lvish_board.specs.declared.outcome.Outcome.TheVariants.{Ended}
 use Rattle.lvish_run.specs.Honest.{labels_of, AreStates}
 
 -- each run that ends without an error, and for which this holds of the report's trace and it, has the report's states, steps and blocked tasks

@@ -6,11 +6,11 @@ use Rattle.lvish_calculus.specs.Calculus.{State, Running, Error, IsEnabled, IsRu
 use Rattle.lvish_calculus.specs.Laws.{Reaches}
 use Rattle.lvish_calculus.specs.Handing.{IsCoreRun}
 use Rattle.lvish_calculus.specs.Live.{HasLive}
-use Rattle.lvish_run.specs.declared.entry.Entry.{Entry}
+use Rattle.lvish_board.specs.declared.entry.Entry.{Entry}
 use Rattle.lvish_run.specs.declared.report.FinalState.{FinalState}
 use Rattle.lvish_run.specs.declared.report.Report.{Report}
-use Rattle.lvish_run.specs.declared.outcome.Outcome.{Outcome}
-use Rattle.lvish_run.specs.declared.outcome.Outcome.TheVariants.{Ended, Error as ErrorOutcome, Budget}
+use Rattle.lvish_board.specs.declared.outcome.Outcome.{Outcome}
+use Rattle.lvish_board.specs.declared.outcome.Outcome.TheVariants.{Ended, Error as ErrorOutcome, Budget}
 
 -- the labels of a trace
 abbrev pub labels_of : {E : Type 0} → List (Entry E) → List (Label E)
@@ -34,6 +34,12 @@ IsOutcome M variables budget r Ended = (h : Comes M variables r) × IsEnd M h.la
 IsOutcome M variables budget r (ErrorOutcome kind v t) = IsRun M (Running (start M)) (labels_of r.trace) (Error kind v t) × (r.states ≡ []) × (r.blocked ≡ 0)
 IsOutcome {E = E} M variables budget r Budget = (h : Comes M variables r) × (r.steps ≡ budget) × ((l : Label E) × IsEnabled M h.last l)
 
+-- the number of each worker's entries in a trace, by the worker's number; they add up to all
+pub record IsTally {E : Type 0} (workers : ℕ) (trace : List (Entry E)) (counts : List ℕ) : Type 0 where
+  pub count : length counts ≡ workers
+  pub each : (w : ℕ) → w < workers → slice_get counts w ≡ Some (count_by (λ e. e.worker == w) trace)
+  pub adds_up : sum counts ≡ length trace
+
 -- an honest report of a run by so many workers, within the budget
 pub record IsHonest {S E R A L : Type 0} (M : Machine S E R A L) (variables workers budget : ℕ) (r : Report S E) : Type 0 where
   -- the trace is a run in which each event is handed in the order of its introduction
@@ -42,5 +48,4 @@ pub record IsHonest {S E R A L : Type 0} (M : Machine S E R A L) (variables work
   pub within : r.steps ≤ budget
   pub outcome : IsOutcome M variables budget r r.outcome
   -- each worker's number of steps
-  pub by_worker : (length r.by_worker ≡ workers) × ((w : ℕ) → w < workers → slice_get r.by_worker w ≡ Some (count_by (λ e. e.worker == w) r.trace))
-  pub adds_up : sum r.by_worker ≡ r.steps
+  pub by_worker : IsTally workers r.trace r.by_worker

@@ -6,3 +6,4 @@ pub mod Scripts
 pub mod StateText
 pub mod Alike
 pub mod TraceText
+pub mod NoCode

@@ -15,6 +15,14 @@ use Rattle.lvish_run.specs.Honest.{IsHonest, labels_of}
 use Rattle.lvish_run.specs.Picked.{IsPicked}
 use Rattle.lvish_run.specs.Text.{variables_of}
 
+-- an honest report of a run of a script by so many workers, within the budget; M is the script's machine, in which a task is what is left of its nested statements
+pub record IsRunBy (M : Machine Any Event AnyRead ℤ State) (script : Script) (workers budget : ℕ) (r : Report Any Event) : Type 0 where
+  pub honest : IsHonest M (length (variables_of script.declarations)) workers budget r
+  -- each handler is handed each event at most once, one task's in the order of its puts, none after the freeze, at the freeze and at an end exactly those below the state
+  pub handed : IsHandedWell M (labels_of r.trace)
+  -- if it is an end, so are all others that don't cross it
+  pub alike : IsAlike M (length (variables_of script.declarations)) r
+
 -- an honest report of the run of a script that takes, at each step, the label that its pick names; M is the script's machine, in which a task is what is left of its nested statements
 pub record IsPickedRun (cmp : Event → Event → Ordering) (M : Machine Any Event AnyRead ℤ State) (script : Script) (picks : List ℕ) (budget : ℕ) (r : Report Any Event) : Type 0 where
   pub honest : IsHonest M (length (variables_of script.declarations)) 1 budget r

@@ -9,8 +9,8 @@ use Rattle.lvish_syntax.specs.declared.declaration.Declaration.TheVariants.{Vari
 use Rattle.lvish_syntax.specs.declared.kind.VariableKind.{VariableKind}
 use Rattle.lvish_run.specs.declared.report.FinalState.{FinalState}
 use Rattle.lvish_run.specs.declared.report.Report.{Report}
-use Rattle.lvish_run.specs.declared.outcome.Outcome.{Outcome}
-use Rattle.lvish_run.specs.declared.outcome.Outcome.TheVariants.{Error as ErrorOutcome}
+use Rattle.lvish_board.specs.declared.outcome.Outcome.{Outcome}
+use Rattle.lvish_board.specs.declared.outcome.Outcome.TheVariants.{Error as ErrorOutcome}
 use Rattle.lvish_run.specs.StateText.{state_text}
 
 -- the variable that a line declares, if it declares one

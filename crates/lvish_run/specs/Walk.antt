@@ -1,5 +1,5 @@
 -- A run that a core has made so far, and its report.
-use Rattle.std.specs.Prelude.{◌≡◌, ◌⊎◌, ◌≤◌, ◌%◌, ℕ, List, [], ◌∷◌, map, length, Option, Some, None, slice_get}
+use Rattle.std.specs.Prelude.{◌≡◌, ◌⊎◌, ◌≤◌, ◌%◌, ℕ, List, [], map, length, Option, Some, None, slice_get}
 use Rattle.std.specs.List.{AllByRecursion}
 use Rattle.std.specs.declared.cmp.Ordering.{Ordering}
 use Rattle.lvish_calculus.specs.declared.label.Label.{Label}
@@ -7,15 +7,13 @@ use Rattle.lvish_calculus.specs.Machine.{Machine}
 use Rattle.lvish_calculus.specs.Calculus.{Running, start}
 use Rattle.lvish_calculus.specs.Live.{HasLive}
 use Rattle.lvish_variable.specs.Variable.{View as Variable}
-use Rattle.lvish_core.specs.declared.fault.Fault.{Fault}
 use Rattle.lvish_core.specs.declared.fault.Stepped.{Stepped}
 use Rattle.lvish_core.specs.Core.{View, state, CanTake, IsRunTo, IsStep}
 use Rattle.lvish_core.specs.Labels.{AreLabels}
-use Rattle.lvish_run.specs.declared.entry.Entry.{Entry}
+use Rattle.lvish_board.specs.declared.entry.Entry.{Entry}
 use Rattle.lvish_run.specs.declared.report.FinalState.{FinalState}
-use Rattle.lvish_run.specs.declared.report.Report.{Report}
-use Rattle.lvish_run.specs.declared.outcome.Outcome.{Outcome}
-use Rattle.lvish_run.specs.declared.outcome.Outcome.TheVariants.{Ended, Error as ErrorOutcome, Budget}
+use Rattle.lvish_board.specs.declared.outcome.Outcome.{Outcome}
+use Rattle.lvish_board.specs.declared.outcome.Outcome.TheVariants.{Ended, Error as ErrorOutcome, Budget}
 use Rattle.lvish_run.specs.Honest.{labels_of, AreStates}
 use Rattle.lvish_run.specs.Picked.{IsPicked}
 
@@ -52,26 +50,14 @@ pub record IsWalked {P S E R A L : Type 0} (cmp : E → E → Ordering) (M : Mac
 abbrev pub AreCopies : {S E : Type 0} → List (Variable S E) → List (FinalState S) → Type 0
 AreCopies variables states = states ≡ map (λ x. record { content = x.state; frozen = x.frozen }) variables
 
--- the states and the blocked tasks of a core
-pub record IsAccount {P S E R A L : Type 0} (M : Machine S E R A L) (variables : ℕ) (c : View P S E L) (r : Report S E) : Type 0 where
-  pub states : AreStates variables (state M c) r.states
-  pub blocked : HasLive (state M c) r.blocked
+-- how a core's steps came out: it can take no label, or one; or its last step gave this error
+abbrev pub IsHow : {P S E R A L : Type 0} → Machine S E R A L → View P S E L → Outcome E → Type 0
+IsHow M c Ended = (c.fault ≡ None) × IsStuck M c
+IsHow {E = E} M c Budget = (c.fault ≡ None) × ((l : Label E) × CanTake M c l)
+IsHow M c (ErrorOutcome kind v t) = c.fault ≡ Some (record { kind = kind; variable = v; task = t })
 
--- what an outcome other than an error says of a core
-abbrev pub IsStanding : {P S E R A L : Type 0} → Machine S E R A L → View P S E L → Outcome E → Type 0
-IsStanding M c Ended = IsStuck M c
-IsStanding {E = E} M c Budget = (l : Label E) × CanTake M c l
-IsStanding M c (ErrorOutcome kind v t) = ⊥
-
--- what the outcome of a core's report says, where f is the core's error
-abbrev pub IsOutcomeOf : {P S E R A L : Type 0} → Machine S E R A L → ℕ → View P S E L → Report S E → Option (Fault E) → Outcome E → Type 0
-IsOutcomeOf M variables c r None o = IsAccount M variables c r × IsStanding M c o
-IsOutcomeOf M variables c r (Some f) (ErrorOutcome kind v t) = (f.kind ≡ kind) × (f.variable ≡ v) × (f.task ≡ t) × (r.states ≡ []) × (r.blocked ≡ 0)
-IsOutcomeOf M variables c r (Some f) _ = ⊥
-
--- the report of the steps that led to a core
-pub record IsReportOf {P S E R A L : Type 0} (M : Machine S E R A L) (variables : ℕ) (c : View P S E L) (trace : List (Entry E)) (r : Report S E) : Type 0 where
-  pub trace_is : r.trace ≡ trace
-  pub steps : r.steps ≡ c.steps
-  pub by_worker : r.by_worker ≡ c.steps ∷ []
-  pub outcome : IsOutcomeOf M variables c r c.fault r.outcome
+-- the states and the number of blocked tasks of a core whose steps came out like this, none after an error
+abbrev pub IsAccount : {P S E R A L : Type 0} → Machine S E R A L → ℕ → View P S E L → Outcome E → List (FinalState S) → ℕ → Type 0
+IsAccount M variables c (ErrorOutcome kind v t) states blocked = (states ≡ []) × (blocked ≡ 0)
+IsAccount M variables c Ended states blocked = AreStates variables (state M c) states × HasLive (state M c) blocked
+IsAccount M variables c Budget states blocked = AreStates variables (state M c) states × HasLive (state M c) blocked

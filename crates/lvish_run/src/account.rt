@@ -1,17 +1,45 @@
 ghost use Rattle.std.specs.Prelude.{◌≡◌, IfOk};
-ghost use Rattle.lvish_run.specs.Walk.{IsReportOf, AreCopies, IsStanding};
+ghost use Rattle.lvish_run.specs.Walk.{IsHow, IsAccount, AreCopies};
 
 use crate::counts::Counts;
-use crate::entry::Entry;
-use crate::outcome::Outcome;
 use crate::report::{FinalState, Report};
 use crate::states::States;
 use crate::trace::Trace;
+use lvish_board::{Entry, Outcome};
 use lvish_calculus::{Meaning, Program};
 use lvish_core::Core;
 use lvish_lattice::Lattice;
 use lvish_variable::Variable;
 use std::alloc::{AllocError, Global};
+
+/// What a report says of the last configuration.
+#[derive(Drop)]
+pub struct Account<S, E> {
+    pub outcome: Outcome<E>,
+    pub states: States<S>,
+    pub blocked: u64,
+}
+
+impl<S, E> Account<S, E> {
+    /// The report of these steps.
+    pub fn report(self, steps: u64, trace: Vec<Entry<E>>, by_worker: Counts) -> Report<S, E>
+        ensures { result ≡ record { outcome = self.outcome; states = self.states; steps = steps; blocked = self.blocked; trace = trace.items; by_worker = by_worker } }
+    {
+        let Account {
+            outcome,
+            states,
+            blocked,
+        } = self;
+        Report {
+            outcome,
+            states,
+            steps,
+            blocked,
+            trace: Trace::from(trace),
+            by_worker,
+        }
+    }
+}
 
 /// Copies of the variables' states and marks.
 fn final_states<S: Lattice>(
@@ -30,13 +58,20 @@ fn final_states<S: Lattice>(
     Ok(States::from(states))
 }
 
-/// How a run stands that met no error: whether something is enabled.
-fn outcome_of<P: Program>(
+/// How the steps of a core came out: with its error, or by whether something is enabled.
+pub fn outcome_of<P: Program>(
     alloc: Global,
     core: &Core<'_, P>,
 ) -> Result<Outcome<<P::Lat as Lattice>::Event>, AllocError>
-    ensures { IfOk result (λ o. IsStanding (⟦<P as Meaning>⟧.machine core.now.program) core.now o) }
+    ensures { IfOk result (λ o. IsHow (⟦<P as Meaning>⟧.machine core.now.program) core.now o) }
 {
+    if let Some(fault) = core.fault() {
+        return Ok(Outcome::Error {
+            kind: fault.kind,
+            variable: fault.variable,
+            task: fault.task.copy(alloc)?,
+        });
+    }
     let labels = core.labels(alloc)?;
     match labels.as_slice() {
         [] => Ok(Outcome::Ended),
@@ -44,38 +79,25 @@ fn outcome_of<P: Program>(
     }
 }
 
-/// The report of the steps that led to the core.
-pub fn report_of<P: Program>(
+/// The account of a core whose steps came out like this.
+pub fn account_of<P: Program>(
     alloc: Global,
     core: &Core<'_, P>,
-    trace: Vec<Entry<<P::Lat as Lattice>::Event>>,
-) -> Result<Report<P::Lat, <P::Lat as Lattice>::Event>, AllocError>
-    ensures { IfOk result (λ r. IsReportOf (⟦<P as Meaning>⟧.machine core.now.program) (P.functions core.now.program).variables core.now trace.items r) }
+    outcome: Outcome<<P::Lat as Lattice>::Event>,
+) -> Result<Account<P::Lat, <P::Lat as Lattice>::Event>, AllocError>
+    ensures outcome { IfOk result (λ a. a.outcome ≡ outcome) }
+    ensures account { IfOk result (λ a. IsAccount (⟦<P as Meaning>⟧.machine core.now.program) (P.functions core.now.program).variables core.now a.outcome a.states a.blocked) }
 {
-    let mut by_worker = Vec::new(alloc);
-    by_worker.push(core.steps())?;
-    let by_worker = Counts::from(by_worker);
-    let trace = Trace::from(trace);
-    match core.fault() {
-        Some(fault) => Ok(Report {
-            outcome: Outcome::Error {
-                kind: fault.kind,
-                variable: fault.variable,
-                task: fault.task.copy(alloc)?,
-            },
+    match &outcome {
+        Outcome::Error { .. } => Ok(Account {
+            outcome,
             states: States::from(Vec::new(alloc)),
-            steps: core.steps(),
             blocked: 0,
-            trace,
-            by_worker,
         }),
-        None => Ok(Report {
-            outcome: outcome_of(alloc, core)?,
+        Outcome::Ended | Outcome::Budget => Ok(Account {
+            outcome,
             states: final_states(alloc, core.states())?,
-            steps: core.steps(),
             blocked: core.running() as u64,
-            trace,
-            by_worker,
         }),
     }
 }

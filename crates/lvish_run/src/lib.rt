@@ -1,11 +1,12 @@
 //! Runs of scripts, and their reports.
 //!
-//! [`run_picks`] makes the steps of a script on one thread, taking at each step the enabled label
-//! that a list of picks names. Its [`Report`] is honest: its trace is a run of the script's
-//! program, and its states, steps and blocked tasks are those of that run's last configuration.
+//! [`run`] runs a script by 1 to 8 workers, each at a deque of its own, round one board. [`run_picks`]
+//! makes the steps on one thread, taking at each step the enabled label that a list of picks names.
+//! A [`Report`] is honest: its trace is a run of the script's nested statements, and its states, steps
+//! and blocked tasks are those of that run's last configuration.
 //!
 //! ```text
-//! let report = run_picks(alloc, &script, &[], 100_000)?;
+//! let report = run(&rt, alloc, &script, 2, 100_000, &Open)?;
 //! match report.outcome {
 //!     Outcome::Ended => print(report_text(alloc, &script, &report, true)?),
 //!     ..
@@ -14,22 +15,32 @@
 #![tactic(auto)]
 
 mod account;
+mod closing;
 mod counts;
-mod entry;
-mod outcome;
+mod fault;
+mod gate;
+mod hall;
+mod naming;
+mod own;
+mod pause;
 mod picks;
 mod report;
 mod runner;
 mod scripts;
 mod state_text;
 mod states;
+mod tally;
 mod text;
 mod trace;
 mod trace_lines;
+mod worker;
+mod workers;
 
+pub use closing::report_of;
 pub use counts::Counts;
-pub use entry::Entry;
-pub use outcome::Outcome;
+pub use fault::RunFault;
+pub use gate::{Gate, Open};
+pub use lvish_board::{Entry, Outcome};
 pub use picks::pick_at;
 pub use report::{FinalState, Report};
 pub use runner::run_program;
@@ -38,3 +49,4 @@ pub use states::States;
 pub use text::report_text;
 pub use trace::Trace;
 pub use trace_lines::trace_text;
+pub use workers::run;

@@ -1,7 +1,7 @@
 use crate::counts::Counts;
-use crate::outcome::Outcome;
 use crate::states::States;
 use crate::trace::Trace;
+use lvish_board::Outcome;
 
 /// A variable's content, and whether it is frozen.
 #[derive(Debug, Drop)]

@@ -6,10 +6,11 @@ ghost use Rattle.lvish_run.specs.Picked.{IsPicked};
 ghost use Rattle.lvish_run.specs.Alike.{IsAlike};
 ghost use Rattle.lvish_run.specs.Walk.{IsTurn, IsWalked, IsAccount};
 
-use crate::account::report_of;
-use crate::entry::Entry;
+use crate::account::{account_of, outcome_of};
+use crate::counts::Counts;
 use crate::picks::pick_at;
 use crate::report::Report;
+use lvish_board::Entry;
 use lvish_calculus::laws::{handing_kept, same_end};
 use lvish_calculus::{Label, Meaning, Program};
 use lvish_core::laws::{takes_core_runs, takes_something};
@@ -96,5 +97,9 @@ pub fn run_program<P: Program>(
     takes_something::<P>();
     let mut core = Core::new(alloc, program)?;
     let trace = walk(alloc, &mut core, picks, budget)?;
-    report_of(alloc, &core, trace)
+    let outcome = outcome_of(alloc, &core)?;
+    let account = account_of(alloc, &core, outcome)?;
+    let mut by_worker = Vec::new(alloc);
+    by_worker.push(core.steps())?;
+    Ok(account.report(core.steps(), trace, Counts::from(by_worker)))
 }

@@ -15,13 +15,19 @@ pub trait Runs {
     ghost use Rattle.lvish_compound.specs.declared.event.Event.{Event};
     ghost use Rattle.lvish_run.specs.declared.report.Report.{Report};
 
+    /// An honest report of a run of the script's nested statements by so many workers, within the
+    /// budget; of an end, that all ends that don't cross it are alike.
+    ghost is_run: { Self → ℕ → ℕ → Report Any Event → Type 0 };
+
     /// An honest report of the run of the script's nested statements that takes, at each step, the
     /// label that its pick names; of an end, that all ends that don't cross it are alike.
     ghost is_picked_run: { Self → List ℕ → ℕ → Report Any Event → Type 0 };
 }
 
 impl Runs for Script {
-    ghost use Rattle.lvish_run.specs.Scripts.{IsPickedRun};
+    ghost use Rattle.lvish_run.specs.Scripts.{IsRunBy, IsPickedRun};
+
+    ghost is_run = { λ script workers budget r. IsRunBy (⟦<Script as ScriptMeaning>⟧.machine script) script workers budget r };
 
     ghost is_picked_run = { λ script picks budget r. IsPickedRun ⟦<Event as Ord>⟧.cmp (⟦<Script as ScriptMeaning>⟧.machine script) script picks budget r };
 }

@@ -1,6 +1,6 @@
 ghost use Rattle.std.specs.Prelude.{◌≡◌};
 
-use crate::entry::Entry;
+use lvish_board::Entry;
 use std::marker::Model;
 
 /// The steps of a run, seen by contracts as a list.
@@ -11,7 +11,7 @@ pub struct Trace<E> {
 
 impl<E> Model for Trace<E> {
     ghost use Rattle.std.specs.Prelude.{List};
-    ghost use Rattle.lvish_run.specs.declared.entry.Entry.{Entry};
+    ghost use Rattle.lvish_board.specs.declared.entry.Entry.{Entry};
 
     ghost Value = { List (Entry E) };
 

@@ -2,10 +2,16 @@
 
 use lvish_cli::{Status, command};
 use std::alloc::AllocError;
+use std::rt::Files;
+use std::sync::Wait;
 use std::test::*;
+use std::thread::Threads;
 
 /// The status with which the words end, and whether standard error has a message of it.
-fn ending(rt: &HostRuntime, line: &str) -> Result<(u8, bool), AllocError> {
+fn ending<R: AllocGlobal + Files + Input + Print + Threads + Wait + Sync>(
+    rt: &R,
+    line: &str,
+) -> Result<(u8, bool), AllocError> {
     let words = line.split_whitespace().collect::<Vec<&str>>(rt.alloc())?;
     let status = command(rt, words.as_slice());
     Ok((status.number(), status.message().is_some()))
@@ -33,6 +39,9 @@ fn messages_end_their_lines(rt: HostRuntime) {
     for (status, message) in [
         (Status::Unreadable, Some("unreadable\n")),
         (Status::Memory, Some("memory\n")),
+        (Status::NoThread, Some("nothread\n")),
+        (Status::Stopped, Some("stopped\n")),
+        (Status::Mixed, Some("mixed\n")),
         (Status::Unwritten, None),
         (Status::Blocked, None),
     ] {

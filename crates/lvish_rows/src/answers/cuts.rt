@@ -2,6 +2,7 @@
 
 use crate::answer::{Answer, done};
 use crate::answers::performed::printed;
+use crate::host::Host;
 use std::alloc::{AllocError, Global};
 
 /// Lengths from the first to the last at which a check ends with one status.
@@ -25,15 +26,16 @@ impl Lengths {
 }
 
 /// The statuses of checks of the script's first bytes, for each number of bytes up to all.
-pub fn statuses_of_cuts(alloc: Global, script: &[u8]) -> Result<Answer, AllocError> {
+pub fn statuses_of_cuts<R: Host>(rt: &R, script: &[u8]) -> Result<Answer, AllocError> {
+    let alloc = rt.alloc();
     let mut text = String::new(alloc);
     let mut lengths = Lengths {
         first: 0,
         last: 0,
-        status: status_of_cut(alloc, script, 0)?,
+        status: status_of_cut(rt, script, 0)?,
     };
     for length in 0..script.len() + 1 {
-        let status = status_of_cut(alloc, script, length)?;
+        let status = status_of_cut(rt, script, length)?;
         if status == lengths.status {
             lengths.last = length;
         } else {
@@ -50,9 +52,9 @@ pub fn statuses_of_cuts(alloc: Global, script: &[u8]) -> Result<Answer, AllocErr
 }
 
 /// The status of a check of so many first bytes.
-fn status_of_cut(alloc: Global, script: &[u8], length: usize) -> Result<u8, AllocError> {
+fn status_of_cut<R: Host>(rt: &R, script: &[u8], length: usize) -> Result<u8, AllocError> {
     match script.get(..length) {
-        Some(part) => Ok(printed(alloc, &["check", "f"], part)?.status),
+        Some(part) => Ok(printed(rt, &["check", "f"], part)?.status),
         None => Ok(u8::MAX),
     }
 }

@@ -2,19 +2,94 @@
 
 use crate::answer::Answer;
 use crate::answers::orders::no_order;
+use crate::host::Host;
 use lvish_cli::{order_of, perform};
 use std::alloc::{AllocError, Global};
 
+/// By how many workers a run is made whose words don't say it.
+const WORKERS: [&str; 3] = ["1", "2", "8"];
+
+/// How often a run is made where it is asked for often.
+const OFTEN: u64 = 100;
+
 /// The status and the text with which the program ends under these words, where its file or standard
-/// input has this script.
-pub fn printed(alloc: Global, words: &[&str], script: &[u8]) -> Result<Answer, AllocError> {
+/// input has this script. A run whose words leave the workers open is made by 1, 2 and 8 of them.
+pub fn printed<R: Host>(rt: &R, words: &[&str], script: &[u8]) -> Result<Answer, AllocError> {
+    if leaves_workers_open(words) {
+        return printed_alike(rt, words, script, 1);
+    }
+    printed_once(rt, words, script)
+}
+
+/// The same of a run that is made 100 times by each of these numbers of workers.
+pub fn printed_often<R: Host>(rt: &R, words: &[&str], script: &[u8]) -> Result<Answer, AllocError> {
+    printed_alike(rt, words, script, OFTEN)
+}
+
+fn leaves_workers_open(words: &[&str]) -> bool {
+    words.first() == Some(&"run") && !words.contains(&"--workers")
+}
+
+/// What the program prints by each number of workers, so many times each: all of it where it is the
+/// same each time, else the first that is otherwise.
+fn printed_alike<R: Host>(
+    rt: &R,
+    words: &[&str],
+    script: &[u8],
+    times: u64,
+) -> Result<Answer, AllocError> {
+    let usual = printed_once(rt, words, script)?;
+    for number in WORKERS {
+        let by_number = words_with(rt.alloc(), words, number)?;
+        for _ in 0..times {
+            let other = printed_once(rt, by_number.as_slice(), script)?;
+            if other != usual {
+                return otherwise(rt.alloc(), &usual, number, &other);
+            }
+        }
+    }
+    Ok(usual)
+}
+
+/// The words, and how many workers run the script.
+fn words_with<'a>(
+    alloc: Global,
+    words: &[&'a str],
+    number: &'a str,
+) -> Result<Vec<&'a str>, AllocError> {
+    let mut all = Vec::with_capacity(alloc, words.len() + 2)?;
+    for word in words {
+        all.push(*word)?;
+    }
+    all.push("--workers")?;
+    all.push(number)?;
+    Ok(all)
+}
+
+/// What so many workers print, which isn't what was printed first.
+fn otherwise(
+    alloc: Global,
+    usual: &Answer,
+    number: &str,
+    other: &Answer,
+) -> Result<Answer, AllocError> {
+    let (status, text) = (other.status, other.text.as_str());
+    Ok(Answer {
+        status: usual.status,
+        text: format!(in alloc; "{}by {number} workers {status} {text}", usual.text)?,
+    })
+}
+
+/// The status and the text with which the program ends once.
+fn printed_once<R: Host>(rt: &R, words: &[&str], script: &[u8]) -> Result<Answer, AllocError> {
+    let alloc = rt.alloc();
     let order = match order_of(alloc, words) {
         Ok((order, _)) => order,
         Err(fault) => return no_order(alloc, &fault),
     };
     let mut reader = script;
     let mut writer: Vec<u8> = Vec::new(alloc);
-    let status = perform(alloc, &order, &mut reader, &mut writer);
+    let status = perform(rt, alloc, &order, &mut reader, &mut writer);
     Ok(Answer {
         status: status.number(),
         text: text_of(alloc, writer)?,

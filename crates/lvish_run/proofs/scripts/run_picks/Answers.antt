@@ -1,7 +1,7 @@
 use Rattle.std.proofs.Common.{◌∙◌, ap, length}
 use Rattle.lvish_task.specs.Meaning.{script_functions}
 use Rattle.lvish_task.specs.Run.{functions}
-use Rattle.lvish_run.proofs.OfScript.{said_there}
+use Rattle.lvish_run.proofs.OfScript.{said_there, picks_there}
 use Rattle.lvish_run.proofs.Reports.{four_ok}
 use Rattle.lvish_run.proofs.Texts.{kinds_count}
 use Rattle.lvish_run.proofs.scripts.run_picks.Goals as goal
@@ -12,6 +12,7 @@ returns c =
     let same = c.same_runs.ensures c.args.script.now c.in_ok-code.code c.in_ok-code.ensures in
     four_ok c.run_program.result
     (λ r honest picked handed alike.
-    let said = said_there _ _ _ _ _ _ _ (functions c.in_ok-code.code) (script_functions c.args.script.now) same _ _ _ _ r (rw many at honest) picked handed (rw many at alike) in
-    record { honest = said.0; picked = said.1; handed = said.2; alike = said.3 })
+    let said = said_there _ _ _ _ _ _ _ (functions c.in_ok-code.code) (script_functions c.args.script.now) same _ _ _ r (rw many at honest) handed (rw many at alike) in
+    let picks = picks_there _ _ _ _ _ _ _ (functions c.in_ok-code.code) (script_functions c.args.script.now) same _ _ _ r (rw many at honest) _ _ picked in
+    record { honest = said.0; picked = picks; handed = said.1; alike = said.2 })
     c.run_program.ensures.honest c.run_program.ensures.picked c.run_program.ensures.handed c.run_program.ensures.alike

@@ -1,0 +1,11 @@
+use Rattle.std.proofs.Common.{◌≡◌, ◌≢◌, true, All}
+use Rattle.lvish_run.specs.declared.own.Why.TheVariants.{Stopped}
+use Rattle.lvish_run.specs.declared.own.Own.{Own}
+use Rattle.lvish_run.proofs.hall.join_all.Given as goal
+
+abbrev pub invariant-loop-handle : goal.invariant-loop-handle
+invariant-loop-handle g l = record {
+  can : (goal.iterator-loop-handle g).can_next l.handle-iterator;
+  finite : (goal.iterator-loop-handle g).is_finite l.handle-iterator;
+  patient : g.G.Gate.patient ≡ true → All (λ (o : Own). o.why ≢ Stopped) l.owns.items;
+}

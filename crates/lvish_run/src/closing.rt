@@ -1,0 +1,68 @@
+//! The report of a board that is over.
+
+ghost use Rattle.std.specs.Prelude.{◌≡◌, ◌≢◌, IfOk};
+ghost use Rattle.lvish_calculus.specs.Handing.{IsHandedWell};
+ghost use Rattle.lvish_run.specs.Honest.{IsHonest, labels_of};
+ghost use Rattle.lvish_run.specs.Alike.{IsAlike};
+
+use crate::account::account_of;
+use crate::fault::RunFault;
+use crate::report::Report;
+use crate::tally::tally;
+use lvish_board::{Board, Named, Outcome};
+use lvish_calculus::laws::{handing_kept, same_end};
+use lvish_calculus::{Meaning, Program};
+use lvish_core::laws::takes_something;
+use lvish_lattice::{Lattice, Plain};
+use std::alloc::{AllocError, Global};
+
+/// An equal outcome.
+fn copy_of<E: Plain>(alloc: Global, outcome: &Outcome<E>) -> Result<Outcome<E>, AllocError>
+    ensures { IfOk result (λ o. o ≡ outcome.now) }
+{
+    match outcome {
+        Outcome::Ended => Ok(Outcome::Ended),
+        Outcome::Error {
+            kind,
+            variable,
+            task,
+        } => Ok(Outcome::Error {
+            kind: *kind,
+            variable: *variable,
+            task: task.copy(alloc)?,
+        }),
+        Outcome::Budget => Ok(Outcome::Budget),
+    }
+}
+
+/// The report of a board that is over, by so many workers.
+///
+/// # Errors
+///
+/// `Memory` where a growth was refused; `Mixed` where the board isn't over, or has steps of other
+/// workers.
+pub fn report_of<P: Program, J: Named<P>>(
+    alloc: Global,
+    board: Board<'_, P, J>,
+    workers: usize,
+) -> Result<Report<P::Lat, <P::Lat as Lattice>::Event>, RunFault>
+    ensures honest { IfOk result (λ r. IsHonest (⟦<P as Meaning>⟧.machine J.program) (P.functions J.program).variables workers J.budget r) }
+    // What handlers are handed in it.
+    ensures handed { IfOk result (λ r. IsHandedWell (⟦<P as Meaning>⟧.machine J.program) (labels_of r.trace)) }
+    // What it says of all other runs that end without an error.
+    ensures alike { IfOk result (λ r. IsAlike (⟦<P as Meaning>⟧.machine J.program) (P.functions J.program).variables r) }
+    ensures not_stopped { result ≢ Err RunFault.Stopped }
+    ensures all_there { result ≢ Err RunFault.NoThread }
+{
+    handing_kept::<P>();
+    same_end::<P>();
+    takes_something::<P>();
+    let Some(over) = board.over() else {
+        return Err(RunFault::Mixed);
+    };
+    let outcome = copy_of(alloc, over)?;
+    let by_worker = tally(alloc, board.trace(), workers)?;
+    let account = account_of(alloc, board.core(), outcome)?;
+    let trace = board.into_trace();
+    Ok(account.report(trace.len() as u64, trace, by_worker))
+}

@@ -1,0 +1,33 @@
+use lvish_compound::Event;
+use lvish_names::TaskName;
+
+/// What a worker passes before each stretch of a task and on each idle turn, with no lock held.
+pub trait Gate: Sync {
+    ghost use Rattle.std.specs.Prelude.{◌≡◌, Bool, true};
+
+    /// Whether `idle` always answers true.
+    ghost patient: { Bool };
+
+    /// Called by the worker before it runs local statements of the task.
+    fn enter(&self, worker: usize, task: &TaskName<Event>);
+
+    /// Called by the worker when it has found no work. `false` stops the run.
+    fn idle(&self, worker: usize) -> bool
+        ensures { patient ≡ true → result ≡ true };
+}
+
+/// A gate that never stops.
+#[derive(Drop)]
+pub struct Open;
+
+impl Gate for Open {
+    ghost use Rattle.std.specs.Prelude.{true};
+
+    ghost patient = { true };
+
+    fn enter(&self, _worker: usize, _task: &TaskName<Event>) {}
+
+    fn idle(&self, _worker: usize) -> bool {
+        true
+    }
+}

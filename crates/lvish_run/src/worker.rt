@@ -1,0 +1,311 @@
+//! What a worker does: it finds work, does it, and leaves when the board is over.
+
+ghost use Rattle.std.specs.Prelude.{◌≡◌, ◌≢◌, ◌≤◌, ◌<◌, ◌⊎◌, length, true, Some, vec_len, vec_capacity};
+ghost use Rattle.lvish_deal.specs.Place.{IsSameSeat};
+ghost use Rattle.lvish_run.specs.declared.own.Why.TheVariants.{Stopped};
+
+use crate::gate::Gate;
+use crate::own::{Own, Step, Why};
+use crate::pause::Pause;
+use lvish_board::{Act, Asked, Board, Named, Work, stretch};
+use lvish_compound::Event;
+use lvish_deal::{Seat, Steal};
+use lvish_names::HandlerName;
+use lvish_task::Code;
+use std::alloc::Global;
+use std::sync::atomic::{AtomicBool, Ordering};
+use std::sync::{Mutex, Wait};
+
+/// What came of a piece of work.
+#[derive(Drop)]
+enum Turn<J: Named<Code>> {
+    /// The worker goes on: with this, or with what it finds.
+    On(Option<Work<Code, J>>),
+    /// The board is over.
+    Over,
+    /// A growth was refused, or a push on its deque.
+    Memory,
+}
+
+/// Works until the board is over, another worker has left, or this one must leave.
+pub fn work<J: Named<Code>, R: Wait, G: Gate>(
+    rt: &R,
+    alloc: Global,
+    seat: Seat<Work<Code, J>>,
+    code: &Code,
+    board: &Mutex<Board<'_, Code, J>>,
+    left: &AtomicBool,
+    gate: &G,
+) -> Own
+    requires { code.now ≡ J.program }
+    ensures { G.patient ≡ true → result.why ≢ Stopped }
+{
+    let mut seat = seat;
+    let mut steps = Vec::new(alloc);
+    let why = turns(rt, alloc, code, board, left, gate, &mut seat, &mut steps);
+    left.store(true, Ordering::SeqCst);
+    Own {
+        worker: seat.number(),
+        steps,
+        why,
+    }
+}
+
+/// Turn after turn, until one says why the worker leaves.
+fn turns<J: Named<Code>, R: Wait, G: Gate>(
+    rt: &R,
+    alloc: Global,
+    code: &Code,
+    board: &Mutex<Board<'_, Code, J>>,
+    left: &AtomicBool,
+    gate: &G,
+    seat: &mut Seat<Work<Code, J>>,
+    steps: &mut Vec<Step>,
+) -> Why
+    requires { code.now ≡ J.program }
+    ensures { G.patient ≡ true → result ≢ Stopped }
+{
+    let pause = Pause::new();
+    let mut own = None;
+    for _ in rt.forever() {
+        if left.load(Ordering::SeqCst) {
+            return Why::Others;
+        }
+        match take_turn(rt, alloc, code, board, gate, seat, steps, &pause, own) {
+            Ok(next) => own = next,
+            Err(why) => return why,
+        }
+    }
+    unreachable!()
+}
+
+/// One turn: its task's next ticket, or what it finds, or an idle turn. It answers the task's next
+/// ticket, or why the worker leaves.
+fn take_turn<J: Named<Code>, R: Wait, G: Gate>(
+    rt: &R,
+    alloc: Global,
+    code: &Code,
+    board: &Mutex<Board<'_, Code, J>>,
+    gate: &G,
+    seat: &mut Seat<Work<Code, J>>,
+    steps: &mut Vec<Step>,
+    pause: &Pause,
+    own: Option<Work<Code, J>>,
+) -> Result<Option<Work<Code, J>>, Why>
+    requires { code.now ≡ J.program }
+    ensures { G.patient ≡ true → result ≢ Err Stopped }
+{
+    let Some(work) = own_or_found(seat, own) else {
+        return match idle(rt, board, gate, pause, seat.number()) {
+            Some(why) => Err(why),
+            None => Ok(None),
+        };
+    };
+    pause.reset();
+    match take_up(rt, alloc, code, board, gate, seat, steps, work) {
+        Turn::On(next) => Ok(next),
+        Turn::Over => Err(Why::Over),
+        Turn::Memory => Err(Why::Memory),
+    }
+}
+
+/// An idle turn: it says why the worker leaves, if it does. Whoever makes the last step looks whether
+/// the board is over, so an idle worker takes the lock for that only before it sleeps.
+fn idle<J: Named<Code>, R: Wait, G: Gate>(
+    rt: &R,
+    board: &Mutex<Board<'_, Code, J>>,
+    gate: &G,
+    pause: &Pause,
+    worker: usize,
+) -> Option<Why>
+    ensures { G.patient ≡ true → result ≢ Some Stopped }
+{
+    if pause.is_sleep() && is_over(rt, board) {
+        return Some(Why::Over);
+    }
+    if !gate.idle(worker) {
+        return Some(Why::Stopped);
+    }
+    pause.make(rt);
+    None
+}
+
+/// Its task's next ticket, or else what it finds.
+fn own_or_found<T: Drop>(seat: &mut Seat<T>, own: Option<T>) -> Option<T> {
+    match own {
+        Some(work) => Some(work),
+        None => find(seat),
+    }
+}
+
+/// The work at the front of its own deque, or of the first of the others that has some, from its own
+/// number on.
+fn find<T>(seat: &mut Seat<T>) -> Option<T>
+    ensures { IsSameSeat seat.old seat.new }
+{
+    if let Some(item) = seat.pop() {
+        return Some(item);
+    }
+    let own = seat.number();
+    let seats = seat.seats();
+    match steal(seat, own + 1, seats) {
+        Some(item) => Some(item),
+        None => steal(seat, 0, own),
+    }
+}
+
+/// What is at the front of the first of these deques that has something.
+fn steal<T>(seat: &mut Seat<T>, first: usize, end: usize) -> Option<T>
+    requires among { end ≤ length seat.old.deal }
+    requires others { (end ≤ seat.old.number) ⊎ (seat.old.number < first) }
+    ensures { IsSameSeat seat.old seat.new }
+{
+    for from in first..end {
+        if let Steal::Taken(item) = seat.steal(from) {
+            return Some(item);
+        }
+    }
+    None
+}
+
+/// Whether the board is over.
+fn is_over<J: Named<Code>, R: Wait>(rt: &R, board: &Mutex<Board<'_, Code, J>>) -> bool {
+    board.lock(rt).over().is_some()
+}
+
+/// Does one piece of work.
+fn take_up<J: Named<Code>, R: Wait, G: Gate>(
+    rt: &R,
+    alloc: Global,
+    code: &Code,
+    board: &Mutex<Board<'_, Code, J>>,
+    gate: &G,
+    seat: &mut Seat<Work<Code, J>>,
+    steps: &mut Vec<Step>,
+    work: Work<Code, J>,
+) -> Turn<J>
+    requires { code.now ≡ J.program }
+{
+    match work {
+        Work::Stretch(ticket) => {
+            gate.enter(seat.number(), ticket.task());
+            match stretch(alloc, code, ticket) {
+                Ok(asked) => act(rt, alloc, board, seat, steps, asked),
+                Err(_ticket) => Turn::Memory,
+            }
+        }
+        Work::Act(asked) => act(rt, alloc, board, seat, steps, asked),
+        Work::Hand(handler) => hand(rt, alloc, board, seat, steps, handler),
+    }
+}
+
+/// Takes what a task asks for to the board.
+fn act<J: Named<Code>, R: Wait>(
+    rt: &R,
+    alloc: Global,
+    board: &Mutex<Board<'_, Code, J>>,
+    seat: &mut Seat<Work<Code, J>>,
+    steps: &mut Vec<Step>,
+    asked: Asked<Code, J>,
+) -> Turn<J> {
+    let Ok(task) = asked.task().copy(alloc) else {
+        return Turn::Memory;
+    };
+    if steps.reserve(1).is_err() {
+        return Turn::Memory;
+    }
+    let answer = board.lock(rt).act(alloc, seat.number(), asked);
+    go_by(rt, board, seat, steps, Step::Act(task), answer)
+}
+
+/// Takes a handler to the board.
+fn hand<J: Named<Code>, R: Wait>(
+    rt: &R,
+    alloc: Global,
+    board: &Mutex<Board<'_, Code, J>>,
+    seat: &mut Seat<Work<Code, J>>,
+    steps: &mut Vec<Step>,
+    handler: HandlerName<Event>,
+) -> Turn<J> {
+    let Ok(name) = handler.copy(alloc) else {
+        return Turn::Memory;
+    };
+    if steps.reserve(1).is_err() {
+        return Turn::Memory;
+    }
+    let answer = board.lock(rt).hand(alloc, seat.number(), handler);
+    go_by(rt, board, seat, steps, Step::Hand(name), answer)
+}
+
+/// Goes on by what the board answered. Where the step's task goes on, its next ticket is the first of
+/// the work.
+fn go_by<J: Named<Code>, R: Wait>(
+    rt: &R,
+    board: &Mutex<Board<'_, Code, J>>,
+    seat: &mut Seat<Work<Code, J>>,
+    steps: &mut Vec<Step>,
+    step: Step,
+    answer: Act<Code, J>,
+) -> Turn<J>
+    requires room { vec_len steps.old < vec_capacity steps.old }
+{
+    match answer {
+        Act::Over => Turn::Over,
+        Act::Stale => Turn::On(None),
+        Act::Parked => look(rt, board),
+        Act::Memory(_work) => Turn::Memory,
+        Act::Next(works) => {
+            let goes_on = step.is_act();
+            steps.push_reserved(step);
+            if goes_on {
+                go_on(seat, works)
+            } else {
+                leave(rt, board, seat, works)
+            }
+        }
+        Act::Gone(works) => {
+            steps.push_reserved(step);
+            leave(rt, board, seat, works)
+        }
+    }
+}
+
+/// Goes on with the first piece of work, and leaves the others on its deque.
+fn go_on<J: Named<Code>>(seat: &mut Seat<Work<Code, J>>, works: Vec<Work<Code, J>>) -> Turn<J> {
+    let mut own = None;
+    for work in works {
+        if own.is_none() {
+            own = Some(work);
+        } else if seat.push(work).is_err() {
+            return Turn::Memory;
+        }
+    }
+    Turn::On(own)
+}
+
+/// Leaves all of the work on its deque. Where there is none, the board may be over.
+fn leave<J: Named<Code>, R: Wait>(
+    rt: &R,
+    board: &Mutex<Board<'_, Code, J>>,
+    seat: &mut Seat<Work<Code, J>>,
+    works: Vec<Work<Code, J>>,
+) -> Turn<J> {
+    if works.is_empty() {
+        return look(rt, board);
+    }
+    for work in works {
+        if seat.push(work).is_err() {
+            return Turn::Memory;
+        }
+    }
+    Turn::On(None)
+}
+
+/// Goes on unless the board is over.
+fn look<J: Named<Code>, R: Wait>(rt: &R, board: &Mutex<Board<'_, Code, J>>) -> Turn<J> {
+    if is_over(rt, board) {
+        Turn::Over
+    } else {
+        Turn::On(None)
+    }
+}

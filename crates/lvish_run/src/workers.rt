@@ -1,0 +1,104 @@
+ghost use Rattle.std.specs.Prelude.{◌≡◌, ◌≢◌, ◌≤◌, ◌<◌, IfOk, All, true, false};
+ghost use Rattle.lvish_calculus.specs.Handing.{IsHandedWell};
+ghost use Rattle.lvish_run.specs.Honest.{IsHonest, labels_of};
+ghost use Rattle.lvish_run.specs.Alike.{IsAlike};
+ghost use Rattle.lvish_run.specs.declared.own.Why.TheVariants.{Stopped};
+
+use crate::closing::report_of;
+use crate::fault::RunFault;
+use crate::gate::Gate;
+use crate::hall::{Crew, together};
+use crate::naming::{Naming, Of};
+use crate::report::Report;
+use crate::scripts::Runs;
+use lvish_board::{Board, Named};
+use lvish_calculus::{Meaning, Program};
+use lvish_compound::{Any, Event};
+use lvish_deal::deal;
+use lvish_syntax::Script;
+use lvish_task::Code;
+use lvish_task::laws::same_runs;
+use std::alloc::Global;
+use std::marker::Brand;
+use std::sync::atomic::AtomicBool;
+use std::sync::{Mutex, Wait};
+use std::thread::Threads;
+
+/// Runs the script by so many workers, each at a deque of its own: worker 0 on this thread, the
+/// others on threads of their own.
+///
+/// # Errors
+///
+/// `NoThread` where a thread couldn't be started, else `Memory` where a growth or a push was refused,
+/// else `Stopped` where some `idle` of the gate answered false, else `Mixed` where the workers' own
+/// lists of steps differ from the trace, or the board isn't over.
+pub fn run<R: Threads + Wait + Sync, G: Gate>(
+    rt: &R,
+    alloc: Global,
+    script: &Script,
+    workers: usize,
+    budget: u64,
+    gate: &G,
+) -> Result<Report<Any, Event>, RunFault>
+    requires some { 0 < workers }
+    requires few { workers ≤ 8 }
+    requires bounded { budget ≤ 1000000 }
+    ensures honest { IfOk result (λ r. ⟦<Script as Runs>⟧.is_run script.now workers budget r) }
+    ensures patient { G.patient ≡ true → result ≢ Err RunFault.Stopped }
+    ensures alone { workers ≡ 1 → result ≢ Err RunFault.NoThread }
+{
+    same_runs();
+    let code = Code::new(alloc, script)?;
+    run_named::<Brand, R, G>(rt, alloc, &code, workers, budget, gate)
+}
+
+/// Runs the code that the name is for.
+fn run_named<N: Naming + Send + Sync, R: Threads + Wait + Sync, G: Gate>(
+    rt: &R,
+    alloc: Global,
+    code: &Code,
+    workers: usize,
+    budget: u64,
+    gate: &G,
+) -> Result<Report<Any, Event>, RunFault>
+    requires some { 0 < workers }
+    requires few { workers ≤ 8 }
+    requires bounded { budget ≤ 1000000 }
+    requires code { code.now ≡ N.code }
+    requires budget { budget ≡ N.budget }
+    ensures honest { IfOk result (λ r. IsHonest (⟦<Code as Meaning>⟧.machine N.code) (⟦<Code as Program>⟧.functions N.code).variables workers N.budget r) }
+    ensures handed { IfOk result (λ r. IsHandedWell (⟦<Code as Meaning>⟧.machine N.code) (labels_of r.trace)) }
+    ensures alike { IfOk result (λ r. IsAlike (⟦<Code as Meaning>⟧.machine N.code) (⟦<Code as Program>⟧.functions N.code).variables r) }
+    ensures patient { G.patient ≡ true → result ≢ Err RunFault.Stopped }
+    ensures alone { workers ≡ 1 → result ≢ Err RunFault.NoThread }
+{
+    let (board, first) = Board::<Code, Of<N>>::new(alloc, code, budget)?;
+    let mut others = deal(alloc, workers)?;
+    let mut mine = others.remove(0);
+    if mine.push(first).is_err() {
+        return Err(RunFault::Memory);
+    }
+    let board = Mutex::new(board);
+    let left = AtomicBool::new(false);
+    let crew = together(rt, alloc, mine, others, code, &board, &left, gate)?;
+    settle(alloc, board.into_inner(), crew, workers)
+}
+
+/// The report of a board that is over, or why there is none.
+fn settle<J: Named<Code>>(
+    alloc: Global,
+    board: Board<'_, Code, J>,
+    crew: Crew,
+    workers: usize,
+) -> Result<Report<Any, Event>, RunFault>
+    ensures honest { IfOk result (λ r. IsHonest (⟦<Code as Meaning>⟧.machine J.program) (⟦<Code as Program>⟧.functions J.program).variables workers J.budget r) }
+    ensures handed { IfOk result (λ r. IsHandedWell (⟦<Code as Meaning>⟧.machine J.program) (labels_of r.trace)) }
+    ensures alike { IfOk result (λ r. IsAlike (⟦<Code as Meaning>⟧.machine J.program) (⟦<Code as Program>⟧.functions J.program).variables r) }
+    ensures patient { All (λ own. own.why ≢ Stopped) crew.owns.items → result ≢ Err RunFault.Stopped }
+    ensures all_there { crew.missing ≡ false → result ≢ Err RunFault.NoThread }
+{
+    match crew.fault(board.trace()) {
+        Some(fault) => Err(fault),
+        None => report_of(alloc, board, workers),
+    }
+}

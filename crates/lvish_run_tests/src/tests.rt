@@ -1,0 +1,215 @@
+//! Scripts that are run by workers.
+
+ghost use Rattle.std.specs.Prelude.{◌≤◌, ◌<◌};
+
+mod gates;
+mod scripts;
+
+use gates::{Away, Meeting, Resting};
+use lvish_calculus::Label;
+use lvish_compound::{Any, Event};
+use lvish_names::{Part, TaskName};
+use lvish_run::{Entry, Open, Outcome, Report, RunFault, run, run_picks};
+use lvish_script::read_script;
+use lvish_syntax::Script;
+use std::alloc::{AllocError, Global};
+use std::sync::Wait;
+use std::sync::atomic::Ordering;
+use std::test::Fail;
+use std::thread::Threads;
+
+/// A word for an outcome.
+fn word(outcome: &Outcome<Event>) -> &str {
+    match outcome {
+        Outcome::Ended => "ended",
+        Outcome::Error { .. } => "error",
+        Outcome::Budget => "budget",
+    }
+}
+
+/// The outcome, the steps and the blocked tasks of a report.
+fn line_of(alloc: Global, report: &Report<Any, Event>) -> Result<String, AllocError> {
+    let word = word(&report.outcome);
+    format!(in alloc; "{word}, steps {}, blocked {}", report.steps, report.blocked)
+}
+
+/// Whether the states of two reports are equal.
+fn same_states(a: &Report<Any, Event>, b: &Report<Any, Event>) -> bool {
+    let (a, b) = (a.states.as_slice(), b.states.as_slice());
+    a.len() == b.len()
+        && a
+            .iter()
+            .zip(b.iter())
+            .all(|(x, y)| x.content == y.content && x.frozen == y.frozen)
+}
+
+/// Runs the script by 1 to 8 workers, so many times each, against one run by picks.
+fn alike<R: Threads + Wait + Sync>(rt: &R, alloc: Global, text: &str, times: u64) -> Result<String, Fail> {
+    let script = read_script(alloc, text.as_bytes())?;
+    let picked = run_picks(alloc, &script, &[], 100_000)?;
+    for workers in 1..9 {
+        for _ in 0..times {
+            let report = run(rt, alloc, &script, workers, 100_000, &Open)?;
+            if !same_states(&report, &picked) || line_of(alloc, &report)? != line_of(alloc, &picked)? {
+                return Ok(line_of(alloc, &report)?);
+            }
+            if report.by_worker.as_slice().len() != workers {
+                return Ok(format!(in alloc; "other workers than {workers}")?);
+            }
+        }
+    }
+    Ok(line_of(alloc, &picked)?)
+}
+
+#[test]
+fn runs_end_alike(rt: HostRuntime) -> Result<(), Fail> {
+    let alloc = rt.alloc();
+    assert_eq!(rt; alike(&rt, alloc, scripts::READ, 10)?.as_str(), "ended, steps 6, blocked 0");
+    assert_eq!(rt; alike(&rt, alloc, scripts::NOTHING, 10)?.as_str(), "ended, steps 1, blocked 0");
+    assert_eq!(rt; alike(&rt, alloc, scripts::BLOCKED, 10)?.as_str(), "ended, steps 0, blocked 1");
+    assert_eq!(rt; alike(&rt, alloc, scripts::TWICE, 10)?.as_str(), "ended, steps 7, blocked 0");
+    assert_eq!(rt; alike(&rt, alloc, scripts::HANDLED, 10)?.as_str(), "ended, steps 11, blocked 0");
+    assert_eq!(rt; alike(&rt, alloc, scripts::CASCADE, 20)?.as_str(), "ended, steps 18, blocked 0");
+    assert_eq!(rt; alike(&rt, alloc, scripts::WAITS, 10)?.as_str(), "ended, steps 4, blocked 1");
+    assert_eq!(rt; alike(&rt, alloc, scripts::TREE, 10)?.as_str(), "ended, steps 190, blocked 0");
+    Ok(())
+}
+
+/// The outcome of a run by so many workers within a budget.
+fn outcome_of<R: Threads + Wait + Sync>(
+    rt: &R,
+    alloc: Global,
+    text: &str,
+    workers: usize,
+    budget: u64,
+) -> Result<String, Fail>
+    requires some { 0 < workers }
+    requires few { workers ≤ 8 }
+    requires bounded { budget ≤ 1000000 }
+{
+    let script = read_script(alloc, text.as_bytes())?;
+    let report = run(rt, alloc, &script, workers, budget, &Open)?;
+    Ok(line_of(alloc, &report)?)
+}
+
+#[test]
+fn budgets_stop_runs(rt: HostRuntime) -> Result<(), Fail> {
+    let alloc = rt.alloc();
+    for workers in 1..9 {
+        assert_eq!(rt; outcome_of(&rt, alloc, scripts::ENDLESS, workers, 10)?.as_str(), "budget, steps 10, blocked 1");
+        assert_eq!(rt; outcome_of(&rt, alloc, scripts::READ, workers, 6)?.as_str(), "ended, steps 6, blocked 0");
+        assert_eq!(rt; outcome_of(&rt, alloc, scripts::NOTHING, workers, 0)?.as_str(), "budget, steps 0, blocked 1");
+        assert_eq!(rt; outcome_of(&rt, alloc, scripts::BLOCKED, workers, 0)?.as_str(), "ended, steps 0, blocked 1");
+        let script = read_script(alloc, scripts::TREE.as_bytes())?;
+        let report = run(&rt, alloc, &script, workers, 7, &Open)?;
+        assert_eq!(rt; word(&report.outcome), "budget");
+        assert_eq!(rt; report.steps, 7);
+        assert_eq!(rt; report.trace.as_slice().len(), 7);
+    }
+    Ok(())
+}
+
+/// What the report of an error says.
+fn error_line(alloc: Global, report: &Report<Any, Event>) -> Result<String, AllocError> {
+    let (blocked, states) = (report.blocked, report.states.as_slice().len());
+    match &report.outcome {
+        Outcome::Error {
+            kind,
+            variable: Some(variable),
+            task,
+        } => format!(in alloc; "{kind:?} {variable} {task}, blocked {blocked}, states {states}"),
+        Outcome::Error {
+            kind,
+            variable: None,
+            task,
+        } => format!(in alloc; "{kind:?} {task}, blocked {blocked}, states {states}"),
+        Outcome::Ended => String::from_str(alloc, "ended"),
+        Outcome::Budget => String::from_str(alloc, "budget"),
+    }
+}
+
+/// What the report of the script in conflict says.
+fn conflict_of<R: Threads + Wait + Sync>(
+    rt: &R,
+    alloc: Global,
+    workers: usize,
+) -> Result<String, Fail>
+    requires some { 0 < workers }
+    requires few { workers ≤ 8 }
+{
+    let script = read_script(alloc, scripts::CONFLICT.as_bytes())?;
+    let report = run(rt, alloc, &script, workers, 1000, &Open)?;
+    Ok(error_line(alloc, &report)?)
+}
+
+/// Either of the two tasks that put may be the second.
+#[test]
+fn errors_end_runs(rt: HostRuntime) -> Result<(), Fail> {
+    let alloc = rt.alloc();
+    for workers in 1..9 {
+        for _ in 0..100 {
+            let said = conflict_of(&rt, alloc, workers)?;
+            assert!(rt;
+                said.as_str() == "Conflict 0 main/1, blocked 0, states 0"
+                    || said.as_str() == "Conflict 0 main/2, blocked 0, states 0",
+                "{said}"
+            );
+        }
+    }
+    Ok(())
+}
+
+/// The worker of the task's first step, and 1.
+fn mark_of(trace: &[Entry<Event>], number: u64) -> Option<u64> {
+    for entry in trace {
+        if let Label::Task(task) = &entry.label {
+            if let [Part::Fork(fork)] = task.parts() {
+                if *fork == number {
+                    return Some((entry.worker as u64).saturating_add(1));
+                }
+            }
+        }
+    }
+    None
+}
+
+#[test]
+fn two_workers_meet(rt: HostRuntime) -> Result<(), Fail> {
+    let alloc = rt.alloc();
+    let script = read_script(alloc, scripts::TWICE.as_bytes())?;
+    let gate = Meeting::new();
+    let report = run(&rt, alloc, &script, 2, 1000, &gate)?;
+    assert_eq!(rt; line_of(alloc, &report)?.as_str(), "ended, steps 7, blocked 0");
+    assert!(rt; !gate.late.load(Ordering::SeqCst));
+    assert_eq!(rt; mark_of(report.trace.as_slice(), 1).ok_or("main/1 made no step")?, gate.first.load(Ordering::SeqCst));
+    assert_eq!(rt; mark_of(report.trace.as_slice(), 2).ok_or("main/2 made no step")?, gate.second.load(Ordering::SeqCst));
+    Ok(())
+}
+
+#[test]
+fn steps_are_made_while_a_worker_is_idle(rt: HostRuntime) -> Result<(), Fail> {
+    let alloc = rt.alloc();
+    let script = read_script(alloc, scripts::TWICE.as_bytes())?;
+    let gate = Resting::new();
+    let report = run(&rt, alloc, &script, 2, 1000, &gate)?;
+    assert_eq!(rt; line_of(alloc, &report)?.as_str(), "ended, steps 7, blocked 0");
+    assert!(rt; gate.idled.load(Ordering::SeqCst));
+    assert!(rt; !gate.late.load(Ordering::SeqCst));
+    Ok(())
+}
+
+#[test]
+fn a_gate_stops_a_run(rt: HostRuntime) -> Result<(), Fail> {
+    let alloc = rt.alloc();
+    let script = read_script(alloc, scripts::NOTHING.as_bytes())?;
+    for workers in 2..4 {
+        let gate = Away::new();
+        let fault = run(&rt, alloc, &script, workers, 1000, &gate)
+            .err()
+            .ok_or("a report")?;
+        assert_eq!(rt; fault, RunFault::Stopped);
+        assert!(rt; !gate.late.load(Ordering::SeqCst));
+        assert_eq!(rt; fault.to_string(alloc)?.as_str(), "stopped");
+    }
+    Ok(())
+}

@@ -1,0 +1,161 @@
+//! Gates that hold workers until others have come.
+
+ghost use Rattle.std.specs.Prelude.{true, false};
+
+use crossbeam_utils::Backoff;
+use lvish_compound::Event;
+use lvish_names::{Part, TaskName};
+use lvish_run::Gate;
+use std::sync::atomic::{AtomicBool, AtomicU64, Ordering};
+
+/// How many turns a gate holds a worker at most.
+const TURNS: u64 = 1_000_000;
+
+/// Holds whichever of `main/1` and `main/2` is entered first until the other was entered by another
+/// worker.
+#[derive(Drop)]
+pub struct Meeting {
+    /// The mark of the worker that first entered `main/1`, 0 before; a worker's mark is its number
+    /// and 1.
+    pub first: AtomicU64,
+    pub second: AtomicU64,
+    /// Whether a worker was held for all its turns.
+    pub late: AtomicBool,
+}
+
+impl Meeting {
+    pub fn new() -> Meeting {
+        Meeting {
+            first: AtomicU64::new(0),
+            second: AtomicU64::new(0),
+            late: AtomicBool::new(false),
+        }
+    }
+
+    fn hold(&self, mine: &AtomicU64, other: &AtomicU64, mark: u64) {
+        if mine
+            .compare_exchange(0, mark, Ordering::SeqCst, Ordering::SeqCst)
+            .is_err()
+        {
+            return;
+        }
+        let backoff = Backoff::new();
+        for _ in 0..TURNS {
+            let seen = other.load(Ordering::SeqCst);
+            if seen != 0 && seen != mark {
+                return;
+            }
+            backoff.snooze();
+        }
+        self.late.store(true, Ordering::SeqCst);
+    }
+}
+
+impl Gate for Meeting {
+    ghost use Rattle.std.specs.Prelude.{true};
+
+    ghost patient = { true };
+
+    fn enter(&self, worker: usize, task: &TaskName<Event>) {
+        let mark = (worker as u64).saturating_add(1);
+        match task.parts() {
+            [Part::Fork(1)] => self.hold(&self.first, &self.second, mark),
+            [Part::Fork(2)] => self.hold(&self.second, &self.first, mark),
+            _ => {}
+        }
+    }
+
+    fn idle(&self, _worker: usize) -> bool {
+        true
+    }
+}
+
+/// Waits for the flag, for so many turns at most; false where it hasn't come.
+fn comes(flag: &AtomicBool) -> bool {
+    let backoff = Backoff::new();
+    for _ in 0..TURNS {
+        if flag.load(Ordering::SeqCst) {
+            return true;
+        }
+        backoff.snooze();
+    }
+    false
+}
+
+/// Holds each idle worker until `main/2` was entered, and each worker that enters `main` until there
+/// was an idle one.
+#[derive(Drop)]
+pub struct Resting {
+    pub idled: AtomicBool,
+    pub entered: AtomicBool,
+    /// Whether a worker was held for all its turns.
+    pub late: AtomicBool,
+}
+
+impl Resting {
+    pub fn new() -> Resting {
+        Resting {
+            idled: AtomicBool::new(false),
+            entered: AtomicBool::new(false),
+            late: AtomicBool::new(false),
+        }
+    }
+
+    fn hold(&self, flag: &AtomicBool) {
+        if !comes(flag) {
+            self.late.store(true, Ordering::SeqCst);
+        }
+    }
+}
+
+impl Gate for Resting {
+    ghost use Rattle.std.specs.Prelude.{true};
+
+    ghost patient = { true };
+
+    fn enter(&self, _worker: usize, task: &TaskName<Event>) {
+        match task.parts() {
+            [] => self.hold(&self.idled),
+            [Part::Fork(2)] => self.entered.store(true, Ordering::SeqCst),
+            _ => {}
+        }
+    }
+
+    fn idle(&self, _worker: usize) -> bool {
+        self.idled.store(true, Ordering::SeqCst);
+        self.hold(&self.entered);
+        true
+    }
+}
+
+/// Holds each task until a worker was idle, and sends the first idle worker away.
+#[derive(Drop)]
+pub struct Away {
+    pub idled: AtomicBool,
+    pub late: AtomicBool,
+}
+
+impl Away {
+    pub fn new() -> Away {
+        Away {
+            idled: AtomicBool::new(false),
+            late: AtomicBool::new(false),
+        }
+    }
+}
+
+impl Gate for Away {
+    ghost use Rattle.std.specs.Prelude.{false};
+
+    ghost patient = { false };
+
+    fn enter(&self, _worker: usize, _task: &TaskName<Event>) {
+        if !comes(&self.idled) {
+            self.late.store(true, Ordering::SeqCst);
+        }
+    }
+
+    fn idle(&self, _worker: usize) -> bool {
+        self.idled.swap(true, Ordering::SeqCst)
+    }
+}
