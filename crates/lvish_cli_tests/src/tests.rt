@@ -11,7 +11,7 @@ use fakes::{Refusal, ShortWriter};
 const COUNTING: &[u8] =
     b"set s\npool p s\nproc h k n\nlet c n < 5\nif c\nlet m n + 1\nput s m\nend\nend\nproc main\nhandle p h\nput s 1\nfreeze x s after p\nend\n";
 
-/// A writer that takes everything.
+/// A writer that takes everything, a few bytes at a time.
 fn willing() -> ShortWriter {
-    ShortWriter::new(0, Refusal::Fails)
+    ShortWriter::new(3, 0, Refusal::Fails)
 }

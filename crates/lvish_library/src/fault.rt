@@ -30,3 +30,16 @@ pub enum Fault {
     #[error(transparent)]
     Memory(#[from(alloc)] AllocError),
 }
+
+impl Fault {
+    /// Whether it is want of memory.
+    pub fn is_memory(&self) -> bool {
+        matches!(
+            self,
+            Fault::Memory(_)
+                | Fault::Name(NameFault::Memory)
+                | Fault::Put(PutFault::Memory)
+                | Fault::Add(AddFault::Memory)
+        )
+    }
+}

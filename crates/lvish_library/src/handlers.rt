@@ -27,14 +27,16 @@ where
 {
     match words {
         ["new", states @ ..] => {
+            let done = String::from_str(alloc, "ok")?;
             *bench = made(alloc, states)?;
-            Ok(String::from_str(alloc, "ok")?)
+            Ok(done)
         }
         ["add", path, number] => add(alloc, bench, handler(alloc, path, number)?),
         [verb, path, number] => of_handler(alloc, bench, verb, &handler(alloc, path, number)?),
         ["freeze"] => {
+            let done = String::from_str(alloc, "ok")?;
             bench.freeze(alloc)?;
-            Ok(String::from_str(alloc, "ok")?)
+            Ok(done)
         }
         [verb] => seen(alloc, bench, verb),
         _ => Err(Fault::Unreadable),
@@ -54,14 +56,14 @@ fn add<L: Notation>(
     bench: &mut Bench<L>,
     name: HandlerName<L::Event>,
 ) -> Result<String, Fault> {
-    let told = match bench.add(alloc, name) {
+    let done = String::from_str(alloc, "ok")?;
+    match bench.add(alloc, name) {
         Some(added) => {
             added?;
-            "ok"
+            Ok(done)
         }
-        None => "it is held",
-    };
-    Ok(String::from_str(alloc, told)?)
+        None => Ok(String::from_str(alloc, "it is held")?),
+    }
 }
 
 fn of_handler<L: Notation>(
@@ -74,8 +76,9 @@ fn of_handler<L: Notation>(
         "holds" => Ok(yes_or_no(alloc, bench.holds(name))?),
         "next" => Ok(event_text::<L>(alloc, bench.next(name))?),
         "advance" => {
+            let done = String::from_str(alloc, "ok")?;
             bench.advance(name)?;
-            Ok(String::from_str(alloc, "ok")?)
+            Ok(done)
         }
         _ => Err(Fault::Unreadable),
     }

@@ -1,7 +1,8 @@
 //! Compares what the library answers to each row of the files of `data/` with what stands beside it.
 //!
 //! A row is a line such as `set join 3,1 2 -> 1,2,3`: what is asked, and the answer. A row that is
-//! answered otherwise is printed with that answer; of each file the number of its other rows is.
+//! answered otherwise is printed with that answer; of each file the number of its other rows is. Where
+//! the first word is `refused`, each call is made once for each of its growths, which is refused then.
 #![tactic(auto)]
 
 mod desk;
@@ -14,15 +15,17 @@ mod notation;
 mod order;
 mod pools;
 mod reads;
+mod refused;
 mod rows;
 mod values;
 mod variables;
 mod words;
 
 use desk::Desk;
+use refused::told_at_last;
 use rows::compared;
 use std::process::ExitCode;
-use std::{fs, io};
+use std::{env, fs, io};
 
 const FILES: [&str; 6] = [
     "lvish_lattice",
@@ -44,10 +47,25 @@ fn main(rt: HostRuntime) -> ExitCode {
 }
 
 fn compare_all(rt: &HostRuntime, desk: &mut Desk) -> io::Result<()> {
+    let refuses = is_refused(rt)?;
     for file in FILES {
         let text = fs::read_to_string(rt, file)?;
-        let told = compared(rt.alloc(), desk, file, text.as_str())?;
+        let told = if refuses {
+            told_at_last(rt, desk, file, text.as_str())?
+        } else {
+            compared(rt.alloc(), desk, file, text.as_str())?
+        };
         rt.print(told.as_str())?;
     }
     Ok(())
+}
+
+/// Whether the first word is `refused`.
+fn is_refused(rt: &HostRuntime) -> io::Result<bool> {
+    let words: Vec<String> = env::args(rt)?.skip(1).collect(rt.alloc())?;
+    Ok(
+        words
+            .first()
+            .is_some_and(|first| first.as_str() == "refused"),
+    )
 }

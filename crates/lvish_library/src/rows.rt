@@ -24,7 +24,7 @@ pub fn compared(
 }
 
 /// Whether the line is neither empty nor a comment.
-fn is_row(line: &str) -> bool {
+pub fn is_row(line: &str) -> bool {
     !line.is_empty() && !line.starts_with('#')
 }
 

@@ -23,8 +23,9 @@ where
 {
     match words {
         ["new"] => {
+            let done = String::from_str(alloc, "ok")?;
             *variable = Variable::new(alloc);
-            Ok(String::from_str(alloc, "ok")?)
+            Ok(done)
         }
         ["put", path, number, state] => {
             let task = task(alloc, path)?;
@@ -50,8 +51,9 @@ fn put<L: Notation>(
     number: u64,
     state: &L,
 ) -> Result<String, Fault> {
+    let done = String::from_str(alloc, "ok")?;
     variable.put(alloc, task, number, state)?;
-    Ok(String::from_str(alloc, "ok")?)
+    Ok(done)
 }
 
 /// What is seen of the variable.

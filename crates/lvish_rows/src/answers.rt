@@ -3,10 +3,12 @@
 mod canonical;
 mod cuts;
 mod faults;
+mod likeness;
 mod lists;
 mod orders;
 mod parts;
-mod performed;
+pub mod performed;
+mod replayed;
 mod reports;
 
 use crate::answer::Answer;
@@ -29,6 +31,7 @@ pub fn answer_to<R: Host>(rt: &R, words: &[&str], script: &[u8]) -> Result<Answe
         "often" => performed::printed_often(rt, rest, script),
         "order" => orders::order_asked(alloc, rest),
         "parts" => parts::parts_read(alloc, script),
+        "replayed" => replayed::runs_replayed(rt, rest, script),
         "report" => reports::report_of(alloc, rest, script),
         _ => performed::printed(rt, words, script),
     }

@@ -47,7 +47,7 @@ fn answered<R: Host>(rt: &R, row: &Row<'_>, question: &Question<'_>) -> Result<A
 }
 
 /// The words between spaces; `""` stands for the empty word.
-fn words_of(alloc: Global, words: &str) -> Result<Vec<&str>, AllocError> {
+pub fn words_of(alloc: Global, words: &str) -> Result<Vec<&str>, AllocError> {
     let mut all = Vec::new(alloc);
     for word in words.split_whitespace() {
         all.push(if word == "\"\"" { "" } else { word })?;

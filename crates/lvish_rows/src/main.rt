@@ -1,7 +1,8 @@
 //! Runs the rows of files: worked examples of scripts, each with what has to be printed about it.
 //!
 //! The words are the names of the files. For each of them there is a line with the number of its
-//! comparisons, below a line for each that turned out otherwise.
+//! comparisons, below a line for each that turned out otherwise. Behind the word `refused` each
+//! question is asked once for each of its growths, which is refused then.
 #![tactic(auto)]
 
 mod answer;
@@ -11,6 +12,7 @@ mod copies;
 mod escapes;
 mod host;
 mod reading;
+mod refused;
 mod row;
 mod script_text;
 
@@ -18,11 +20,12 @@ use anyhow::{Context, Result, bail};
 use comparing::{Tally, compare};
 use host::Host;
 use reading::rows_of;
+use refused::{Tried, try_row};
 use std::process::ExitCode;
 use std::{env, fs};
 
 fn main(rt: HostRuntime) -> ExitCode {
-    match files(&rt).and_then(|files| compare_all(&rt, files.as_slice())) {
+    match words(&rt).and_then(|words| is_all_right(&rt, words.as_slice())) {
         Ok(true) => ExitCode::SUCCESS,
         Ok(false) => ExitCode::FAILURE,
         Err(error) => {
@@ -33,16 +36,47 @@ fn main(rt: HostRuntime) -> ExitCode {
     }
 }
 
-/// The names of the files.
-fn files(rt: &HostRuntime) -> Result<Vec<String>> {
+fn words(rt: &HostRuntime) -> Result<Vec<String>> {
     Ok(env::args(rt)?.skip(1).collect(rt.alloc())?)
+}
+
+/// Whether all turns out as it should in what the words ask for.
+fn is_all_right<R: Host>(rt: &R, words: &[String]) -> Result<bool> {
+    let Some((first, rest)) = words.split_first() else {
+        bail!("usage: lvish_rows [refused] FILE..");
+    };
+    if first.as_str() == "refused" {
+        return refuse_all(rt, rest);
+    }
+    compare_all(rt, words)
+}
+
+/// Whether no refused growth of any row of these files has another answer than it may.
+fn refuse_all<R: Host>(rt: &R, files: &[String]) -> Result<bool> {
+    let mut all = true;
+    for file in files {
+        let tried = refuse_file(rt, file.as_str()).context(format_args!("{file}"))?;
+        rt.println(format_args!("{file}: {tried}"))?;
+        if tried.others > 0 {
+            all = false;
+        }
+    }
+    Ok(all)
+}
+
+/// How many growths of the file's rows were refused, and how many had another answer than they may.
+fn refuse_file<R: Host>(rt: &R, file: &str) -> Result<Tried> {
+    let text = fs::read_to_string(rt, file)?;
+    let rows = rows_of(rt.alloc(), text.as_str())?;
+    let mut tried = Tried::new();
+    for row in rows.iter() {
+        try_row(rt, file, row, &mut tried)?;
+    }
+    Ok(tried)
 }
 
 /// Whether all rows of all these files are as expected.
 fn compare_all<R: Host>(rt: &R, files: &[String]) -> Result<bool> {
-    if files.is_empty() {
-        bail!("usage: lvish_rows FILE..");
-    }
     let mut all = true;
     for file in files {
         if !is_as_expected(rt, file.as_str())? {

@@ -30,27 +30,57 @@ fn word(outcome: &Outcome<Event>) -> &str {
 /// The outcome, the steps and the blocked tasks of a report.
 fn line_of(alloc: Global, report: &Report<Any, Event>) -> Result<String, AllocError> {
     let word = word(&report.outcome);
-    format!(in alloc; "{word}, steps {}, blocked {}", report.steps, report.blocked)
+    format!(in alloc;
+        "{word}, steps {}, blocked {}",
+        report.steps, report.blocked
+    )
 }
 
 /// Whether the states of two reports are equal.
 fn same_states(a: &Report<Any, Event>, b: &Report<Any, Event>) -> bool {
     let (a, b) = (a.states.as_slice(), b.states.as_slice());
     a.len() == b.len()
-        && a
-            .iter()
+        && a.iter()
             .zip(b.iter())
             .all(|(x, y)| x.content == y.content && x.frozen == y.frozen)
 }
 
+/// A run by so many workers within a budget; made again where a growth was refused, or a thread is
+/// missing for it.
+fn run_at_last<R: Threads + Wait + Sync>(
+    rt: &R,
+    alloc: Global,
+    script: &Script,
+    workers: usize,
+    budget: u64,
+) -> Result<Report<Any, Event>, RunFault>
+    requires some { 0 < workers }
+    requires few { workers ≤ 8 }
+    requires bounded { budget ≤ 1000000 }
+{
+    match run(rt, alloc, script, workers, budget, &Open) {
+        Err(RunFault::Memory | RunFault::NoThread) => {
+            run(rt, alloc, script, workers, budget, &Open)
+        }
+        told => told,
+    }
+}
+
 /// Runs the script by 1 to 8 workers, so many times each, against one run by picks.
-fn alike<R: Threads + Wait + Sync>(rt: &R, alloc: Global, text: &str, times: u64) -> Result<String, Fail> {
+fn alike<R: Threads + Wait + Sync>(
+    rt: &R,
+    alloc: Global,
+    text: &str,
+    times: u64,
+) -> Result<String, Fail> {
     let script = read_script(alloc, text.as_bytes())?;
     let picked = run_picks(alloc, &script, &[], 100_000)?;
     for workers in 1..9 {
         for _ in 0..times {
-            let report = run(rt, alloc, &script, workers, 100_000, &Open)?;
-            if !same_states(&report, &picked) || line_of(alloc, &report)? != line_of(alloc, &picked)? {
+            let report = run_at_last(rt, alloc, &script, workers, 100_000)?;
+            if !same_states(&report, &picked)
+                || line_of(alloc, &report)? != line_of(alloc, &picked)?
+            {
                 return Ok(line_of(alloc, &report)?);
             }
             if report.by_worker.as_slice().len() != workers {
@@ -64,14 +94,38 @@ fn alike<R: Threads + Wait + Sync>(rt: &R, alloc: Global, text: &str, times: u64
 #[test]
 fn runs_end_alike(rt: HostRuntime) -> Result<(), Fail> {
     let alloc = rt.alloc();
-    assert_eq!(rt; alike(&rt, alloc, scripts::READ, 10)?.as_str(), "ended, steps 6, blocked 0");
-    assert_eq!(rt; alike(&rt, alloc, scripts::NOTHING, 10)?.as_str(), "ended, steps 1, blocked 0");
-    assert_eq!(rt; alike(&rt, alloc, scripts::BLOCKED, 10)?.as_str(), "ended, steps 0, blocked 1");
-    assert_eq!(rt; alike(&rt, alloc, scripts::TWICE, 10)?.as_str(), "ended, steps 7, blocked 0");
-    assert_eq!(rt; alike(&rt, alloc, scripts::HANDLED, 10)?.as_str(), "ended, steps 11, blocked 0");
-    assert_eq!(rt; alike(&rt, alloc, scripts::CASCADE, 20)?.as_str(), "ended, steps 18, blocked 0");
-    assert_eq!(rt; alike(&rt, alloc, scripts::WAITS, 10)?.as_str(), "ended, steps 4, blocked 1");
-    assert_eq!(rt; alike(&rt, alloc, scripts::TREE, 10)?.as_str(), "ended, steps 190, blocked 0");
+    assert_eq!(rt;
+        alike(&rt, alloc, scripts::READ, 10)?.as_str(),
+        "ended, steps 6, blocked 0"
+    );
+    assert_eq!(rt;
+        alike(&rt, alloc, scripts::NOTHING, 10)?.as_str(),
+        "ended, steps 1, blocked 0"
+    );
+    assert_eq!(rt;
+        alike(&rt, alloc, scripts::BLOCKED, 10)?.as_str(),
+        "ended, steps 0, blocked 1"
+    );
+    assert_eq!(rt;
+        alike(&rt, alloc, scripts::TWICE, 10)?.as_str(),
+        "ended, steps 7, blocked 0"
+    );
+    assert_eq!(rt;
+        alike(&rt, alloc, scripts::HANDLED, 10)?.as_str(),
+        "ended, steps 11, blocked 0"
+    );
+    assert_eq!(rt;
+        alike(&rt, alloc, scripts::CASCADE, 20)?.as_str(),
+        "ended, steps 18, blocked 0"
+    );
+    assert_eq!(rt;
+        alike(&rt, alloc, scripts::WAITS, 10)?.as_str(),
+        "ended, steps 4, blocked 1"
+    );
+    assert_eq!(rt;
+        alike(&rt, alloc, scripts::TREE, 10)?.as_str(),
+        "ended, steps 190, blocked 0"
+    );
     Ok(())
 }
 
@@ -88,7 +142,7 @@ fn outcome_of<R: Threads + Wait + Sync>(
     requires bounded { budget ≤ 1000000 }
 {
     let script = read_script(alloc, text.as_bytes())?;
-    let report = run(rt, alloc, &script, workers, budget, &Open)?;
+    let report = run_at_last(rt, alloc, &script, workers, budget)?;
     Ok(line_of(alloc, &report)?)
 }
 
@@ -96,12 +150,24 @@ fn outcome_of<R: Threads + Wait + Sync>(
 fn budgets_stop_runs(rt: HostRuntime) -> Result<(), Fail> {
     let alloc = rt.alloc();
     for workers in 1..9 {
-        assert_eq!(rt; outcome_of(&rt, alloc, scripts::ENDLESS, workers, 10)?.as_str(), "budget, steps 10, blocked 1");
-        assert_eq!(rt; outcome_of(&rt, alloc, scripts::READ, workers, 6)?.as_str(), "ended, steps 6, blocked 0");
-        assert_eq!(rt; outcome_of(&rt, alloc, scripts::NOTHING, workers, 0)?.as_str(), "budget, steps 0, blocked 1");
-        assert_eq!(rt; outcome_of(&rt, alloc, scripts::BLOCKED, workers, 0)?.as_str(), "ended, steps 0, blocked 1");
+        assert_eq!(rt;
+            outcome_of(&rt, alloc, scripts::ENDLESS, workers, 10)?.as_str(),
+            "budget, steps 10, blocked 1"
+        );
+        assert_eq!(rt;
+            outcome_of(&rt, alloc, scripts::READ, workers, 6)?.as_str(),
+            "ended, steps 6, blocked 0"
+        );
+        assert_eq!(rt;
+            outcome_of(&rt, alloc, scripts::NOTHING, workers, 0)?.as_str(),
+            "budget, steps 0, blocked 1"
+        );
+        assert_eq!(rt;
+            outcome_of(&rt, alloc, scripts::BLOCKED, workers, 0)?.as_str(),
+            "ended, steps 0, blocked 1"
+        );
         let script = read_script(alloc, scripts::TREE.as_bytes())?;
-        let report = run(&rt, alloc, &script, workers, 7, &Open)?;
+        let report = run_at_last(&rt, alloc, &script, workers, 7)?;
         assert_eq!(rt; word(&report.outcome), "budget");
         assert_eq!(rt; report.steps, 7);
         assert_eq!(rt; report.trace.as_slice().len(), 7);
@@ -138,7 +204,7 @@ fn conflict_of<R: Threads + Wait + Sync>(
     requires few { workers ≤ 8 }
 {
     let script = read_script(alloc, scripts::CONFLICT.as_bytes())?;
-    let report = run(rt, alloc, &script, workers, 1000, &Open)?;
+    let report = run_at_last(rt, alloc, &script, workers, 1000)?;
     Ok(error_line(alloc, &report)?)
 }
 
@@ -179,10 +245,19 @@ fn two_workers_meet(rt: HostRuntime) -> Result<(), Fail> {
     let script = read_script(alloc, scripts::TWICE.as_bytes())?;
     let gate = Meeting::new();
     let report = run(&rt, alloc, &script, 2, 1000, &gate)?;
-    assert_eq!(rt; line_of(alloc, &report)?.as_str(), "ended, steps 7, blocked 0");
+    assert_eq!(rt;
+        line_of(alloc, &report)?.as_str(),
+        "ended, steps 7, blocked 0"
+    );
     assert!(rt; !gate.late.load(Ordering::SeqCst));
-    assert_eq!(rt; mark_of(report.trace.as_slice(), 1).ok_or("main/1 made no step")?, gate.first.load(Ordering::SeqCst));
-    assert_eq!(rt; mark_of(report.trace.as_slice(), 2).ok_or("main/2 made no step")?, gate.second.load(Ordering::SeqCst));
+    assert_eq!(rt;
+        mark_of(report.trace.as_slice(), 1).ok_or("main/1 made no step")?,
+        gate.first.load(Ordering::SeqCst)
+    );
+    assert_eq!(rt;
+        mark_of(report.trace.as_slice(), 2).ok_or("main/2 made no step")?,
+        gate.second.load(Ordering::SeqCst)
+    );
     Ok(())
 }
 
@@ -192,10 +267,45 @@ fn steps_are_made_while_a_worker_is_idle(rt: HostRuntime) -> Result<(), Fail> {
     let script = read_script(alloc, scripts::TWICE.as_bytes())?;
     let gate = Resting::new();
     let report = run(&rt, alloc, &script, 2, 1000, &gate)?;
-    assert_eq!(rt; line_of(alloc, &report)?.as_str(), "ended, steps 7, blocked 0");
+    assert_eq!(rt;
+        line_of(alloc, &report)?.as_str(),
+        "ended, steps 7, blocked 0"
+    );
     assert!(rt; gate.idled.load(Ordering::SeqCst));
     assert!(rt; !gate.late.load(Ordering::SeqCst));
     Ok(())
+}
+
+/// Why the run of a script by so many workers has no report whose gate sends a worker away, and whether
+/// the gate held a worker for all its turns.
+fn sent_away<R: Threads + Wait + Sync>(
+    rt: &R,
+    alloc: Global,
+    script: &Script,
+    workers: usize,
+) -> (Option<RunFault>, bool)
+    requires some { 0 < workers }
+    requires few { workers ≤ 8 }
+{
+    let gate = Away::new();
+    let fault = run(rt, alloc, script, workers, 1000, &gate).err();
+    (fault, gate.late.load(Ordering::SeqCst))
+}
+
+/// The same, by another gate where a growth was refused, or a thread is missing for it.
+fn sent_away_at_last<R: Threads + Wait + Sync>(
+    rt: &R,
+    alloc: Global,
+    script: &Script,
+    workers: usize,
+) -> (Option<RunFault>, bool)
+    requires some { 0 < workers }
+    requires few { workers ≤ 8 }
+{
+    match sent_away(rt, alloc, script, workers) {
+        (Some(RunFault::Memory | RunFault::NoThread), _) => sent_away(rt, alloc, script, workers),
+        told => told,
+    }
 }
 
 #[test]
@@ -203,13 +313,9 @@ fn a_gate_stops_a_run(rt: HostRuntime) -> Result<(), Fail> {
     let alloc = rt.alloc();
     let script = read_script(alloc, scripts::NOTHING.as_bytes())?;
     for workers in 2..4 {
-        let gate = Away::new();
-        let fault = run(&rt, alloc, &script, workers, 1000, &gate)
-            .err()
-            .ok_or("a report")?;
-        assert_eq!(rt; fault, RunFault::Stopped);
-        assert!(rt; !gate.late.load(Ordering::SeqCst));
-        assert_eq!(rt; fault.to_string(alloc)?.as_str(), "stopped");
+        let told = sent_away_at_last(&rt, alloc, &script, workers);
+        assert_eq!(rt; told, (Some(RunFault::Stopped), false));
+        assert_eq!(rt; RunFault::Stopped.to_string(alloc)?.as_str(), "stopped");
     }
     Ok(())
 }

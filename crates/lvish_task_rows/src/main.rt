@@ -1,5 +1,6 @@
 //! Reads files of worked examples, what tasks ask for, flat code and copies of statements, and
-//! compares each with what is expected.
+//! compares each with what is expected. Behind the word `refused` each question is asked once for each
+//! of its growths, which is refused then.
 #![tactic(auto)]
 
 mod answer;
@@ -9,6 +10,7 @@ mod copies;
 mod event;
 mod flat;
 mod reader;
+mod refused;
 mod request;
 mod row;
 mod same;
@@ -17,6 +19,7 @@ mod task;
 mod text;
 
 use reader::rows_of;
+use refused::refuse_file;
 use row::Row;
 use std::process::ExitCode;
 use std::{env, fs, io};
@@ -35,10 +38,27 @@ fn main(rt: HostRuntime) -> ExitCode {
 
 /// Whether the rows of each file that the words name are as expected.
 fn run_all(rt: &HostRuntime) -> io::Result<bool> {
-    let names: Vec<String> = env::args(rt)?.skip(1).collect(rt.alloc())?;
+    let words: Vec<String> = env::args(rt)?.skip(1).collect(rt.alloc())?;
+    match words.split_first() {
+        Some((first, files)) if first.as_str() == "refused" => refuse_all(rt, files),
+        _ => compare_all(rt, words.as_slice()),
+    }
+}
+
+fn compare_all(rt: &HostRuntime, files: &[String]) -> io::Result<bool> {
     let mut all = true;
-    for name in &names {
-        let is_good = is_file_as_expected(rt, name.as_str())?;
+    for file in files {
+        let is_good = is_file_as_expected(rt, file.as_str())?;
+        all = all && is_good;
+    }
+    Ok(all)
+}
+
+/// Whether each row of each file is answered as it may be while its growths are refused.
+fn refuse_all(rt: &HostRuntime, files: &[String]) -> io::Result<bool> {
+    let mut all = true;
+    for file in files {
+        let is_good = refuse_file(rt, file.as_str())?;
         all = all && is_good;
     }
     Ok(all)

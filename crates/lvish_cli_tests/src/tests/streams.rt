@@ -1,6 +1,8 @@
-//! Readers and writers that fail.
+//! Readers and writers that fail, or that give and take little at a time.
 
-use super::fakes::{EndlessReader, FailingReader, Refusal, ShortWriter};
+ghost use Rattle.std.specs.Prelude.{◌<◌, ◌≤◌};
+
+use super::fakes::{LongReader, Refusal, ShortWriter, SlowReader};
 use super::{COUNTING, willing};
 use lvish_cli::{Order, Picks, Status, perform};
 use std::alloc::{AllocError, Global};
@@ -9,104 +11,246 @@ use std::sync::Wait;
 use std::test::*;
 use std::thread::Threads;
 
-/// How a run ends whose script comes from this reader.
-fn run<T: Threads + Wait + Sync, R: Read>(
+/// A text that is no script.
+const UNENDED: &[u8] = b"cell a\nproc main\nput a 1\n";
+
+/// A run that meets an error.
+const CONFLICT: &[u8] = b"cell a\nproc main\nput a 1\nput a 2\nend\n";
+
+/// A run that ends with a blocked task.
+const BLOCKED: &[u8] = b"cell a\nproc main\nget x a any\nend\n";
+
+const SCRIPTS: [&[u8]; 4] = [COUNTING, UNENDED, CONFLICT, BLOCKED];
+
+/// What is asked for.
+#[derive(Clone, Copy, Debug)]
+enum Asked {
+    Check,
+    /// A run by one worker.
+    Alone,
+    /// A run by two.
+    Both,
+    /// A run by no picks.
+    Pick,
+}
+
+const ASKED: [Asked; 4] = [Asked::Check, Asked::Alone, Asked::Both, Asked::Pick];
+
+/// How this ends.
+fn end<T: Threads + Wait + Sync, R: Read>(
     rt: &T,
     alloc: Global,
+    asked: Asked,
     reader: &mut R,
     writer: &mut ShortWriter,
 ) -> Status {
+    match asked {
+        Asked::Check => perform(rt, alloc, &Order::Check, reader, writer),
+        Asked::Alone => run(rt, alloc, 1, reader, writer),
+        Asked::Both => run(rt, alloc, 2, reader, writer),
+        Asked::Pick => pick(rt, alloc, reader, writer),
+    }
+}
+
+fn run<T: Threads + Wait + Sync, R: Read>(
+    rt: &T,
+    alloc: Global,
+    workers: usize,
+    reader: &mut R,
+    writer: &mut ShortWriter,
+) -> Status
+    requires some { 0 < workers }
+    requires few { workers ≤ 8 }
+{
     let order = Order::Run {
-        workers: 2,
+        workers,
         budget: 100_000,
         all: true,
     };
     perform(rt, alloc, &order, reader, writer)
 }
 
-/// How a run by no picks ends.
-fn pick<T: Threads + Wait + Sync>(rt: &T, alloc: Global, writer: &mut ShortWriter) -> Status {
+fn pick<T: Threads + Wait + Sync, R: Read>(
+    rt: &T,
+    alloc: Global,
+    reader: &mut R,
+    writer: &mut ShortWriter,
+) -> Status {
     let order = Order::Pick {
         picks: Picks::from(Vec::new(alloc)),
         budget: 100_000,
         all: false,
     };
-    let mut reader = COUNTING;
-    perform(rt, alloc, &order, &mut reader, writer)
+    perform(rt, alloc, &order, reader, writer)
 }
 
-/// How a run ends whose reader fails after so many bytes.
+/// How this ends whose reader gives so many bytes, `step` of them a read, and fails.
 fn read_end<T: Threads + Wait + Sync>(
     rt: &T,
     alloc: Global,
-    count: usize,
+    asked: Asked,
+    (count, step): (usize, usize),
     kind: ErrorKind,
 ) -> Result<String, AllocError> {
-    let mut reader = FailingReader {
+    let mut reader = SlowReader {
         bytes: COUNTING.get(..count).unwrap_or(COUNTING),
-        step: 5,
-        kind,
+        step,
+        fault: Some(kind),
         faults: 0,
     };
     let mut writer = willing();
-    let status = run(rt, alloc, &mut reader, &mut writer);
+    let status = end(rt, alloc, asked, &mut reader, &mut writer);
     let (faults, writes) = (reader.faults, writer.writes);
     format!(in alloc; "{status:?}, failed reads {faults}, writes {writes}")
 }
 
+/// After each number of bytes.
 #[test]
 fn a_read_that_fails_is_not_tried_again(rt: HostRuntime) {
     for count in 0..COUNTING.len() + 1 {
-        for kind in [ErrorKind::Other, ErrorKind::Interrupted] {
-            let end = read_end(&rt, rt.alloc(), count, kind).expect(&rt, "memory");
-            assert_eq!(rt;
-                end.as_str(),
-                "Unreadable, failed reads 1, writes 0",
-                "at {count}"
-            );
+        for step in [1, 5, 512] {
+            for asked in ASKED {
+                let kind = if count % 2 == 0 {
+                    ErrorKind::Other
+                } else {
+                    ErrorKind::Interrupted
+                };
+                let end = read_end(&rt, rt.alloc(), asked, (count, step), kind).expect(
+                    &rt, "memory",
+                );
+                assert_eq!(rt;
+                    end.as_str(),
+                    "Unreadable, failed reads 1, writes 0",
+                    "at {count} by {step}, {asked:?}"
+                );
+            }
         }
     }
 }
 
-/// How a run ends whose writer refuses this write: with which status, after how many writes, and
-/// whether what was written is a front of the whole.
-fn write_end<T: Threads + Wait + Sync>(
+/// How this ends whose reader gives the script, `step` bytes a read, and ends.
+fn slow_end<T: Threads + Wait + Sync>(
     rt: &T,
     alloc: Global,
-    number: usize,
-    refusal: Refusal,
-    whole: &[u8],
-) -> (Status, usize, bool) {
-    let mut writer = ShortWriter::new(number, refusal);
-    let status = pick(rt, alloc, &mut writer);
-    (status, writer.writes, whole.starts_with(writer.text()))
+    asked: Asked,
+    script: &[u8],
+    step: usize,
+    writer: &mut ShortWriter,
+) -> Status {
+    let mut reader = SlowReader {
+        bytes: script,
+        step,
+        fault: None,
+        faults: 0,
+    };
+    end(rt, alloc, asked, &mut reader, writer)
 }
 
-#[test]
-fn no_write_follows_one_that_fails(rt: HostRuntime) {
+/// Whether the writer's text and status are those of what a reader gives that gives all at once.
+fn is_the_same<T: Threads + Wait + Sync>(
+    rt: &T,
+    alloc: Global,
+    asked: Asked,
+    script: &[u8],
+    step: usize,
+) -> bool {
     let mut whole = willing();
-    let status = pick(&rt, rt.alloc(), &mut whole);
-    assert_eq!(rt; status, Status::Done);
-    assert_eq!(rt; whole.text().len(), 300);
-    assert_eq!(rt; whole.writes, 100);
-    for number in 1..101 {
-        for refusal in [Refusal::Fails, Refusal::TakesNothing] {
-            let end = write_end(&rt, rt.alloc(), number, refusal, whole.text());
-            assert_eq!(rt; end, (Status::Unwritten, number, true));
+    let status = slow_end(rt, alloc, asked, script, script.len(), &mut whole);
+    let mut writer = willing();
+    slow_end(rt, alloc, asked, script, step, &mut writer) == status
+        && status != Status::Unreadable
+        && writer.text() == whole.text()
+}
+
+/// One byte at a time, and each other number of them.
+#[test]
+fn a_slow_reader_changes_nothing(rt: HostRuntime) {
+    for script in SCRIPTS {
+        for step in 1..script.len() {
+            for asked in ASKED {
+                assert!(rt;
+                    is_the_same(&rt, rt.alloc(), asked, script, step),
+                    "by {step}, {asked:?}"
+                );
+            }
         }
     }
 }
 
-/// How a run ends whose reader gives line feeds without end, and how many it gave.
-fn endless_end<T: Threads + Wait + Sync>(rt: &T, alloc: Global) -> (Status, usize) {
-    let mut reader = EndlessReader { given: 0 };
+/// Whether the run whose writer refuses this write ends as it has to: there is no further write, and
+/// what was written is a front of the whole.
+fn stops_at<T: Threads + Wait + Sync>(
+    rt: &T,
+    alloc: Global,
+    asked: Asked,
+    script: &[u8],
+    writer: &mut ShortWriter,
+    whole: &[u8],
+) -> bool {
+    let status = slow_end(rt, alloc, asked, script, 512, writer);
+    status == Status::Unwritten
+        && writer.writes == writer.refuses
+        && whole.starts_with(writer.text())
+        && writer.text().len() < whole.len()
+}
+
+/// At each write, for writers that take one byte at a time, a few, or all.
+#[test]
+fn no_write_follows_one_that_fails(rt: HostRuntime) {
+    for script in SCRIPTS {
+        for asked in ASKED {
+            for step in [1, 3, 512] {
+                let mut whole = ShortWriter::new(step, 0, Refusal::Fails);
+                let status = slow_end(&rt, rt.alloc(), asked, script, 512, &mut whole);
+                assert!(rt;
+                    status != Status::Unwritten && whole.writes > 0,
+                    "{asked:?}"
+                );
+                for number in 1..whole.writes.saturating_add(1) {
+                    for refusal in [Refusal::Fails, Refusal::TakesNothing] {
+                        let mut writer = ShortWriter::new(step, number, refusal);
+                        assert!(rt;
+                            stops_at(&rt, rt.alloc(), asked, script, &mut writer, whole.text()),
+                            "at {number} by {step}, {asked:?} {refusal:?}"
+                        );
+                    }
+                }
+            }
+        }
+    }
+}
+
+/// A text that was taken but can't be kept is no report.
+#[test]
+fn a_flush_that_fails_is_not_done(rt: HostRuntime) {
+    for script in SCRIPTS {
+        for asked in ASKED {
+            let mut writer = ShortWriter::new(3, 0, Refusal::FailsAtFlush);
+            let status = slow_end(&rt, rt.alloc(), asked, script, 512, &mut writer);
+            assert_eq!(rt; status, Status::Unwritten, "{asked:?}");
+        }
+    }
+}
+
+/// How this ends whose reader has more than a script may have, and how many bytes it gave.
+fn long_end<T: Threads + Wait + Sync>(
+    rt: &T,
+    alloc: Global,
+    asked: Asked,
+    step: usize,
+) -> (Status, usize) {
+    let mut reader = LongReader { given: 0, step };
     let mut writer = willing();
-    let status = run(rt, alloc, &mut reader, &mut writer);
+    let status = end(rt, alloc, asked, &mut reader, &mut writer);
     (status, reader.given)
 }
 
 #[test]
 fn at_most_one_byte_more_than_a_script_is_read(rt: HostRuntime) {
-    let end = endless_end(&rt, rt.alloc());
-    assert_eq!(rt; end, (Status::Refused, 65_537));
+    for asked in ASKED {
+        for step in [1, 1_000, 65_536, 100_000] {
+            let end = long_end(&rt, rt.alloc(), asked, step);
+            assert_eq!(rt; end, (Status::Refused, 65_537), "by {step}, {asked:?}");
+        }
+    }
 }

@@ -137,6 +137,22 @@ where
         Ok(Bench { program, core })
     }
 
+    /// A bench; asked for again where a growth was refused.
+    fn new_at_last(alloc: Global, program: &'p P) -> Result<Self, AllocError> {
+        match Bench::new(alloc, program) {
+            Ok(bench) => Ok(bench),
+            Err(_) => Bench::new(alloc, program),
+        }
+    }
+
+    /// What is seen; looked at again where a growth was refused.
+    fn seen_at_last(&self, alloc: Global) -> Result<String, AllocError> {
+        match self.seen(alloc) {
+            Ok(text) => Ok(text),
+            Err(_) => self.seen(alloc),
+        }
+    }
+
     /// The labels that the core can take, its variables, the handlers on the first variable, what
     /// main asks for, the number of tasks that haven't ended, what the last step concerned, and the
     /// error if there is one.
@@ -201,7 +217,7 @@ where
         alloc: Global,
         call: &Call<<P::Lat as Lattice>::Event>,
     ) -> Result<Answer<<P::Lat as Lattice>::Event, P::Local>, AllocError> {
-        let before = self.seen(alloc)?;
+        let before = self.seen_at_last(alloc)?;
         let steps = self.core.steps();
         match self.called(alloc, call) {
             Err(StepFault::Memory) => {
@@ -230,6 +246,17 @@ where
         }
     }
 
+    fn is_open_at_last(
+        &self,
+        alloc: Global,
+        call: &Call<<P::Lat as Lattice>::Event>,
+    ) -> Result<bool, AllocError> {
+        match self.is_open(alloc, call) {
+            Ok(open) => Ok(open),
+            Err(_) => self.is_open(alloc, call),
+        }
+    }
+
     /// The line of a call.
     fn line(
         &mut self,
@@ -237,12 +264,12 @@ where
         alloc: Global,
         call: &Call<<P::Lat as Lattice>::Event>,
     ) -> Result<String, AllocError> {
-        let open = self.is_open(alloc, call)?;
+        let open = self.is_open_at_last(alloc, call)?;
         let answer = self.answer(rt, alloc, call)?;
         assert_eq!(rt; open, !matches!(&answer, Err(StepFault::NotEnabled)));
         let mut text = String::new(alloc);
         write_answer(&mut text, &answer)?;
-        writeln!(text, " |{}", self.seen(alloc)?)?;
+        writeln!(text, " |{}", self.seen_at_last(alloc)?)?;
         Ok(text)
     }
 }
@@ -257,9 +284,9 @@ pub fn run<P: Program>(
 where
     <P::Lat as Lattice>::Event: Numbered,
 {
-    let mut bench = Bench::new(alloc, program)?;
+    let mut bench = Bench::new_at_last(alloc, program)?;
     let mut text = String::new(alloc);
-    writeln!(text, "new |{}", bench.seen(alloc)?)?;
+    writeln!(text, "new |{}", bench.seen_at_last(alloc)?)?;
     for call in calls {
         let line = bench.line(rt, alloc, call)?;
         text.push_str(line.as_str())?;

@@ -1,9 +1,10 @@
 //! Runs of a script by many lists of picks.
 
 use crate::answer::{Answer, done, refusal};
+use crate::answers::likeness::are_alike;
 use crate::answers::reports::run_by;
 use lvish_compound::{Any, Event};
-use lvish_run::{FinalState, Outcome, Report, trace_text};
+use lvish_run::{Outcome, Report, trace_text};
 use lvish_script::read_script;
 use lvish_syntax::Script;
 use std::alloc::{AllocError, Global};
@@ -74,19 +75,6 @@ fn end_alike(one: &Report<Any, Event>, other: &Report<Any, Event>) -> bool {
 
 fn is_end(report: &Report<Any, Event>) -> bool {
     matches!(&report.outcome, Outcome::Ended)
-}
-
-/// Whether the states are the same, with their marks.
-fn are_alike(one: &[FinalState<Any>], other: &[FinalState<Any>]) -> bool {
-    if one.len() != other.len() {
-        return false;
-    }
-    for i in 0..one.len() {
-        if one[i].content != other[i].content || one[i].frozen != other[i].frozen {
-            return false;
-        }
-    }
-    true
 }
 
 /// How many of the lists have another trace than the first.

@@ -1,9 +1,11 @@
 //! What the program `lvish` prints.
 
+ghost use Rattle.lvish_cli.specs.Orders.{IsWithin};
+
 use crate::answer::Answer;
 use crate::answers::orders::no_order;
 use crate::host::Host;
-use lvish_cli::{order_of, perform};
+use lvish_cli::{Order, Status, order_of, perform};
 use std::alloc::{AllocError, Global};
 
 /// By how many workers a run is made whose words don't say it.
@@ -11,6 +13,9 @@ const WORKERS: [&str; 3] = ["1", "2", "8"];
 
 /// How often a run is made where it is asked for often.
 const OFTEN: u64 = 100;
+
+/// How many bytes can be written without a growth.
+const ROOM: usize = 16_384;
 
 /// The status and the text with which the program ends under these words, where its file or standard
 /// input has this script. A run whose words leave the workers open is made by 1, 2 and 8 of them.
@@ -82,18 +87,31 @@ fn otherwise(
 
 /// The status and the text with which the program ends once.
 fn printed_once<R: Host>(rt: &R, words: &[&str], script: &[u8]) -> Result<Answer, AllocError> {
-    let alloc = rt.alloc();
-    let order = match order_of(alloc, words) {
+    let order = match order_of(rt.alloc(), words) {
         Ok((order, _)) => order,
-        Err(fault) => return no_order(alloc, &fault),
+        Err(fault) => return no_order(rt.alloc(), &fault),
     };
-    let mut reader = script;
-    let mut writer: Vec<u8> = Vec::new(alloc);
-    let status = perform(rt, alloc, &order, &mut reader, &mut writer);
+    let (status, text) = performed(rt, &order, script)?;
     Ok(Answer {
         status: status.number(),
-        text: text_of(alloc, writer)?,
+        text,
     })
+}
+
+/// The status with which the order about this script ends, and what is written. For a text that is
+/// no longer than the room no growth is wanted to write it.
+pub fn performed<R: Host>(
+    rt: &R,
+    order: &Order,
+    script: &[u8],
+) -> Result<(Status, String), AllocError>
+    requires { IsWithin order.now }
+{
+    let alloc = rt.alloc();
+    let mut reader = script;
+    let mut writer: Vec<u8> = Vec::with_capacity(alloc, ROOM)?;
+    let status = perform(rt, alloc, order, &mut reader, &mut writer);
+    Ok((status, text_of(alloc, writer)?))
 }
 
 /// The bytes as text; what is no text is not as expected anywhere.

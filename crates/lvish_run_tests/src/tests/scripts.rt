@@ -1,7 +1,8 @@
 //! The scripts of the tests.
 
 /// A task puts into a cell, its parent reads it.
-pub const READ: &str = "cell a\nproc w\nput a 7\nend\nproc main\nfork w\nget x a any\nfreeze y a\nend\n";
+pub const READ: &str =
+    "cell a\nproc w\nput a 7\nend\nproc main\nfork w\nget x a any\nfreeze y a\nend\n";
 
 /// Nothing but an end.
 pub const NOTHING: &str = "proc main\nend\n";
@@ -16,16 +17,20 @@ pub const TWICE: &str = "cell a\nproc w\nput a 3\nend\nproc main\nfork w\nfork w
 pub const CONFLICT: &str = "cell a\nproc w n\nput a n\nend\nproc main\nfork w 1\nfork w 2\nend\n";
 
 /// A handler that is handed two events, and a freeze after it.
-pub const HANDLED: &str = "set s\nset out\npool p s\nproc c k n\nput out n\nend\nproc main\nhandle p c\nput s 3\nput s 1\nfreeze x s after p\nend\n";
+pub const HANDLED: &str =
+    "set s\nset out\npool p s\nproc c k n\nput out n\nend\nproc main\nhandle p c\nput s 3\nput s 1\nfreeze x s after p\nend\n";
 
 /// A handler that puts into its own variable.
-pub const CASCADE: &str = "set s\npool p s\nproc h k n\nlet c n < 5\nif c\nlet m n + 1\nput s m\nend\nend\nproc main\nhandle p h\nput s 1\nfreeze x s after p\nend\n";
+pub const CASCADE: &str =
+    "set s\npool p s\nproc h k n\nlet c n < 5\nif c\nlet m n + 1\nput s m\nend\nend\nproc main\nhandle p h\nput s 1\nfreeze x s after p\nend\n";
 
 /// A task that pauses for ever.
 pub const ENDLESS: &str = "proc main\nwhile 1\nend\nend\n";
 
 /// A tree of forks.
-pub const TREE: &str = "set s\nproc t n\nput s n\nlet c n < 32\nif c\nlet l n * 2\nlet r l + 1\nfork t l\nfork t r\nend\nend\nproc main\nfork t 1\nend\n";
+pub const TREE: &str =
+    "set s\nproc t n\nput s n\nlet c n < 32\nif c\nlet l n * 2\nlet r l + 1\nfork t l\nfork t r\nend\nend\nproc main\nfork t 1\nend\n";
 
 /// A freeze in a handler that waits for its own pool.
-pub const WAITS: &str = "set s\npool p s\nproc f k n\nfreeze x s after p\nend\nproc main\nhandle p f\nput s 1\nend\n";
+pub const WAITS: &str =
+    "set s\npool p s\nproc f k n\nfreeze x s after p\nend\nproc main\nhandle p f\nput s 1\nend\n";

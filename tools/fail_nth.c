@@ -1,0 +1,116 @@
+/* A heap that stands before the C library's, and refuses one growth: for tools/refused_growths, which
+   builds it with the kit's compiler and has it loaded before a program. So no header is read.
+
+   A growth is a call of malloc, calloc or realloc. To open the file "fail-nth/N" has the N-th growth
+   from then on refused; to open "fail-nth" succeeds where that growth is still to come, which is then
+   not refused any more. No such file has to be there. The counts stand in the file that the
+   environment's FAIL_NTH names, so that they are there however the program ends. */
+
+typedef unsigned long size;
+
+void *__libc_malloc(size bytes);
+void *__libc_calloc(size count, size bytes);
+void *__libc_realloc(void *block, size bytes);
+void __libc_free(void *block);
+int __open(const char *path, int flags, ...);
+int *__errno_location(void);
+char *getenv(const char *name);
+void *mmap(void *at, size bytes, int rights, int how, int file, long offset);
+
+enum { NO_FILE = 2, NO_MEMORY = 12, READ_WRITE = 2, SHARED = 1 };
+
+struct counts {
+  long growths; /* asked for */
+  long refused; /* of these */
+  long held;    /* blocks that were given and not given back */
+  long to_come; /* the number of the growth to refuse, counted from here; 0 for none */
+};
+
+static struct counts own;
+static struct counts *counts = &own;
+
+__attribute__((constructor)) static void begin(void) {
+  const char *path = getenv("FAIL_NTH");
+  int file = path ? __open(path, READ_WRITE) : -1;
+  if (file < 0)
+    return;
+  void *at = mmap(0, sizeof own, 1 | 2, SHARED, file, 0);
+  if (at == (void *)-1)
+    return;
+  struct counts *shared = at;
+  shared->growths += own.growths;
+  shared->held += own.held;
+  counts = shared;
+}
+
+static void *refused(void) {
+  *__errno_location() = NO_MEMORY;
+  return 0;
+}
+
+static int is_refused(void) {
+  __atomic_add_fetch(&counts->growths, 1, __ATOMIC_SEQ_CST);
+  long left = __atomic_load_n(&counts->to_come, __ATOMIC_SEQ_CST);
+  while (left > 0)
+    if (__atomic_compare_exchange_n(&counts->to_come, &left, left - 1, 0, __ATOMIC_SEQ_CST, __ATOMIC_SEQ_CST)) {
+      if (left > 1)
+        return 0;
+      __atomic_add_fetch(&counts->refused, 1, __ATOMIC_SEQ_CST);
+      return 1;
+    }
+  return 0;
+}
+
+static void *given(void *block) {
+  if (block)
+    __atomic_add_fetch(&counts->held, 1, __ATOMIC_SEQ_CST);
+  return block;
+}
+
+void *malloc(size bytes) { return is_refused() ? refused() : given(__libc_malloc(bytes)); }
+
+void *calloc(size count, size bytes) { return is_refused() ? refused() : given(__libc_calloc(count, bytes)); }
+
+void *realloc(void *block, size bytes) {
+  if (is_refused())
+    return refused();
+  void *grown = __libc_realloc(block, bytes);
+  return block ? grown : given(grown);
+}
+
+void free(void *block) {
+  if (block)
+    __atomic_sub_fetch(&counts->held, 1, __ATOMIC_SEQ_CST);
+  __libc_free(block);
+}
+
+/* The number behind "fail-nth/", 0 for "fail-nth" alone, and -1 of any other path. */
+static long asked(const char *path) {
+  const char *name = "fail-nth";
+  for (; *name; name++, path++)
+    if (*path != *name)
+      return -1;
+  if (!*path)
+    return 0;
+  if (*path++ != '/')
+    return -1;
+  long number = 0;
+  for (; *path >= '0' && *path <= '9'; path++)
+    number = number * 10 + (*path - '0');
+  return *path ? -1 : number;
+}
+
+int open(const char *path, int flags, ...) {
+  __builtin_va_list rest;
+  __builtin_va_start(rest, flags);
+  int mode = __builtin_va_arg(rest, int);
+  __builtin_va_end(rest);
+  long number = asked(path);
+  if (number < 0)
+    return __open(path, flags, mode);
+  if (__atomic_exchange_n(&counts->to_come, number, __ATOMIC_SEQ_CST) == 0 && number == 0) {
+    *__errno_location() = NO_FILE;
+    return -1;
+  }
+  return __open("/dev/null", 0);
+}
