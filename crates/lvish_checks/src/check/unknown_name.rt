@@ -1,4 +1,4 @@
-ghost use Rattle.std.specs.Prelude.{◌≡◌, ◌++◌, ◌∷◌, [], ℕ, List, IfOk, take};
+ghost use Rattle.std.specs.Prelude.{◌≡◌, ◌++◌, ◌∷◌, [], ℕ, ◌+◌, ◌<◌, List, IfOk, OnOk, length, take};
 ghost use Rattle.std.specs.Option.{option_map_or};
 ghost use Rattle.std.specs.List.{list_all};
 ghost use Rattle.lvish_syntax.specs.Words.{Word};
@@ -147,12 +147,12 @@ fn command_unknown(declared: &Declared, locals: &NameSet, command: &Command) -> 
 }
 
 /// Whether a line names what isn't declared; a pool's variable must be declared above it.
-fn names_unknown(declared: &Declared, above: &Declared, locals: &NameSet, line: &Line) -> bool
-    ensures { (lines : List Line) (k : ℕ) → AreVariables declared.now.variables lines → ArePools declared.now.pools lines → AreProcedures declared.now.procedures lines → AreVariables above.now.variables (take k lines) → HaveSameNames locals.now (locals_at lines k) → result ≡ names_unknown lines k line.now }
+fn names_unknown(declared: &Declared, above: &NameSet, locals: &NameSet, line: &Line) -> bool
+    ensures { (lines : List Line) (k : ℕ) → AreVariables declared.now.variables lines → ArePools declared.now.pools lines → AreProcedures declared.now.procedures lines → AreVariables above.now (take k lines) → HaveSameNames locals.now (locals_at lines k) → result ≡ names_unknown lines k line.now }
 {
     match line {
         Line::Declare(declaration) => match declaration.get() {
-            Declaration::Pool(_, variable) => !above.variables.contains(variable),
+            Declaration::Pool(_, variable) => !above.contains(variable),
             Declaration::Variable(_, _) => false,
         },
         Line::Do(command) => command_unknown(declared, locals, command.get()),
@@ -161,22 +161,66 @@ fn names_unknown(declared: &Declared, above: &Declared, locals: &NameSet, line: 
     }
 }
 
+/// Adds the variable that a line declares, if it declares one.
+fn add_variable<'a>(variables: &mut NameSet<'a>, line: &'a Line) -> Result<(), AllocError>
+    ensures { (before : List Line) → AreVariables variables.old before → OnOk result (AreVariables variables.new (before ++ line.now ∷ [])) }
+{
+    match line {
+        Line::Declare(declaration) => match declaration.get() {
+            Declaration::Variable(name, _) => {
+                variables.add(name)?;
+            }
+            Declaration::Pool(_, _) => {}
+        },
+        _ => {}
+    }
+    Ok(())
+}
+
+/// The locals below a line: those of the procedure that it begins, else those that stood there.
+fn locals_below<'a>(
+    alloc: Global,
+    locals: NameSet<'a>,
+    lines: &'a [Line],
+    k: usize,
+) -> Result<NameSet<'a>, AllocError>
+    requires { k < length lines.now }
+    ensures { HaveSameNames locals.entry (locals_at lines.now k) → IfOk result (λ below. HaveSameNames below (locals_at lines.now (k + 1))) }
+{
+    if let Line::Proc(_, parameters) = &lines[k] {
+        return locals_of(alloc, parameters.get().as_slice(), &lines[k + 1..]);
+    }
+    Ok(locals)
+}
+
+/// The first of these lines that names what isn't among those declared, or a local that its procedure hasn't.
+fn first_unknown_of(
+    alloc: Global,
+    lines: &[Line],
+    declared: &Declared,
+) -> Result<Option<usize>, AllocError>
+    requires variables { AreVariables declared.now.variables lines.now }
+    requires pools { ArePools declared.now.pools lines.now }
+    requires procedures { AreProcedures declared.now.procedures lines.now }
+    ensures { IfOk result (λ found. IsFirstOn (on_line (line_fails UnknownName lines.now) lines.now) found) }
+{
+    let mut above = NameSet::new(alloc);
+    let mut locals = NameSet::new(alloc);
+    for k in 0..lines.len() {
+        let line = &lines[k];
+        if names_unknown(declared, &above, &locals, line) {
+            return Ok(Some(k + 1));
+        }
+        add_variable(&mut above, line)?;
+        locals = locals_below(alloc, locals, lines, k)?;
+    }
+    Ok(None)
+}
+
 /// The first line that names what isn't declared, or a local that its procedure hasn't.
 pub fn first_unknown_name(alloc: Global, lines: &[Line]) -> Result<Option<usize>, AllocError>
     ensures { IfOk result (λ found. IsFirstOn (on_line (line_fails UnknownName lines.now) lines.now) found) }
 {
     let declared = declared_by(alloc, lines)?;
-    let mut above = Declared::new(alloc);
-    let mut locals = NameSet::new(alloc);
-    for k in 0..lines.len() {
-        let line = &lines[k];
-        if names_unknown(&declared, &above, &locals, line) {
-            return Ok(Some(k + 1));
-        }
-        above.add(line)?;
-        if let Line::Proc(_, parameters) = line {
-            locals = locals_of(alloc, parameters.get().as_slice(), &lines[k + 1..])?;
-        }
-    }
-    Ok(None)
+    first_unknown_of(alloc, lines, &declared)
 }
