@@ -9,6 +9,7 @@ pub mod Parking
 pub mod Shelving
 pub mod Sorting
 pub mod Steps
+mod Opening
 pub mod Sweeping
 pub mod Those
 pub mod Waking

@@ -1,5 +1,6 @@
 -- What a step is to a board, over any machine.
-use Rattle.std.proofs.Common.{◌≡◌, inl, inr, ◌<◌, ◌+◌, ℕ, suc, List, [], ◌∷◌, ◌++◌, length, Option, Some, None, refl, sym, ap, subst, ◌∙◌, arith, length-append, option_and_then}
+use Rattle.std.proofs.Common.{◌≡◌, inl, inr, ◌<◌, ◌+◌, ℕ, suc, List, [], ◌∷◌, ◌++◌, length, false, is_some, Option, Some, None, refl, sym, ap, subst, ◌∙◌, arith, length-append, option_and_then}
+use Rattle.std.proofs.lemmas.Bool.{false≢true}
 use Rattle.lvish_calculus.specs.declared.label.Label.{Label}
 use Rattle.lvish_calculus.specs.declared.label.Label.TheVariants.{Task as Act}
 use Rattle.lvish_calculus.specs.declared.request.ErrorKind.{ErrorKind}
@@ -206,3 +207,8 @@ module _ {P S E R A L : Type 0} (M : Machine S E R A L) where
             ap (λ (s : State S E L). local_of (s.tasks t)) same ∙ ap local_of there ∙ sym (ap (λ o. (moved_in o).own) e ∙ ap (λ o. option_and_then (λ x. local_of x.1) o) k.1)
         by (Fails k v u) e = let z : Running (state M d) ≡ Error k v u = from ∙ ap (after M (state M c)) e in absurd cc
         by Nothing e = absurd (nothing M ok (state M c) (Act t) (subst (λ (q : Configuration S E L). CanStep M q (Act t)) (at_state M c (begins_well c d (Act t) DoneStep step)) step.enabled.0) e)
+
+-- what isn't there is none
+pub none_is : {X : Type 0} (o : Option X) → is_some o ≡ false → o ≡ None
+none_is None h = refl
+none_is (Some x) h = absurd (false≢true (sym h))

@@ -12,6 +12,7 @@ use crate::entry::Entry;
 use crate::named::Named;
 use crate::outcome::Outcome;
 use crate::parked::Parked;
+use crate::room::Room;
 use crate::ticket::Ticket;
 use crate::work::Work;
 use lvish_calculus::{Meaning, Program};
@@ -29,6 +30,7 @@ pub struct Board<'p, P: Program, J: Named<P>> {
     budget: u64,
     over: Option<Outcome<<P::Lat as Lattice>::Event>>,
     parked: Parked<P, J>,
+    room: Room<P, J>,
 }
 
 impl<'p, P: Program, J: Named<P>> Model for Board<'p, P, J> {
@@ -68,8 +70,9 @@ impl<'p, P: Program, J: Named<P>> Board<'p, P, J> {
             budget,
             over: None,
             parked: Parked::new(alloc),
+            room: Room::new(alloc),
         };
-        let first = Ticket::new(TaskName::main(alloc), from);
+        let first = Ticket::new(TaskName::main(), from);
         Ok((board, Work::Stretch(first)))
     }
 
@@ -107,6 +110,7 @@ impl<'p, P: Program, J: Named<P>> Board<'p, P, J> {
             budget: _,
             over: _,
             parked: _,
+            room: _,
         } = self;
         trace
     }

@@ -74,13 +74,13 @@ impl<P: Program, J: Named<P>> ByName<P, J> {
     /// # Errors
     ///
     /// Where there is no room for it, what was to be kept; nothing has changed.
-    pub(crate) fn insert(&mut self, alloc: Global, asked: Asked<P, J>) -> Result<(), Asked<P, J>>
+    pub(crate) fn insert(&mut self, asked: Asked<P, J>) -> Result<(), Asked<P, J>>
         requires { IsAmong asked.task (tasks_of self.old) → ⊥ }
         ensures ok { IfOk result (λ _. (q : Place P.Lat.Event P.Local) → IsAmong q self.new ↔ ((q ≡ asked) ⊎ IsAmong q self.old)) }
         ensures err { IfErr result (λ a. (a ≡ asked) × (self.new ≡ self.old)) }
         ensures once { NoRepeats (tasks_of self.old) → NoRepeats (tasks_of self.new) }
     {
-        let Ok(name) = asked.task().copy(alloc) else {
+        let Ok(name) = asked.task().copy() else {
             return Err(asked);
         };
         match self.asked.insert(name, asked) {

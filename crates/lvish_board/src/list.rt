@@ -10,7 +10,7 @@ ghost use Rattle.lvish_board.specs.Left.{AddsHandings, IsLeft, IsListOf, IsLogge
 use crate::asked::Asked;
 use crate::named::Named;
 use crate::parked::Parked;
-use crate::room::Room;
+use crate::room::{Room, given};
 use crate::ticket::Ticket;
 use crate::work::Work;
 use lvish_calculus::{Meaning, Program};
@@ -18,6 +18,7 @@ use lvish_core::{Core, Made, Moved, Runs, Touched};
 use lvish_lattice::Lattice;
 use lvish_names::HandlerName;
 use lvish_variable::Entry;
+use std::alloc::Global;
 
 /// What a step leaves by itself: the tickets of its tasks, and a handler that it added.
 #[derive(Drop)]
@@ -80,32 +81,31 @@ fn fresh<'c, P: Program>(
 /// In `room` are the handlers that a put may concern; the log of its variable had so many entries
 /// before the step.
 pub(crate) fn leave<P: Program, J: Named<P>>(
+    alloc: Global,
     core: &Core<'_, P>,
     parked: &mut Parked<P, J>,
     left: Left<P, J>,
-    room: Room<P, J>,
+    room: &mut Room<P, J>,
     logged: usize,
 ) -> Vec<Work<P, J>>
     requires program { core.now.program ≡ J.program }
     requires logged { IsLogged core.now.table.variables logged core.now.touched }
     requires current { (p : Place P.Lat.Event P.Local) → IsAmong p parked.old → ⟦<P as Runs>⟧.local_in core.now p.task ≡ Some p.from }
-    requires empty { (room.list.items ≡ []) × (room.woken.items ≡ []) }
-    requires list_room { 2 + length parked.old + (length room.hands.items + length (listed left.added)) ≤ vec_capacity room.list }
-    requires woken_room { length parked.old ≤ vec_capacity room.woken }
-    requires hands_room { length room.hands.items + length (listed left.added) ≤ vec_capacity room.hands }
-    ensures left { IsLeft P.Lat.Event.cmp (⟦<P as Meaning>⟧.machine core.now.program) P.Lat.spot_of P.Lat.watched core.now logged left.own left.made left.added room.hands.items parked.old parked.new result.items }
+    requires empty { (room.old.list.items ≡ []) × (room.old.woken.items ≡ []) }
+    requires list_room { 2 + length parked.old + (length room.old.hands.items + length (listed left.added)) ≤ vec_capacity room.old.list }
+    requires woken_room { length parked.old ≤ vec_capacity room.old.woken }
+    requires hands_room { length room.old.hands.items + length (listed left.added) ≤ vec_capacity room.old.hands }
+    ensures left { IsLeft P.Lat.Event.cmp (⟦<P as Meaning>⟧.machine core.now.program) P.Lat.spot_of P.Lat.watched core.now logged left.own left.made left.added room.old.hands.items parked.old parked.new result.items }
     ensures once { NoRepeats (tasks_of parked.old) → NoRepeats (tasks_of parked.new) }
 {
-    let Room {
-        list,
-        mut woken,
-        mut hands,
-    } = room;
     let entries = fresh(core, logged);
-    parked.wake(core, entries, &mut woken);
+    parked.wake(core, entries, &mut room.woken);
     let Left { own, made, added } = left;
-    keep_candidates(entries, &mut hands, added);
-    list_work(core, list, own, made, woken, hands)
+    keep_candidates(entries, &mut room.hands, added);
+    let woken = given(alloc, &mut room.woken);
+    let hands = given(alloc, &mut room.hands);
+    list_work(core, &mut room.list, own, made, woken, hands);
+    given(alloc, &mut room.list)
 }
 
 /// Leaves the handlers that a step may concern: none of a put's where it brought no entry, and an
@@ -127,24 +127,23 @@ fn keep_candidates<E: Drop>(
     }
 }
 
-/// The list of this work.
+/// Makes the empty list that of this work.
 fn list_work<P: Program, J: Named<P>>(
     core: &Core<'_, P>,
-    mut list: Vec<Work<P, J>>,
+    list: &mut Vec<Work<P, J>>,
     own: Option<Ticket<P, J>>,
     made: Option<Ticket<P, J>>,
     woken: Vec<Asked<P, J>>,
     hands: Vec<HandlerName<<P::Lat as Lattice>::Event>>,
-) -> Vec<Work<P, J>>
-    requires empty { list.items ≡ [] }
-    requires room { 2 + vec_len woken + vec_len hands ≤ vec_capacity list }
-    ensures { IsListOf (⟦<P as Meaning>⟧.machine core.now.program) core.now own made woken.items hands.items result.items }
+)
+    requires empty { list.old.items ≡ [] }
+    requires room { 2 + vec_len woken + vec_len hands ≤ vec_capacity list.old }
+    ensures { IsListOf (⟦<P as Meaning>⟧.machine core.now.program) core.now own made woken.items hands.items list.new.items }
 {
-    list_ticket(&mut list, own);
-    list_ticket(&mut list, made);
-    list_acts(&mut list, woken);
-    list_hands(core, &mut list, hands);
-    list
+    list_ticket(list, own);
+    list_ticket(list, made);
+    list_acts(list, woken);
+    list_hands(core, list, hands);
 }
 
 /// Lists the ticket, if there is one.

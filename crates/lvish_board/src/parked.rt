@@ -84,7 +84,7 @@ impl<P: Program, J: Named<P>> Parked<P, J> {
         if self.tasks.has(asked.task()) {
             return Ok(());
         }
-        let Ok(name) = asked.task().copy(alloc) else {
+        let Ok(name) = asked.task().copy() else {
             return Err(asked);
         };
         match &asked.asks().request {
@@ -93,7 +93,7 @@ impl<P: Program, J: Named<P>> Parked<P, J> {
                 if self.gets.reserve(alloc, key).is_err() {
                     return Err(asked);
                 }
-                self.tasks.insert(alloc, asked)?;
+                self.tasks.insert(asked)?;
                 self.gets.push_reserved(&key, name);
             }
             Request::Freeze(variable, _) => {
@@ -101,7 +101,7 @@ impl<P: Program, J: Named<P>> Parked<P, J> {
                 if self.freezes.reserve(alloc, key).is_err() {
                     return Err(asked);
                 }
-                self.tasks.insert(alloc, asked)?;
+                self.tasks.insert(asked)?;
                 self.freezes.push_reserved(&key, name);
             }
             _ => {}

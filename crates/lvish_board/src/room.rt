@@ -12,8 +12,10 @@ use lvish_handlers::Held;
 use lvish_lattice::{Lattice, Plain};
 use lvish_names::HandlerName;
 use std::alloc::{AllocError, Global};
+use std::mem;
 
-/// Room for the work of a step, taken before it, so that nothing is refused after it.
+/// Room for the work of a step, taken before it, so that nothing is refused after it. A board keeps
+/// it from step to step, so that a step takes no more of it where enough is there.
 #[derive(Drop)]
 pub(crate) struct Room<P: Program, J: Named<P>> {
     pub list: Vec<Work<P, J>>,
@@ -23,57 +25,81 @@ pub(crate) struct Room<P: Program, J: Named<P>> {
 }
 
 impl<P: Program, J: Named<P>> Room<P, J> {
-    /// Room for two tickets, for so many parked tasks, and for so many handlers.
-    ///
-    /// # Errors
-    ///
-    /// Where there is none.
-    pub(crate) fn new(
-        alloc: Global,
-        parked: usize,
-        handlers: usize,
-    ) -> Result<Room<P, J>, AllocError>
-        ensures list { IfOk result (λ r. (r.list.items ≡ []) × (2 + parked + handlers ≤ vec_capacity r.list)) }
-        ensures woken { IfOk result (λ r. (r.woken.items ≡ []) × (parked ≤ vec_capacity r.woken)) }
-        ensures hands { IfOk result (λ r. (r.hands.items ≡ []) × (handlers ≤ vec_capacity r.hands)) }
-    {
-        let most = parked.saturating_add(handlers).saturating_add(2);
-        Ok(Room {
-            list: Vec::with_capacity(alloc, most)?,
-            woken: Vec::with_capacity(alloc, parked)?,
-            hands: Vec::with_capacity(alloc, handlers)?,
-        })
+    /// No room.
+    pub(crate) fn new(alloc: Global) -> Room<P, J> {
+        Room {
+            list: Vec::new(alloc),
+            woken: Vec::new(alloc),
+            hands: Vec::new(alloc),
+        }
     }
 
-    /// Room for the step of a task, with copies of the names of the handlers that it may concern,
-    /// and the number of entries in the log of its put's variable.
+    /// Empty, with room for two tickets, for so many parked tasks, and for so many handlers.
     ///
     /// # Errors
     ///
     /// Where there is none.
-    pub(crate) fn of_request(
-        alloc: Global,
+    pub(crate) fn reserve(&mut self, parked: usize, handlers: usize) -> Result<(), AllocError>
+        ensures list { IfOk result (λ _. (self.new.list.items ≡ []) × (2 + parked + handlers ≤ vec_capacity self.new.list)) }
+        ensures woken { IfOk result (λ _. (self.new.woken.items ≡ []) × (parked ≤ vec_capacity self.new.woken)) }
+        ensures hands { IfOk result (λ _. (self.new.hands.items ≡ []) × (handlers ≤ vec_capacity self.new.hands)) }
+    {
+        let most = parked.saturating_add(handlers).saturating_add(2);
+        self.list.clear();
+        self.list.reserve(most)?;
+        self.woken.clear();
+        self.woken.reserve(parked)?;
+        self.hands.clear();
+        self.hands.reserve(handlers)
+    }
+
+    /// Room for the step of a task, with copies of the names of the handlers that it may concern. It
+    /// answers the number of entries in the log of its put's variable.
+    ///
+    /// # Errors
+    ///
+    /// Where there is none.
+    pub(crate) fn reserve_for(
+        &mut self,
         core: &Core<'_, P>,
         parked: usize,
         asked: &Asked<P, J>,
-    ) -> Result<(Room<P, J>, usize), AllocError>
+    ) -> Result<usize, AllocError>
         requires program { core.now.program ≡ J.program }
-        ensures empty { IfOk result (λ r. (r.0.list.items ≡ []) × (r.0.woken.items ≡ [])) }
-        ensures hands { IfOk result (λ r. AreConcerned P.Lat.Event.cmp (⟦<P as Meaning>⟧.machine core.now.program) core.now ((P.functions core.now.program).request asked.now.from) r.0.hands.items r.1) }
-        ensures list_room { IfOk result (λ r. 2 + parked + (length r.0.hands.items + most_added ((P.functions core.now.program).request asked.now.from)) ≤ vec_capacity r.0.list) }
-        ensures woken_room { IfOk result (λ r. parked ≤ vec_capacity r.0.woken) }
-        ensures hands_room { IfOk result (λ r. length r.0.hands.items + most_added ((P.functions core.now.program).request asked.now.from) ≤ vec_capacity r.0.hands) }
+        ensures empty { IfOk result (λ _. (self.new.list.items ≡ []) × (self.new.woken.items ≡ [])) }
+        ensures hands { IfOk result (λ n. AreConcerned P.Lat.Event.cmp (⟦<P as Meaning>⟧.machine core.now.program) core.now ((P.functions core.now.program).request asked.now.from) self.new.hands.items n) }
+        ensures list_room { IfOk result (λ _. 2 + parked + (length self.new.hands.items + most_added ((P.functions core.now.program).request asked.now.from)) ≤ vec_capacity self.new.list) }
+        ensures woken_room { IfOk result (λ _. parked ≤ vec_capacity self.new.woken) }
+        ensures hands_room { IfOk result (λ _. length self.new.hands.items + most_added ((P.functions core.now.program).request asked.now.from) ≤ vec_capacity self.new.hands) }
     {
         match &asked.asks().request {
             Request::Put(variable, _) => {
                 let handlers = core.handlers(*variable);
-                let mut room = Room::new(alloc, parked, handlers.len())?;
-                copy_names(alloc, handlers, &mut room.hands)?;
-                Ok((room, core.states()[*variable].log().len()))
+                self.reserve(parked, handlers.len())?;
+                copy_names(handlers, &mut self.hands)?;
+                Ok(core.states()[*variable].log().len())
             }
-            Request::Add(_, _) => Ok((Room::new(alloc, parked, 1)?, 0)),
-            _ => Ok((Room::new(alloc, parked, 0)?, 0)),
+            Request::Add(_, _) => {
+                self.reserve(parked, 1)?;
+                Ok(0)
+            }
+            _ => {
+                self.reserve(parked, 0)?;
+                Ok(0)
+            }
         }
+    }
+}
+
+/// Gives away what is in the buffer: in a list of its own, so that the buffer keeps its room, where
+/// there is memory for one, else with the buffer.
+pub(crate) fn given<T: Drop>(alloc: Global, buffer: &mut Vec<T>) -> Vec<T>
+    ensures { result.items ≡ buffer.old.items }
+{
+    let mut items = Vec::new(alloc);
+    match items.append(buffer) {
+        Ok(()) => items,
+        Err(_refused) => mem::replace(buffer, Vec::new(alloc)),
     }
 }
 
@@ -83,7 +109,6 @@ impl<P: Program, J: Named<P>> Room<P, J> {
 ///
 /// Where there is no room for a copy.
 fn copy_names<E: Plain>(
-    alloc: Global,
     handlers: &[Held<E>],
     names: &mut Vec<HandlerName<E>>,
 ) -> Result<(), AllocError>
@@ -93,7 +118,7 @@ fn copy_names<E: Plain>(
     ensures capacity { vec_capacity names.new ≡ vec_capacity names.old }
 {
     for held in handlers {
-        names.push_reserved(held.name.copy(alloc)?);
+        names.push_reserved(held.name.copy()?);
     }
     Ok(())
 }

@@ -49,7 +49,7 @@ impl<P: Program, J: Named<P>> Ticket<P, J> {
     pub fn copy(&self, alloc: Global, program: &P) -> Result<Ticket<P, J>, AllocError>
         ensures { IfOk result (λ t. t ≡ self.now) }
     {
-        let task = self.task.copy(alloc)?;
+        let task = self.task.copy()?;
         let from = program.copy_local(alloc, &self.from)?;
         Ok(Ticket::new(task, from))
     }

@@ -1,5 +1,5 @@
 -- What the program answers to an order and the bytes of a script, and with which status.
-use Rattle.std.specs.Prelude.{◌≡◌, ◌≢◌, ◌≤◌, ◌⊎◌, ℕ, Bool, List, ◌++◌, Option, Some, None, codes, slice_get, unwrap_or, option_map, length}
+use Rattle.std.specs.Prelude.{◌≡◌, ◌≢◌, ◌≤◌, ◌⊎◌, ℕ, Bool, List, ◌++◌, Option, Some, None, codes, slice_get, unwrap_or, option_map, length, [], true, false}
 use Rattle.lvish_names.specs.Names.{Name}
 use Rattle.lvish_names.specs.NameText.{name_text}
 use Rattle.lvish_syntax.specs.Words.{Word}
@@ -23,7 +23,7 @@ use Rattle.lvish_cli.specs.declared.order.Order.TheVariants.{Check, Run, Pick}
 use Rattle.lvish_cli.specs.declared.status.Status.{Status}
 use Rattle.lvish_cli.specs.declared.status.Status.TheVariants.{Done, Blocked, Refused, Error, Budget, Usage, Unreadable, Memory, NoThread, Stopped, Mixed, Unwritten}
 use Rattle.lvish_cli.specs.Faults.{kind_name}
-use Rattle.lvish_cli.specs.Lines.{ok_text, refusal_text, budget_text, error_text}
+use Rattle.lvish_cli.specs.Lines.{ok_text, bound_text, refusal_text, budget_text, error_text}
 use Rattle.lvish_cli.specs.Values.{Value, Event, event_key, event_number}
 
 -- a variable's name in an error line, - where the error has none
@@ -75,9 +75,18 @@ Runs = Script → ℕ → ℕ → Report Value Event → Type 0
 abbrev pub PickedRuns : Type 1
 PickedRuns = Script → List ℕ → ℕ → Report Value Event → Type 0
 
+-- after how many steps all runs of a script have ended, as far as one run within a budget shows it
+abbrev pub Bounds : Type 1
+Bounds = Script → ℕ → Option ℕ → Type 0
+
+-- what is printed behind `ok`: nothing, or where it is asked for, after how many steps all runs of the script have ended
+abbrev pub IsEndsText : Bounds → Script → Bool → ℕ → List ℕ → Type 0
+IsEndsText is_bound script false budget rest = rest ≡ []
+IsEndsText is_bound script true budget rest = (bound : Option ℕ) × is_bound script budget bound × (rest ≡ bound_text bound)
+
 -- the answer to a script that is checked
-abbrev pub IsCheckAnswer : Status → List ℕ → Type 0
-IsCheckAnswer status text = (status ≡ Done) × (text ≡ ok_text)
+abbrev pub IsCheckAnswer : Bounds → Script → Bool → ℕ → Status → List ℕ → Type 0
+IsCheckAnswer is_bound script ends budget status text = (status ≡ Done) × ((rest : List ℕ) × IsEndsText is_bound script ends budget rest × (text ≡ ok_text ++ rest))
 
 -- the answer to a script that so many workers run
 abbrev pub IsRunAnswer : Runs → Script → (workers budget : ℕ) → Bool → Status → List ℕ → Type 0
@@ -91,10 +100,10 @@ IsPickAnswer is_picked_run script picks budget all status text =
     × ((rest : List ℕ) × IsReportAnswer (variables_of script.declarations) budget all report status rest × (text ≡ trace_text report ++ rest))
 
 -- the answer to an order about a script
-abbrev pub IsScriptAnswer : Runs → PickedRuns → Script → Order → Status → List ℕ → Type 0
-IsScriptAnswer is_run is_picked_run script Check status text = IsCheckAnswer status text
-IsScriptAnswer is_run is_picked_run script (Run workers budget all) status text = IsRunAnswer is_run script workers budget all status text
-IsScriptAnswer is_run is_picked_run script (Pick picks budget all) status text = IsPickAnswer is_picked_run script picks budget all status text
+abbrev pub IsScriptAnswer : Runs → PickedRuns → Bounds → Script → Order → Status → List ℕ → Type 0
+IsScriptAnswer is_run is_picked_run is_bound script (Check ends budget) status text = IsCheckAnswer is_bound script ends budget status text
+IsScriptAnswer is_run is_picked_run is_bound script (Run workers budget all) status text = IsRunAnswer is_run script workers budget all status text
+IsScriptAnswer is_run is_picked_run is_bound script (Pick picks budget all) status text = IsPickAnswer is_picked_run script picks budget all status text
 
 -- the answer to a text that is no script
 abbrev pub IsRefusalAnswer : ScriptFault → Status → List ℕ → Type 0
@@ -102,14 +111,14 @@ IsRefusalAnswer e status text =
     (e.fault ≢ fault.Memory) × (status ≡ Refused) × (text ≡ refusal_text (fault_number e.fault) (fault_name e.fault) e.line)
 
 -- the answer to an order about the bytes of a script: about the script that they spell, or their first fault
-abbrev pub IsAnswer : Runs → PickedRuns → Order → List ℕ → Status → List ℕ → Type 0
-IsAnswer is_run is_picked_run order input status text =
-    ((script : Script) × Spells input script × IsScriptAnswer is_run is_picked_run script order status text)
+abbrev pub IsAnswer : Runs → PickedRuns → Bounds → Order → List ℕ → Status → List ℕ → Type 0
+IsAnswer is_run is_picked_run is_bound order input status text =
+    ((script : Script) × Spells input script × IsScriptAnswer is_run is_picked_run is_bound script order status text)
     ⊎ ((e : ScriptFault) × IsRefused input e × IsRefusalAnswer e status text)
 
 -- the order asks for a run by at least so many workers
 abbrev pub AsksWorkers : ℕ → Order → Type 0
-AsksWorkers least Check = ⊥
+AsksWorkers least (Check ends budget) = ⊥
 AsksWorkers least (Run workers budget all) = least ≤ workers
 AsksWorkers least (Pick picks budget all) = ⊥
 

@@ -1,5 +1,5 @@
 -- The lines that stand in place of a report.
-use Rattle.std.specs.Prelude.{ℕ, List, [], ◌∷◌, ◌++◌, codes}
+use Rattle.std.specs.Prelude.{ℕ, List, [], ◌∷◌, ◌++◌, Option, Some, None, codes}
 use Rattle.std.specs.Fmt.{decimal}
 
 -- the text, and the end of its line
@@ -9,6 +9,11 @@ line_of text = text ++ 10 ∷ []
 -- a script has no fault
 abbrev pub ok_text : List ℕ
 ok_text = line_of (codes "ok")
+
+-- after how many steps each run of a script has ended, or that it isn't known
+abbrev pub bound_text : Option ℕ → List ℕ
+bound_text (Some n) = line_of (codes "always ends " ++ decimal n)
+bound_text None = line_of (codes "unknown")
 
 -- a script's fault, by its number and its name, and its line
 abbrev pub refusal_text : ℕ → List ℕ → ℕ → List ℕ

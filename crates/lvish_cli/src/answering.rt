@@ -2,11 +2,11 @@ ghost use Rattle.std.specs.Prelude.{◌≤◌, ◌≡◌, IfErr, IfOk, string_by
 ghost use Rattle.lvish_cli.specs.Orders.{IsWithin};
 ghost use Rattle.lvish_cli.specs.Answers.{IsAnswer, IsUnanswered, CanMeet, IsScriptAnswer, IsCheckAnswer, IsRefusalAnswer};
 
-use crate::lines::{ok_line, refusal_line};
+use crate::lines::{bound_line, ok_line, refusal_line};
 use crate::order::Order;
 use crate::running::{pick_answer, run_answer};
 use crate::status::Status;
-use lvish_run::{RunFault, Runs};
+use lvish_run::{RunFault, Runs, always_ends};
 use lvish_script::{Fault, ScriptFault, read_script};
 use lvish_syntax::Script;
 use std::alloc::{AllocError, Global};
@@ -33,7 +33,7 @@ pub fn answer_to<R: Threads + Wait + Sync>(
 ) -> Result<Answer, RunFault>
     requires { IsWithin order.now }
     ensures ok { IfOk result (λ answer.
-        IsAnswer ⟦<Script as Runs>⟧.is_run ⟦<Script as Runs>⟧.is_picked_run order.now input.now answer.status (string_bytes answer.text)) }
+        IsAnswer ⟦<Script as Runs>⟧.is_run ⟦<Script as Runs>⟧.is_picked_run ⟦<Script as Runs>⟧.is_bound order.now input.now answer.status (string_bytes answer.text)) }
     ensures err { IfErr result (λ fault. IsUnanswered order.now input.now fault) }
 {
     match read_script(alloc, input) {
@@ -51,11 +51,11 @@ fn script_answer<R: Threads + Wait + Sync>(
 ) -> Result<Answer, RunFault>
     requires { IsWithin order.now }
     ensures ok { IfOk result (λ answer.
-        IsScriptAnswer ⟦<Script as Runs>⟧.is_run ⟦<Script as Runs>⟧.is_picked_run script.now order.now answer.status (string_bytes answer.text)) }
+        IsScriptAnswer ⟦<Script as Runs>⟧.is_run ⟦<Script as Runs>⟧.is_picked_run ⟦<Script as Runs>⟧.is_bound script.now order.now answer.status (string_bytes answer.text)) }
     ensures err { IfErr result (λ fault. CanMeet order.now fault) }
 {
     match order {
-        Order::Check => Ok(check_answer(alloc)?),
+        Order::Check { ends, budget } => Ok(check_answer(alloc, script, *ends, *budget)?),
         Order::Run {
             workers,
             budget,
@@ -68,10 +68,21 @@ fn script_answer<R: Threads + Wait + Sync>(
 }
 
 /// The answer to a script that is checked.
-fn check_answer(alloc: Global) -> Result<Answer, AllocError>
-    ensures { IfOk result (λ answer. IsCheckAnswer answer.status (string_bytes answer.text)) }
+fn check_answer(
+    alloc: Global,
+    script: &Script,
+    ends: bool,
+    budget: u64,
+) -> Result<Answer, AllocError>
+    requires { budget ≤ 1000000 }
+    ensures { IfOk result (λ answer.
+        IsCheckAnswer ⟦<Script as Runs>⟧.is_bound script.now ends budget answer.status (string_bytes answer.text)) }
 {
-    let text = ok_line(alloc)?;
+    let mut text = ok_line(alloc)?;
+    if ends {
+        let bound = always_ends(alloc, script, budget)?;
+        text.push_str(bound_line(alloc, bound)?.as_str())?;
+    }
     Ok(Answer {
         status: Status::Done,
         text,

@@ -24,7 +24,7 @@ pub fn program<'a>(alloc: Global) -> Result<Command<'a>, AllocError> {
 }
 
 const PROGRAM_USAGE: &str = "lvish
-       lvish check FILE
+       lvish check FILE [--ends] [--steps N]
        lvish run FILE [--workers N] [--steps N] [--all]
        lvish pick FILE [--steps N] [--all] [N]...";
 
@@ -47,17 +47,35 @@ Statuses:
 
 /// The words of a check.
 fn check<'a>(alloc: Global) -> Result<Command<'a>, AllocError> {
+    let ends = Arg::new(alloc, "ends")
+        .long("ends")
+        .help("Say as well whether all runs of the script end")
+        .action(ArgAction::SetTrue);
+    let steps = Arg::new(alloc, "steps")
+        .long("steps")
+        .value_name("N")
+        .help("Try so many steps for --ends, 0 to 1000000")
+        .value_parser(value_parser!(u64).range(0..=1_000_000))
+        .default_value("100000");
     Command::new(alloc, "check")
         .about("Says whether a text is a script")
         .after_help(CHECK_HELP)
-        .arg(file(alloc))
+        .arg(file(alloc))?
+        .arg(ends)?
+        .arg(steps)
 }
 
 const CHECK_HELP: &str = "\
 Prints `ok`, or `refused NUMBER NAME line L`: the first fault, and the line that has it.
 
-Example:
+With --ends a second line follows `ok`. `always ends N` says that the script, whatever the schedule
+and the number of workers, never errs and never takes more than N steps, and that every run that
+goes on to its end has the same report; else it is `unknown`. One run shows it, which --steps
+limits; of a script with a line `freeze` none does.
+
+Examples:
   lvish check first.lvish
+  lvish check first.lvish --ends
 
 Statuses: 0 a script, 3 unreadable, 4 refused, 7 memory, 8 another fault";
 

@@ -1,5 +1,5 @@
 ghost use Rattle.std.specs.Prelude.{◌≡◌, IfOk, string_bytes};
-ghost use Rattle.lvish_cli.specs.Lines.{ok_text, refusal_text, budget_text, error_text};
+ghost use Rattle.lvish_cli.specs.Lines.{ok_text, bound_text, refusal_text, budget_text, error_text};
 
 use std::alloc::{AllocError, Global};
 
@@ -8,6 +8,16 @@ pub fn ok_line(alloc: Global) -> Result<String, AllocError>
     ensures { IfOk result (λ text. string_bytes text ≡ ok_text) }
 {
     String::from_str(alloc, "ok\n")
+}
+
+/// `always ends N`, for a script whose runs have all ended after N steps, or `unknown`.
+pub fn bound_line(alloc: Global, bound: Option<u64>) -> Result<String, AllocError>
+    ensures { IfOk result (λ text. string_bytes text ≡ bound_text bound) }
+{
+    match bound {
+        Some(steps) => format!(in alloc; "always ends {steps}\n"),
+        None => String::from_str(alloc, "unknown\n"),
+    }
 }
 
 /// `refused NUMBER NAME line L`, for a script's fault and the line on which it is.

@@ -8,7 +8,12 @@ use thiserror::Error;
 #[derive(Debug, PartialEq, Drop)]
 pub enum Order {
     /// Say whether the text is a script.
-    Check,
+    Check {
+        /// Whether to say as well whether all runs of it end, and after how many steps at most.
+        ends: bool,
+        /// As far as a run of so many steps shows it.
+        budget: u64,
+    },
     /// Run the script and print the report.
     Run {
         /// How many workers run it.

@@ -25,7 +25,7 @@ pub fn perform<T: Threads + Wait + Sync, R: Read, W: Write>(
     writer: &mut W,
 ) -> Status
     requires { IsWithin order.now }
-    ensures performs { Performs ⟦<Script as Runs>⟧.is_run ⟦<Script as Runs>⟧.is_picked_run order.now
+    ensures performs { Performs ⟦<Script as Runs>⟧.is_run ⟦<Script as Runs>⟧.is_picked_run ⟦<Script as Runs>⟧.is_bound order.now
         (R.remaining reader.old) (W.contents writer.old) (W.contents writer.new) result }
     ensures reads { GivesUpTo MOST_READ (R.remaining reader.old) (R.remaining reader.new) }
 {

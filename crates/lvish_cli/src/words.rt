@@ -40,13 +40,23 @@ fn asked(alloc: Global, matches: &ArgMatches<'_>) -> Result<(Order, String), Usa
     ensures { IfOk result (λ asked. IsWithin asked.0) }
 {
     let (order, words) = match matches.subcommand() {
-        Some(("check", words)) => (Order::Check, words),
+        Some(("check", words)) => (check_of(words), words),
         Some(("run", words)) => (run_of(words), words),
         Some(("pick", words)) => (pick_of(alloc, words)?, words),
         _ => return Err(UsageFault::Refused(String::new(alloc))),
     };
     let path = String::from_str(alloc, words.get_str("file").unwrap_or(""))?;
     Ok((order, path))
+}
+
+/// The order of the words of a check.
+fn check_of(words: &ArgMatches<'_>) -> Order
+    ensures { IsWithin result }
+{
+    Order::Check {
+        ends: words.get_flag("ends"),
+        budget: budget_of(words),
+    }
 }
 
 /// The order of the words of a run.

@@ -14,6 +14,7 @@ use Rattle.lvish_compound.proofs.Brought.{brought}
 use Rattle.std.specs.declared.cmp.Ord as ord
 use Rattle.std.specs.declared.cmp.PartialEq as partial_eq
 use Rattle.std.specs.declared.cmp.PartialOrd as partial_ord
+use Rattle.std.specs.declared.hash.Hash as hash
 use Rattle.lvish_lattice.specs.declared.lattice.Lattice as lattice
 use Rattle.lvish_compound.specs.declared.map_of.MapOf.{MapOf}
 
@@ -45,14 +46,14 @@ module _ {K L Refused : Type 0} (R : K → K → Ordering) (least : L) (join : L
   pub stays_above : (eq : L → L → Bool) → ((x : L) → eq x x ≡ true) → IsIdentity eq → eq v least ≡ false → has_no eq least es ≡ true → has_no eq least fs ≡ true
   stays_above eq itself same p n = either (λ zs. has_no eq least zs ≡ true) n (λ gs. add_above R least join o j eq itself same k v es gs (ap not p) n)
 
-module _ {K L E : Type 0} {ko : ord.Ghosts K} {ke : partial_eq.Ghosts K} {kp : partial_ord.Ghosts K} {l : lattice.Ghosts L E} {le : partial_eq.Ghosts L} {eo : ord.Ghosts E} {ee : partial_eq.Ghosts E} {ep : partial_ord.Ghosts E} where
-  pub joined_some : (a b c : MapOf K L E ko ke kp l le eo ee ep) → add_all ko.cmp l.least l.joined a.entries b.entries ≡ Some c.entries → joined a b ≡ Some c
+module _ {K L E : Type 0} {ko : ord.Ghosts K} {ke : partial_eq.Ghosts K} {kp : partial_ord.Ghosts K} {l : lattice.Ghosts L E} {le : partial_eq.Ghosts L} {eo : ord.Ghosts E} {ee : partial_eq.Ghosts E} {ep : partial_ord.Ghosts E} {eh : hash.Ghosts E} where
+  pub joined_some : (a b c : MapOf K L E ko ke kp l le eo ee ep eh) → add_all ko.cmp l.least l.joined a.entries b.entries ≡ Some c.entries → joined a b ≡ Some c
   joined_some a b c h = ap (option_and_then map_of) h ∙ map_of-entries c
 
-  pub joined_none : (a b : MapOf K L E ko ke kp l le eo ee ep) → add_all ko.cmp l.least l.joined a.entries b.entries ≡ None → joined a b ≡ None
+  pub joined_none : (a b : MapOf K L E ko ke kp l le eo ee ep eh) → add_all ko.cmp l.least l.joined a.entries b.entries ≡ None → joined a b ≡ None
   joined_none a b h = ap (option_and_then map_of) h
 
-  one_added : (a b : MapOf K L E ko ke kp l le eo ee ep) (k : K) (v : L) → b.entries ≡ (k, v) ∷ [] → add_all ko.cmp l.least l.joined a.entries b.entries ≡ add ko.cmp l.least l.joined k v a.entries
+  one_added : (a b : MapOf K L E ko ke kp l le eo ee ep eh) (k : K) (v : L) → b.entries ≡ (k, v) ∷ [] → add_all ko.cmp l.least l.joined a.entries b.entries ≡ add ko.cmp l.least l.joined k v a.entries
   one_added a b k v h = ap (add_all ko.cmp l.least l.joined a.entries) h ∙ whole (add ko.cmp l.least l.joined k v a.entries)
     where
       whole : (x : Option (List (K × L))) → option_and_then (λ gs. Some gs) x ≡ x
@@ -60,7 +61,7 @@ module _ {K L E : Type 0} {ko : ord.Ghosts K} {ke : partial_eq.Ghosts K} {kp : p
       whole (Some gs) = refl
 
   -- a put with one key is joined in place
-  pub merged_one : (a b m : MapOf K L E ko ke kp l le eo ee ep) (k : K) (v : L) (r : Bool) → b.entries ≡ (k, v) ∷ [] → r ≡ is_some (add ko.cmp l.least l.joined k v a.entries) → m.entries ≡ unwrap_or (add ko.cmp l.least l.joined k v a.entries) a.entries
+  pub merged_one : (a b m : MapOf K L E ko ke kp l le eo ee ep eh) (k : K) (v : L) (r : Bool) → b.entries ≡ (k, v) ∷ [] → r ≡ is_some (add ko.cmp l.least l.joined k v a.entries) → m.entries ≡ unwrap_or (add ko.cmp l.least l.joined k v a.entries) a.entries
       → (r ≡ is_some (joined a b)) × (m ≡ unwrap_or (joined a b) a)
   merged_one a b m k v r h is new = by_add (add ko.cmp l.least l.joined k v a.entries) refl is new
     where
@@ -69,7 +70,7 @@ module _ {K L E : Type 0} {ko : ord.Ghosts K} {ke : partial_eq.Ghosts K} {kp : p
       by_add (Some gs) e is new = let there : joined a b ≡ Some m = joined_some a b m (one_added a b k v h ∙ e ∙ ap Some (sym new)) in (is ∙ ap is_some (sym there), ap (λ x. unwrap_or x a) (sym there))
 
   -- the same of a call
-  module _ {Refused : Type 0} (a b m : MapOf K L E ko ke kp l le eo ee ep) (q : Result Bool Refused) where
+  module _ {Refused : Type 0} (a b m : MapOf K L E ko ke kp l le eo ee ep eh) (q : Result Bool Refused) where
     pub merged_result : (k : K) (v : L) → b.entries ≡ (k, v) ∷ []
         → IfOk q (λ r. (r ≡ is_some (add ko.cmp l.least l.joined k v a.entries)) × (m.entries ≡ unwrap_or (add ko.cmp l.least l.joined k v a.entries) a.entries))
         → IfOk q (λ r. (r ≡ is_some (joined a b)) × (m ≡ unwrap_or (joined a b) a))
@@ -90,7 +91,7 @@ module _ {K L E : Type 0} {ko : ord.Ghosts K} {ke : partial_eq.Ghosts K} {kp : p
   module _ (o : IsTotalOrder ko.cmp) (same_key : (x y : K) → ko.cmp x y ≡ Equal → x ≡ y) (j : IsJoin l.least l.joined) (itself : (x : L) → le.eq x x ≡ true) (same : IsIdentity le.eq)
       (oc : IsTotalOrder eo.cmp) (same_event : (x y : E) → eo.cmp x y ≡ Equal → x ≡ y) (h : HasEvents l.least l.joined (eq_by_cmp eo.cmp) eo.cmp l.events_of)
       (keq : K → K → Bool) (eeq : E → E → Bool) (kt : (x y : K) → keq x y ≡ is_eq (ko.cmp x y)) (et : (x y : E) → eeq x y ≡ is_eq (eo.cmp x y)) where
-    pub map_fresh : (a b : MapOf K L E ko ke kp l le eo ee ep) (v : List (K × E))
+    pub map_fresh : (a b : MapOf K L E ko ke kp l le eo ee ep eh) (v : List (K × E))
         → MatchOption (add_all ko.cmp l.least l.joined a.entries b.entries) (v ≡ []) (λ _. v ≡ events_by (λ k p. fresh_of l.joined eeq l.events_of (at a k) p) b.entries)
         → v ≡ fresh_of joined (λ (x y : K × E). keq x.0 y.0 && eeq x.1 y.1) map_events_of a b
     map_fresh a b v m = by_add (add_all ko.cmp l.least l.joined a.entries b.entries) refl m
@@ -98,7 +99,7 @@ module _ {K L E : Type 0} {ko : ord.Ghosts K} {ke : partial_eq.Ghosts K} {kp : p
         by_add : (x : Option (List (K × L))) → add_all ko.cmp l.least l.joined a.entries b.entries ≡ x → MatchOption x (v ≡ []) (λ _. v ≡ events_by (λ k p. fresh_of l.joined eeq l.events_of (at a k) p) b.entries) → v ≡ fresh_of joined (λ (x y : K × E). keq x.0 y.0 && eeq x.1 y.1) map_events_of a b
         by_add None e m = m ∙ sym (ap (events_beyond (λ (x y : K × E). keq x.0 y.0 && eeq x.1 y.1) map_events_of a) (joined_none a b e))
         by_add (Some gs) e m =
-            let w : (c : MapOf K L E ko ke kp l le eo ee ep) × (c.entries ≡ gs) × (joined a b ≡ Some c) = with_entries o same_key j itself same a b gs e in
+            let w : (c : MapOf K L E ko ke kp l le eo ee ep eh) × (c.entries ≡ gs) × (joined a b ≡ Some c) = with_entries o same_key j itself same a b gs e in
             m ∙ ap (λ (t : E → E → Bool). events_by (λ k p. fresh_of l.joined t l.events_of (at a k) p) b.entries) (λ i x y. et x y i)
             ∙ sym (brought eo.cmp oc same_event j h ko.cmp o same_key a.entries b.entries w.0.entries a.ascending b.ascending w.0.ascending (joins_places o same_key j itself same a b w.0 w.2))
             ∙ ap (λ (t : K × E → K × E → Bool). events_beyond t map_events_of a (Some w.0)) (λ i x y. sym (both_tied (keq x.0 y.0) (eeq x.1 y.1) (ko.cmp x.0 y.0) (eo.cmp x.1 y.1) (kt x.0 y.0) (et x.1 y.1)) i)

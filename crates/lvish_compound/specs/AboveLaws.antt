@@ -6,6 +6,7 @@ use Rattle.lvish_compound.specs.Within.{left_below, same_some}
 use Rattle.std.specs.declared.cmp.Ord as ord
 use Rattle.std.specs.declared.cmp.PartialEq as partial_eq
 use Rattle.std.specs.declared.cmp.PartialOrd as partial_ord
+use Rattle.std.specs.declared.hash.Hash as hash
 use Rattle.lvish_lattice.specs.declared.lattice.Lattice as lattice
 use Rattle.lvish_compound.specs.declared.above.Above.{Above}
 use Rattle.lvish_compound.specs.Above.{same_above}
@@ -32,7 +33,7 @@ module _ {L : Type 0} {least : L} {join : L → L → Option L} (j : IsJoin leas
   merged_above (Ok t) P old put new n ok err = ap (λ x. eq x least) ok.1 ∙ unless_top old put (join old put) refl n
   merged_above (Err e) P old put new n ok err = ap (λ x. eq x least) err ∙ n
 
-module _ {L E : Type 0} {l : lattice.Ghosts L E} {le : partial_eq.Ghosts L} {eo : ord.Ghosts E} {ee : partial_eq.Ghosts E} {ep : partial_ord.Ghosts E} where
-  pub kept : {T X : Type 0} (r : Result T X) (new old : Above L E l le eo ee ep) → IfErr r (λ _. new.state ≡ old.state) → IfErr r (λ _. new ≡ old)
+module _ {L E : Type 0} {l : lattice.Ghosts L E} {le : partial_eq.Ghosts L} {eo : ord.Ghosts E} {ee : partial_eq.Ghosts E} {ep : partial_ord.Ghosts E} {eh : hash.Ghosts E} where
+  pub kept : {T X : Type 0} (r : Result T X) (new old : Above L E l le eo ee ep eh) → IfErr r (λ _. new.state ≡ old.state) → IfErr r (λ _. new ≡ old)
   kept (Ok t) new old h = tt
   kept (Err e) new old h = same_above new old h

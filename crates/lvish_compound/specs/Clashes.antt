@@ -4,6 +4,7 @@ use Rattle.lvish_lattice.specs.Top.{TwoValues}
 use Rattle.std.specs.declared.cmp.Ord as ord
 use Rattle.std.specs.declared.cmp.PartialEq as partial_eq
 use Rattle.std.specs.declared.cmp.PartialOrd as partial_ord
+use Rattle.std.specs.declared.hash.Hash as hash
 use Rattle.lvish_lattice.specs.declared.lattice.Lattice as lattice
 use Rattle.lvish_compound.specs.declared.any.Any.{Any}
 use Rattle.lvish_compound.specs.declared.any.Any.TheVariants.{Part, Map, Sides}
@@ -18,9 +19,9 @@ use Rattle.lvish_compound.specs.States.{nothing}
 abbrev pub JoinToTop : {S : Type 0} → (S → S → Option S) → S → S → Type 0
 JoinToTop join s t = join s t ≡ None
 
-module _ {K L E : Type 0} {ko : ord.Ghosts K} {ke : partial_eq.Ghosts K} {kp : partial_ord.Ghosts K} {l : lattice.Ghosts L E} {le : partial_eq.Ghosts L} {eo : ord.Ghosts E} {ee : partial_eq.Ghosts E} {ep : partial_ord.Ghosts E} where
+module _ {K L E : Type 0} {ko : ord.Ghosts K} {ke : partial_eq.Ghosts K} {kp : partial_ord.Ghosts K} {l : lattice.Ghosts L E} {le : partial_eq.Ghosts L} {eo : ord.Ghosts E} {ee : partial_eq.Ghosts E} {ep : partial_ord.Ghosts E} {eh : hash.Ghosts E} where
   -- the parts of two maps at some key clash
-  abbrev pub AtSomeKey : (L → L → Type 0) → MapOf K L E ko ke kp l le eo ee ep → MapOf K L E ko ke kp l le eo ee ep → Type 0
+  abbrev pub AtSomeKey : (L → L → Type 0) → MapOf K L E ko ke kp l le eo ee ep eh → MapOf K L E ko ke kp l le eo ee ep eh → Type 0
   AtSomeKey ClashThere a b = (k : K) × ClashThere (at a k) (at b k)
 
 -- the first sides of two pairs clash, or the second

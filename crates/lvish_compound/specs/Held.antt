@@ -4,12 +4,13 @@ use Rattle.std.proofs.Common.{sym, ap, subst}
 use Rattle.std.specs.declared.cmp.Ord as ord
 use Rattle.std.specs.declared.cmp.PartialEq as partial_eq
 use Rattle.std.specs.declared.cmp.PartialOrd as partial_ord
+use Rattle.std.specs.declared.hash.Hash as hash
 use Rattle.lvish_lattice.specs.declared.lattice.Lattice as lattice
 use Rattle.lvish_compound.specs.declared.above.Above.{Above}
 use Rattle.lvish_compound.specs.Above.{above, above_is, bottom_is_none}
 
-module _ {L E S : Type 0} {l : lattice.Ghosts L E} {le : partial_eq.Ghosts L} {eo : ord.Ghosts E} {ee : partial_eq.Ghosts E} {ep : partial_ord.Ghosts E} (put : Above L E l le eo ee ep → S) where
-  abbrev pub from : S → Option (Above L E l le eo ee ep) → S
+module _ {L E S : Type 0} {l : lattice.Ghosts L E} {le : partial_eq.Ghosts L} {eo : ord.Ghosts E} {ee : partial_eq.Ghosts E} {ep : partial_ord.Ghosts E} {eh : hash.Ghosts E} (put : Above L E l le eo ee ep eh → S) where
+  abbrev pub from : S → Option (Above L E l le eo ee ep eh) → S
   from nothing (Some x) = put x
   from nothing None = nothing
 
@@ -27,22 +28,22 @@ module _ {L E S : Type 0} {l : lattice.Ghosts L E} {le : partial_eq.Ghosts L} {e
   abbrev pub bottom_of : L
   bottom_of = l.least
 
-  abbrev pub state_in : Above L E l le eo ee ep → L
+  abbrev pub state_in : Above L E l le eo ee ep eh → L
   state_in x = x.state
 
   abbrev pub Held : Type 0
   Held = L
 
-  pub held_above : (nothing : S) (x : Above L E l le eo ee ep) → held nothing x.state ≡ put x
+  pub held_above : (nothing : S) (x : Above L E l le eo ee ep eh) → held nothing x.state ≡ put x
   held_above nothing x = ap (from nothing) (above_is x.state x refl)
 
   pub held_bottom : (nothing : S) (s : L) → is_bottom s ≡ true → held nothing s ≡ nothing
   held_bottom nothing s e = ap (from nothing) (bottom_is_none s e)
 
-  held_case : (nothing : S) (P : S → Type 0) (s : L) (t : Bool) → is_bottom s ≡ t → (is_bottom s ≡ true → P nothing) → ((x : Above L E l le eo ee ep) → x.state ≡ s → P (put x)) → P (held nothing s)
+  held_case : (nothing : S) (P : S → Type 0) (s : L) (t : Bool) → is_bottom s ≡ t → (is_bottom s ≡ true → P nothing) → ((x : Above L E l le eo ee ep eh) → x.state ≡ s → P (put x)) → P (held nothing s)
   held_case nothing P s true e f g = subst P (sym (held_bottom nothing s e)) (f e)
   held_case nothing P s false e f g = subst P (sym (held_above nothing (record { state = s; rises = e }))) (g (record { state = s; rises = e }) refl)
 
   -- a fact of what is held, by whether it is bottom
-  pub held_by : (nothing : S) (P : S → Type 0) (s : L) → (is_bottom s ≡ true → P nothing) → ((x : Above L E l le eo ee ep) → x.state ≡ s → P (put x)) → P (held nothing s)
+  pub held_by : (nothing : S) (P : S → Type 0) (s : L) → (is_bottom s ≡ true → P nothing) → ((x : Above L E l le eo ee ep eh) → x.state ≡ s → P (put x)) → P (held nothing s)
   held_by nothing P s f g = held_case nothing P s (is_bottom s) refl f g

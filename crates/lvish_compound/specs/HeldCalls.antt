@@ -6,6 +6,7 @@ use Rattle.lvish_lattice.specs.Lattice.{events_beyond}
 use Rattle.std.specs.declared.cmp.Ord as ord
 use Rattle.std.specs.declared.cmp.PartialEq as partial_eq
 use Rattle.std.specs.declared.cmp.PartialOrd as partial_ord
+use Rattle.std.specs.declared.hash.Hash as hash
 use Rattle.lvish_lattice.specs.declared.lattice.Lattice as lattice
 use Rattle.lvish_compound.specs.declared.above.Above.{Above}
 use Rattle.lvish_compound.specs.Above.{state_of, same_above}
@@ -23,6 +24,6 @@ pub none_beyond : {S N : Type 0} (eq : N → N → Bool) → ((n : N) → eq n n
 none_beyond eq its ev s o e = sym (ap (events_beyond eq ev s) e ∙ nothing_beyond eq its (ev s))
 
 -- a state under a name holds the state
-pub held_carried : {L E S : Type 0} {l : lattice.Ghosts L E} {le : partial_eq.Ghosts L} {eo : ord.Ghosts E} {ee : partial_eq.Ghosts E} {ep : partial_ord.Ghosts E} (put : Above L E l le eo ee ep → S) (nothing : S) (join : S → S → Option S)
-    → ((x z : Above L E l le eo ee ep) → join (put x) (put z) ≡ option_map (held put nothing) (l.joined x.state z.state)) → IsCarried put state_of (held put nothing) join l.joined
+pub held_carried : {L E S : Type 0} {l : lattice.Ghosts L E} {le : partial_eq.Ghosts L} {eo : ord.Ghosts E} {ee : partial_eq.Ghosts E} {ep : partial_ord.Ghosts E} {eh : hash.Ghosts E} (put : Above L E l le eo ee ep eh → S) (nothing : S) (join : S → S → Option S)
+    → ((x z : Above L E l le eo ee ep eh) → join (put x) (put z) ≡ option_map (held put nothing) (l.joined x.state z.state)) → IsCarried put state_of (held put nothing) join l.joined
 held_carried put nothing join inside = record { back = held_above put nothing; same = same_above; inside = inside }

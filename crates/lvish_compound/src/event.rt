@@ -9,7 +9,7 @@ use std::cmp::Ordering;
 ///
 /// The key is the key of a map or the side of a pair, and else 0. Events are ordered by key, then
 /// kind, then number.
-#[derive(Clone, Copy, Debug, PartialEq, Eq, PartialOrd, Ord)]
+#[derive(Clone, Copy, Debug, PartialEq, Eq, PartialOrd, Ord, Hash)]
 pub struct Event {
     pub key: i64,
     pub kind: Kind,

@@ -1,7 +1,7 @@
 use lvish_lattice::Plain;
 
 /// The kinds of variables of a script that have events of their own.
-#[derive(Clone, Copy, Debug, PartialEq, Eq, PartialOrd, Ord)]
+#[derive(Clone, Copy, Debug, PartialEq, Eq, PartialOrd, Ord, Hash)]
 pub enum Kind {
     Cell,
     Set,

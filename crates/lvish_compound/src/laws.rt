@@ -9,14 +9,15 @@ use crate::pair::Pair;
 use crate::part::Part;
 use lvish_lattice::laws::cells_join_to_top_at_two_values;
 use lvish_lattice::{Flat, Lattice, Plain};
+use std::hash::Hash;
 
 /// Two maps join to top exactly where, at some key, their parts do.
-pub fn maps_join_to_top_at_some_key<K: Plain, L: Lattice>()
+pub fn maps_join_to_top_at_some_key<K: Plain + Hash, L: Lattice>()
     ensures { IsTopWhere ⟦<MapOf<K, L> as Lattice>⟧.joined (AtSomeKey (JoinToTop L.joined)) }
 {}
 
 /// Two maps of cells join to top exactly where some key has two values that differ.
-pub fn maps_of_cells_join_to_top_at_two_values<K: Plain, V: Plain>()
+pub fn maps_of_cells_join_to_top_at_two_values<K: Plain + Hash, V: Plain + Hash>()
     ensures { IsTopWhere ⟦<MapOf<K, Flat<V>> as Lattice>⟧.joined (AtSomeKey TwoValues) }
 {
     maps_join_to_top_at_some_key::<K, Flat<V>>();

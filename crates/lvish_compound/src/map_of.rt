@@ -8,6 +8,7 @@ use crate::keyed;
 use lvish_lattice::{Lattice, Plain};
 use std::alloc::{AllocError, Global};
 use std::collections::btree_map::Iter;
+use std::hash::Hash;
 
 /// A map that only grows: its entries, in the order of their keys. No key holds bottom.
 #[derive(Debug, Drop)]
@@ -82,7 +83,7 @@ impl<K: Plain, L: Lattice> Eq for MapOf<K, L> {
     ghost laws = { alike_equiv (and_equiv (on_equiv (λ (t : K × L). t.0) K.Eq.laws) (on_equiv (λ (t : K × L). t.1) L.Eq.laws)) };
 }
 
-impl<K: Plain, L: Lattice> Lattice for MapOf<K, L> {
+impl<K: Plain + Hash, L: Lattice> Lattice for MapOf<K, L> {
     ghost use Rattle.lvish_compound.specs.MapOf.{empty, joined, map_events_of};
 
     type Event = (K, L::Event);

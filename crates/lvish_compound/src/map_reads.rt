@@ -2,6 +2,7 @@ ghost use Rattle.std.specs.Prelude.{◌≡◌};
 
 use crate::map_of::MapOf;
 use lvish_lattice::{Lattice, Plain, Reads};
+use std::hash::Hash;
 
 /// A read of what one key holds.
 #[derive(Debug, Drop)]
@@ -10,7 +11,7 @@ pub struct AtKey<K, R> {
     pub read: R,
 }
 
-impl<K: Plain, L: Reads> Reads for MapOf<K, L> {
+impl<K: Plain + Hash, L: Reads> Reads for MapOf<K, L> {
     ghost use Rattle.lvish_compound.specs.MapReads.{Member, answer_of, spot_of, watched};
 
     type Read = AtKey<K, L::Read>;

@@ -5,7 +5,7 @@ use lvish_lattice::Plain;
 use std::alloc::{AllocError, Global};
 
 /// Something of the first or of the second of two parts, the first before the second.
-#[derive(Clone, Copy, Debug, PartialEq, Eq, PartialOrd, Ord, Drop)]
+#[derive(Clone, Copy, Debug, PartialEq, Eq, PartialOrd, Ord, Hash, Drop)]
 pub enum SideOf<X, Y> {
     One(X),
     Two(Y),

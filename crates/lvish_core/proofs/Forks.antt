@@ -1,6 +1,10 @@
 -- A fork, over any machine.
 use Rattle.std.proofs.Common.{◌≡◌, ◌+◌, ◌<◌, ℕ, suc, false, if◌then◌else◌, List, Option, Some, None, refl, sym, ap, subst, ◌∙◌, arith, add-one}
 use mathlib.Core.Path.{fun_ext}
+use Rattle.std.specs.declared.result.Result.{Result}
+use Rattle.std.specs.declared.result.Result.TheVariants.{Ok, Err}
+use Rattle.std.specs.Result.{is_err}
+use Rattle.std.proofs.lemmas.Bool.{false≢true}
 use Rattle.lvish_calculus.specs.declared.request.Request.TheVariants.{Fork}
 use Rattle.lvish_calculus.specs.declared.request.Reply.TheVariants.{Done}
 use Rattle.lvish_calculus.specs.declared.request.ErrorKind.TheVariants.{Deep}
@@ -144,3 +148,7 @@ module _ {P S E R A L : Type 0} (M : Machine S E R A L) (ok : IsLawful M) (law :
         (index_stays M old later (Act t) going kept.standing.run kept.standing.pictured refl places kept.index)
         fews,
   )
+
+-- what is there is no error
+pub ok_is_no_error : {T F : Type 0} {r : Result T F} {t : T} {f : F} → r ≡ Ok t → r ≡ Err f → ⊥
+ok_is_no_error {t = t} {f = f} p q = let e : Ok t ≡ Err f = sym p ∙ q in false≢true (ap is_err e)

@@ -1,4 +1,5 @@
 pub mod Table
+pub mod Ordered
 pub mod Gets
 pub mod Numbering
 pub mod Counts

@@ -18,7 +18,7 @@ use Rattle.lvish_core.specs.declared.place.Place.{Place}
 use Rattle.lvish_core.specs.Core.{View, IsNext, CanTake, state}
 use Rattle.lvish_core.specs.Labels.{label_cmp, AreLabels}
 use Rattle.lvish_core.specs.Places.{place_at, handlers_of}
-use Rattle.lvish_core.specs.Tasks.{names_of}
+use Rattle.lvish_core.specs.Tasks.{SameTasks, names_of}
 use Rattle.lvish_core.specs.Kept.{IsKept}
 use Rattle.lvish_core.proofs.Shown.{can_step, none_can}
 use Rattle.lvish_core.proofs.Seated.{next_place, next_one, next_can}
@@ -119,26 +119,26 @@ module _ {P S E R A L : Type 0} (M : Machine S E R A L) (n running : ℕ) (place
   unfolding IsStrictlySortedBy
   no_labels error = record { ascending = tt; just = λ l. (λ z. absurd z, λ z. none_can M n running places c k error l z) }
 
-  module _ (hands : HandsTheNext M) (no_error : is_some c.fault ≡ false) (by_name : IsStrictlySortedBy (name_cmp cmp) (names_of c.table.tasks)) (each : AllByRecursion (λ x. task_of M.event_same c.table.tasks x.0 ≡ x.1) c.table.tasks)
-      (by_handler : IsStrictlySortedBy (handler_cmp cmp) (handlers_of places)) (ts hs : List (Label E)) (tasks : TaskLabels M (state M c) c.table.tasks ts) (handings : HandLabels M.event_same c.table places hs) where
+  module _ (hands : HandsTheNext M) (no_error : is_some c.fault ≡ false) (all : List (Name E × Task L)) (same : SameTasks M.event_same all c.table.tasks) (by_name : IsStrictlySortedBy (name_cmp cmp) (names_of all)) (each : AllByRecursion (λ x. task_of M.event_same all x.0 ≡ x.1) all)
+      (by_handler : IsStrictlySortedBy (handler_cmp cmp) (handlers_of places)) (ts hs : List (Label E)) (tasks : TaskLabels M (state M c) all ts) (handings : HandLabels M.event_same c.table places hs) where
     between : (x y : Label E) → IsAmong x ts → IsAmong y hs → label_cmp cmp x y ≡ Less
     between x y i j =
-        let t = tasks_sound M (state M c) c.table.tasks c.table.tasks each ts tasks x i in
+        let t = tasks_sound M (state M c) all all each ts tasks x i in
         let h = hands_sound M.event_same c.table places hs handings y j in
         ap (λ q. label_cmp cmp q y) t.1 ∙ ap (λ q. label_cmp cmp (Act t.0) q) h.2
 
     taken : (l : Label E) → IsAmong l (ts ++ hs) → CanTake M c l
     taken l i = elim (either_among l ts hs i) [
       | inl a ↦
-          let t = tasks_sound M (state M c) c.table.tasks c.table.tasks each ts tasks l a in
-          subst (λ q. CanTake M c q) (sym t.1) ((can_step M n running places c k no_error (Act t.0)).1 t.2, tt)
+          let t = tasks_sound M (state M c) all all each ts tasks l a in
+          subst (λ q. CanTake M c q) (sym t.1) ((can_step M n running places c k no_error (Act t.0)).1 (subst (λ x. IsReadyTask M (state M c) x) (same t.0) t.2), tt)
       | inr b ↦
           let h = hands_sound M.event_same c.table places hs handings l b in
           subst (λ q. CanTake M c q) (sym h.2) (next_can M n running places c k ok posts hands no_error h.0 h.1 h.3)
     ]
 
     listed : (l : Label E) → CanTake M c l → IsAmong l (ts ++ hs)
-    listed (Act t) z = among_first (Act t) ts hs (tasks_complete M (state M c) ok.event_same_is c.table.tasks ts tasks t ((can_step M n running places c k no_error (Act t)).0 z.0))
+    listed (Act t) z = among_first (Act t) ts hs (tasks_complete M (state M c) ok.event_same_is all ts tasks t (subst (λ x. IsReadyTask M (state M c) x) (sym (same t)) ((can_step M n running places c k no_error (Act t)).0 z.0)))
     listed (Hand h e) z =
         let p = next_place M n running places c k ok posts h e z.1 in
         among_last (Hand h e) ts hs (hands_complete M.event_same c.table ok.event_same_is (next_one M n running places c k ok posts) places hs handings h p.0 e p.1 z.1)
@@ -146,6 +146,6 @@ module _ {P S E R A L : Type 0} (M : Machine S E R A L) (n running : ℕ) (place
     -- just the labels that the core can take
     pub are_labels : (ls : List (Label E)) → ls ≡ ts ++ hs → AreLabels cmp M c ls
     are_labels ls is = subst (λ (xs : List (Label E)). AreLabels cmp M c xs) (sym is) (record {
-      ascending = sorted_append (label_cmp cmp) ts hs (tasks_ascend M (state M c) cmp c.table.tasks ts tasks by_name) (hands_ascend M.event_same c.table cmp places hs handings by_handler) between;
+      ascending = sorted_append (label_cmp cmp) ts hs (tasks_ascend M (state M c) cmp all ts tasks by_name) (hands_ascend M.event_same c.table cmp places hs handings by_handler) between;
       just = λ l. (taken l, listed l);
     })

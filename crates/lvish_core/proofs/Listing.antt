@@ -1,8 +1,8 @@
 -- The labels that the core can take, listed from the tasks and the handlers in the order of their names.
-use Rattle.std.proofs.Common.{◌≡◌, ◌↔◌, ◌⊎◌, inl, inr, ℕ, Bool, true, if◌then◌else◌, List, [], ◌∷◌, ◌++◌, Some, Ordering, refl, sym, ap, subst, ◌∙◌, append_assoc, append-nil}
+use Rattle.std.proofs.Common.{◌≡◌, ◌↔◌, ◌⊎◌, inl, inr, ℕ, Bool, true, false, if◌then◌else◌, List, [], ◌∷◌, ◌++◌, Some, Ordering, refl, sym, ap, subst, ◌∙◌, append_assoc, append-nil}
 use Rattle.std.specs.declared.cmp.Ordering.TheVariants.{Less}
 use Rattle.std.specs.Ordering.{is_eq, eq_by_cmp}
-use Rattle.std.specs.List.{AllByRecursion}
+use Rattle.std.specs.List.{AllByRecursion, IsDistinct}
 use Rattle.std.specs.List.Sorted.{IsStrictlySortedBy}
 use Rattle.lvish_names.specs.NameOrder.{name_cmp, handler_cmp}
 use Rattle.lvish_calculus.specs.declared.label.Label.{Label}
@@ -73,6 +73,22 @@ module _ {E : Type 0} (eq : E → E → Bool) (is : (a b : E) → (eq a b ≡ tr
         behind ys less.1 all.1,
       )
 
+  -- the same in any order
+  pub each_of_distinct : {L : Type 0} → ((t u : Name E) → same_name eq t u ≡ same_name eq u t) → (xs : List (Name E × Task L)) → IsDistinct (same_name eq) (names_of xs) → AllByRecursion (λ x. task_of eq xs x.0 ≡ x.1) xs
+  unfolding IsDistinct
+  each_of_distinct symm [] d = tt
+  each_of_distinct {L} symm (x ∷ xs) d = (
+    ap (λ b. if b then x.1 else task_of eq xs x.0) (same_name-refl eq is x.0),
+    behind xs d.0 (each_of_distinct symm xs d.1),
+  )
+    where
+      behind : (ys : List (Name E × Task L)) → AllByRecursion (λ u. same_name eq x.0 u ≡ false) (names_of ys) → AllByRecursion (λ y. task_of eq xs y.0 ≡ y.1) ys → AllByRecursion (λ y. task_of eq (x ∷ xs) y.0 ≡ y.1) ys
+      behind [] other all = tt
+      behind (y ∷ ys) other all = (
+        ap (λ b. if b then x.1 else task_of eq xs y.0) (symm y.0 x.0 ∙ other.0) ∙ all.0,
+        behind ys other.1 all.1,
+      )
+
   pub each_place : ((h g : Handler E) → same_handler eq h g ≡ same_handler eq g h) → ((h g : Handler E) → same_handler eq h g ≡ eq_by_cmp (handler_cmp cmp) h g)
       → (xs : List (Handler E × Place)) → IsStrictlySortedBy (handler_cmp cmp) (handlers_of xs) → AllByRecursion (λ x. place_at eq xs x.0 ≡ Some x.1) xs
   unfolding IsStrictlySortedBy
@@ -115,17 +131,17 @@ module _ {S E L : Type 0} (eq : E → E → Bool) (c : Table S E L) where
 
 module _ {P S E R A L : Type 0} (M : Machine S E R A L) (n running : ℕ) (places : List (Handler E × Place)) (c : View P S E L) (k : IsKept M n running places c) where
   -- one task more, which is ready or isn't
-  pub task_listed : (t : Name E) (x : Task L) (rest : List (Name E × Task L)) (ls : List (Label E)) → TasksListed M (state M c) c.table.tasks ((t, x) ∷ rest) ls → IsReadyTask M (state M c) x
-      → TasksListed M (state M c) c.table.tasks rest (ls ++ Act t ∷ [])
-  task_listed t x rest ls so_far ready ms z = subst (λ (ys : List (Label E)). TaskLabels M (state M c) c.table.tasks ys) (sym (append_assoc ls (Act t ∷ []) ms)) (so_far (Act t ∷ ms) (inl (ready, (ms, refl, z))))
+  pub task_listed : (all : List (Name E × Task L)) (t : Name E) (x : Task L) (rest : List (Name E × Task L)) (ls : List (Label E)) → TasksListed M (state M c) all ((t, x) ∷ rest) ls → IsReadyTask M (state M c) x
+      → TasksListed M (state M c) all rest (ls ++ Act t ∷ [])
+  task_listed all t x rest ls so_far ready ms z = subst (λ (ys : List (Label E)). TaskLabels M (state M c) all ys) (sym (append_assoc ls (Act t ∷ []) ms)) (so_far (Act t ∷ ms) (inl (ready, (ms, refl, z))))
 
-  pub task_passed : (t : Name E) (x : Task L) (rest : List (Name E × Task L)) (ls : List (Label E)) → TasksListed M (state M c) c.table.tasks ((t, x) ∷ rest) ls → (IsReadyTask M (state M c) x → ⊥)
-      → TasksListed M (state M c) c.table.tasks rest ls
-  task_passed t x rest ls so_far waits ms z = so_far ms (inr (waits, z))
+  pub task_passed : (all : List (Name E × Task L)) (t : Name E) (x : Task L) (rest : List (Name E × Task L)) (ls : List (Label E)) → TasksListed M (state M c) all ((t, x) ∷ rest) ls → (IsReadyTask M (state M c) x → ⊥)
+      → TasksListed M (state M c) all rest ls
+  task_passed all t x rest ls so_far waits ms z = so_far ms (inr (waits, z))
 
-  pub all_tasks_listed : (rest : List (Name E × Task L)) (ls : List (Label E)) → TasksListed M (state M c) c.table.tasks rest ls → rest ≡ [] → TaskLabels M (state M c) c.table.tasks ls
-  all_tasks_listed rest ls so_far none =
-      subst (λ (ys : List (Label E)). TaskLabels M (state M c) c.table.tasks ys) (append-nil ls) (so_far [] (subst (λ (xs : List (Name E × Task L)). TaskLabels M (state M c) xs []) (sym none) refl))
+  pub all_tasks_listed : (all rest : List (Name E × Task L)) (ls : List (Label E)) → TasksListed M (state M c) all rest ls → rest ≡ [] → TaskLabels M (state M c) all ls
+  all_tasks_listed all rest ls so_far none =
+      subst (λ (ys : List (Label E)). TaskLabels M (state M c) all ys) (append-nil ls) (so_far [] (subst (λ (xs : List (Name E × Task L)). TaskLabels M (state M c) xs []) (sym none) refl))
 
   -- one handler more, for which an event comes next or none does
   pub hands_begun : (first : List (Label E)) → HandsListed M.event_same c.table places places first first

@@ -1,9 +1,6 @@
 -- A map of stages by name, and the list of tasks that it stands for.
-use Rattle.std.proofs.Common.{◌≡◌, Bool, true, false, cond, if◌then◌else◌, List, [], ◌∷◌, Option, Some, None, Ordering, refl, sym, ap, ◌∙◌}
-use Rattle.std.specs.Ordering.{eq_by_cmp}
-use Rattle.std.specs.BTreeMap.{is_at}
+use Rattle.std.proofs.Common.{◌≡◌, Bool, true, false, cond, if◌then◌else◌, List, [], ◌∷◌, Option, Some, None, refl, sym, ap, ◌∙◌}
 use Rattle.std.specs.Map.{lookup, keys_of}
-use Rattle.lvish_names.specs.NameOrder.{name_cmp}
 use Rattle.lvish_calculus.specs.Calculus.{Name, Task, Absent, same_name}
 use Rattle.lvish_core.specs.declared.stage.Stage.{Stage}
 use Rattle.lvish_picture.specs.Picture.{task_of}
@@ -17,24 +14,22 @@ pub names-standings : {E L : Type 0} (es : List (Name E × Stage L)) → names_o
 names-standings [] = refl
 names-standings (e ∷ es) = ap (λ ts. e.0 ∷ ts) (names-standings es)
 
-module _ {E : Type 0} (eq : E → E → Bool) (cmp : E → E → Ordering) (ties : (t u : Name E) → same_name eq t u ≡ eq_by_cmp (name_cmp cmp) t u) where
+module _ {E : Type 0} (eq : E → E → Bool) where
   -- a look-up finds the task of the list
-  pub task_of-standings : {L : Type 0} (es : List (Name E × Stage L)) (t : Name E) → task_of eq (standings es) t ≡ standing_at (lookup (is_at (name_cmp cmp t)) es)
+  pub task_of-standings : {L : Type 0} (es : List (Name E × Stage L)) (t : Name E) → task_of eq (standings es) t ≡ standing_at (lookup (same_name eq t) es)
   task_of-standings [] t = refl
-  task_of-standings (e ∷ es) t =
-      ap (λ b. if b then standing e.1 else task_of eq (standings es) t) (ties t e.0)
-      ∙ picks (is_at (name_cmp cmp t) e.0) e.1 (task_of eq (standings es) t) (lookup (is_at (name_cmp cmp t)) es) (task_of-standings es t)
+  task_of-standings (e ∷ es) t = picks (same_name eq t e.0) e.1 (task_of eq (standings es) t) (lookup (same_name eq t) es) (task_of-standings es t)
 
   -- what changes a map at one name sets the task under it
   pub sets_by : {L : Type 0} → ((t u : Name E) → same_name eq t u ≡ same_name eq u t) → (es fs : List (Name E × Stage L)) (t : Name E) (s : Stage L)
-      → ((q : Name E) → lookup (is_at (name_cmp cmp q)) fs ≡ cond (is_at (name_cmp cmp t) q) (Some s) (lookup (is_at (name_cmp cmp q)) es))
+      → ((q : Name E) → lookup (same_name eq q) fs ≡ cond (same_name eq t q) (Some s) (lookup (same_name eq q) es))
       → Sets eq (standings es) t (standing s) (standings fs)
   sets_by symm es fs t s h = record {
     each = λ u. task_of-standings fs u ∙ ap standing_at (h u)
-        ∙ sym (picks (is_at (name_cmp cmp t) u) s (task_of eq (standings es) u) (lookup (is_at (name_cmp cmp u)) es) (task_of-standings es u))
-        ∙ ap (λ b. if b then standing s else task_of eq (standings es) u) (sym (ties t u) ∙ symm t u);
+        ∙ sym (picks (same_name eq t u) s (task_of eq (standings es) u) (lookup (same_name eq u) es) (task_of-standings es u))
+        ∙ ap (λ b. if b then standing s else task_of eq (standings es) u) (symm t u);
   }
 
   -- a name with a task is in the map
-  pub found : {L : Type 0} (es : List (Name E × Stage L)) (t : Name E) → (task_of eq (standings es) t ≡ Absent → ⊥) → lookup (is_at (name_cmp cmp t)) es ≡ None → ⊥
+  pub found : {L : Type 0} (es : List (Name E × Stage L)) (t : Name E) → (task_of eq (standings es) t ≡ Absent → ⊥) → lookup (same_name eq t) es ≡ None → ⊥
   found es t some none = some (task_of-standings es t ∙ ap standing_at none)

@@ -1,5 +1,7 @@
 -- The tasks of a core under their names.
 use Rattle.std.specs.Prelude.{◌≡◌, Bool, List, Option, Some, None, map}
+use Rattle.std.specs.Borrow.{Bor}
+use Rattle.std.specs.Map.Iter.{deref_pair}
 use Rattle.lvish_calculus.specs.Calculus.{Name, Task, Absent, Live, Ended, with_task}
 use Rattle.lvish_picture.specs.Picture.{task_of}
 use Rattle.lvish_core.specs.declared.stage.Stage.{Stage}
@@ -26,3 +28,11 @@ names_of tasks = map (λ e. e.0) tasks
 -- the new list has k under t, and under each other name what the old one has
 pub record Sets {E L : Type 0} (eq : E → E → Bool) (old : List (Name E × Task L)) (t : Name E) (k : Task L) (new : List (Name E × Task L)) : Type 0 where
   pub each : (u : Name E) → task_of eq new u ≡ with_task eq (Some (t, k)) (task_of eq old) u
+
+-- the entries behind references
+abbrev pub entries_at : {E L : Type 0} → List (Bor (Name E) × Bor (Stage L)) → List (Name E × Stage L)
+entries_at refs = map deref_pair refs
+
+-- the lists have the same task under each name
+abbrev pub SameTasks : {E L : Type 0} → (E → E → Bool) → List (Name E × Task L) → List (Name E × Task L) → Type 0
+SameTasks {E} eq xs ys = (t : Name E) → task_of eq xs t ≡ task_of eq ys t

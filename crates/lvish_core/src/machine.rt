@@ -84,7 +84,7 @@ impl<'p, P: Program> Core<'p, P> {
         let handlers = no_handlers(alloc, count, pools)?;
         let mut tasks = Tasks::new(alloc);
         let main = Stage::started(program.start(alloc)?);
-        tasks.insert(TaskName::main(alloc), main)?;
+        tasks.insert(TaskName::main(), main)?;
         Ok(Core {
             program,
             variables,

@@ -31,8 +31,8 @@ pub(crate) fn seat<L: Lattice>(
     ensures places { MatchResult result (λ _. PlacesAt L.Event.eq places.old name (Some place) places.new) (λ _. SamePlaces L.Event.eq places.old places.new) }
 {
     handler_names_identical::<L::Event>();
-    let key = name.copy(alloc)?;
-    let again = name.copy(alloc)?;
+    let key = name.copy()?;
+    let again = name.copy()?;
     places.insert(key, place)?;
     if let Err(refused) = add_at(handlers, alloc, variable, name, place) {
         places.remove(&again);

@@ -1,25 +1,28 @@
-ghost use Rattle.std.specs.Prelude.{◌≡◌, [], MatchResult, option_copied};
+ghost use Rattle.std.specs.Prelude.{◌≡◌, [], MatchResult, IfOk, option_copied};
+ghost use Rattle.std.specs.List.{IsDistinct};
 ghost use Rattle.std.specs.List.Sorted.{IsStrictlySortedBy};
 ghost use Rattle.lvish_names.specs.NameOrder.{name_cmp};
-ghost use Rattle.lvish_calculus.specs.Calculus.{Absent};
+ghost use Rattle.lvish_calculus.specs.Calculus.{Absent, same_name};
 ghost use Rattle.lvish_picture.specs.Picture.{task_of};
-ghost use Rattle.lvish_core.specs.Tasks.{Sets, standing, standing_at, standings, names_of};
+ghost use Rattle.lvish_core.specs.Tasks.{Sets, SameTasks, standing, standing_at, standings, entries_at, names_of};
 
 use crate::stage::Stage;
 use lvish_lattice::Plain;
 use lvish_names::TaskName;
 use std::alloc::{AllocError, Global};
-use std::collections::BTreeMap;
-use std::collections::btree_map::Iter;
+use std::cmp::Ordering;
+use std::collections::HashMap;
+use std::collections::hash_map::Iter;
+use std::hash::Hash;
 use std::marker::Model;
 
-/// The tasks of a core under their names, in the order of names.
+/// The tasks of a core under their names.
 #[derive(Drop)]
-pub(crate) struct Tasks<E: Ord, L> {
-    stages: BTreeMap<TaskName<E>, Stage<L>>,
+pub(crate) struct Tasks<E: Eq + Hash, L> {
+    stages: HashMap<TaskName<E>, Stage<L>>,
 }
 
-impl<E: Ord, L> Model for Tasks<E, L> {
+impl<E: Eq + Hash, L> Model for Tasks<E, L> {
     ghost use Rattle.std.specs.Prelude.{List};
     ghost use Rattle.lvish_calculus.specs.Calculus.{Name, Task};
     ghost use Rattle.lvish_core.specs.Tasks.{standings};
@@ -29,12 +32,21 @@ impl<E: Ord, L> Model for Tasks<E, L> {
     ghost view = { λ t. standings t.stages.entries };
 }
 
-impl<E: Plain, L: Drop> Tasks<E, L> {
+/// A task of a core: its name, and what runs under it.
+type Entry<'t, E, L> = (&'t TaskName<E>, &'t Stage<L>);
+
+fn by_name<E: Plain, L>(one: &Entry<'_, E, L>, two: &Entry<'_, E, L>) -> Ordering
+    ensures { result ≡ name_cmp E.cmp one.now.0.now two.now.0.now }
+{
+    one.0.cmp(two.0)
+}
+
+impl<E: Plain + Hash, L: Drop> Tasks<E, L> {
     pub fn new(alloc: Global) -> Tasks<E, L>
         ensures { result ≡ [] }
     {
         Tasks {
-            stages: BTreeMap::new(alloc),
+            stages: HashMap::new(alloc),
         }
     }
 
@@ -45,12 +57,22 @@ impl<E: Plain, L: Drop> Tasks<E, L> {
         self.stages.get(name)
     }
 
-    /// The tasks in the order of their names.
+    /// The tasks, in any order.
     pub fn iter(&self) -> Iter<'_, TaskName<E>, Stage<L>>
         ensures all { standings result ≡ self.now }
-        ensures ascending { IsStrictlySortedBy (name_cmp E.cmp) (names_of self.now) }
+        ensures once { IsDistinct (same_name E.eq) (names_of self.now) }
     {
         self.stages.iter()
+    }
+
+    /// The tasks in the order of their names.
+    pub fn in_order(&self, alloc: Global) -> Result<Vec<Entry<'_, E, L>>, AllocError>
+        ensures all { IfOk result (λ v. SameTasks E.eq self.now (standings (entries_at v.items))) }
+        ensures ascending { IfOk result (λ v. IsStrictlySortedBy (name_cmp E.cmp) (names_of (standings (entries_at v.items)))) }
+    {
+        let mut tasks: Vec<Entry<'_, E, L>> = self.stages.iter().collect(alloc)?;
+        tasks.sort_unstable_by(by_name);
+        Ok(tasks)
     }
 
     /// Puts the task that has the name into the stage.

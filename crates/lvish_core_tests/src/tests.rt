@@ -32,7 +32,7 @@ fn after<S: Drop>(at: At, reply: Reply<S, i64>) -> At
 
 /// The task at the end of a path of forks from main.
 fn task<E: Plain>(alloc: Global, forks: &[u64]) -> Result<TaskName<E>, NameFault> {
-    let mut task = TaskName::main(alloc);
+    let mut task = TaskName::main();
     for i in forks {
         task = task.child(alloc, *i)?;
     }
@@ -64,5 +64,5 @@ fn asked<E: Plain>(alloc: Global, tasks: &[&[u64]]) -> Result<Vec<Call<E>>, Fail
 
 /// The handler that main adds first.
 fn first<E: Plain>(alloc: Global) -> Result<HandlerName<E>, NameFault> {
-    HandlerName::new(alloc, &TaskName::main(alloc), 1)
+    HandlerName::new(&TaskName::main(), 1)
 }

@@ -4,6 +4,7 @@ ghost use Rattle.std.specs.List.{list_any};
 use crate::items::Items;
 use crate::lattice::{Lattice, Plain, Reads};
 use std::alloc::{AllocError, Global};
+use std::hash::Hash;
 
 /// Nothing, or one value that is written once.
 #[derive(Clone, Copy, Debug, PartialEq, Eq, PartialOrd, Ord)]
@@ -36,7 +37,7 @@ fn has<V: Plain>(xs: &[V], x: V) -> bool
     xs.iter().any(|y| x == *y)
 }
 
-impl<V: Plain> Lattice for Flat<V> {
+impl<V: Plain + Hash> Lattice for Flat<V> {
     ghost use Rattle.lvish_lattice.specs.declared.flat.Flat.TheVariants.{Bottom, Value};
     ghost use Rattle.lvish_lattice.specs.Flat.{joined, events_of};
 
@@ -103,7 +104,7 @@ impl<V: Plain> Lattice for Flat<V> {
     ghost has_events = { flat_has_events V.eq V.identical V.Eq.laws V.cmp };
 }
 
-impl<V: Plain> Reads for Flat<V> {
+impl<V: Plain + Hash> Reads for Flat<V> {
     ghost use Rattle.lvish_lattice.specs.Flat.{Member, answer_of, spot_of, watched};
 
     type Read = FlatRead<V>;

@@ -7,6 +7,7 @@ use crate::items::Items;
 use crate::lattice::{Lattice, Plain, Reads};
 use crate::reads::{has_one_value, one_of};
 use std::alloc::{AllocError, Global};
+use std::hash::Hash;
 
 /// A set that only grows.
 ///
@@ -84,7 +85,7 @@ impl<V: Plain> Eq for GrowSet<V> {
     ghost laws = { alike_equiv V.Eq.laws };
 }
 
-impl<V: Plain> Lattice for GrowSet<V> {
+impl<V: Plain + Hash> Lattice for GrowSet<V> {
     ghost use Rattle.lvish_lattice.specs.GrowSet.{empty, joined, items_of};
 
     type Event = V;
@@ -147,7 +148,7 @@ fn first_held<V: Plain>(listed: &[V], items: &[V]) -> Option<V>
     listed.iter().copied().find(|x| has(items, *x))
 }
 
-impl<V: Plain> Reads for GrowSet<V> {
+impl<V: Plain + Hash> Reads for GrowSet<V> {
     ghost use Rattle.lvish_lattice.specs.Members.{Member, answer_of, spot_of, watched};
     ghost use Rattle.lvish_lattice.specs.MembersLaws.{sets_answer, sets_wait};
 

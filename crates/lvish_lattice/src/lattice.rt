@@ -2,6 +2,7 @@ ghost use Rattle.std.specs.Prelude.{◌≡◌, ◌↔◌, List, Option, Some, If
 ghost use Rattle.lvish_lattice.specs.Lattice.{IsIdentity, IsJoin, IsBelow, HasEvents, IsChecked, IsAnswered, IsWatched, fresh_of};
 
 use std::alloc::{AllocError, Global};
+use std::hash::Hash;
 
 /// Small values whose `==` holds of identical values alone.
 pub trait Plain: Ord + Copy {
@@ -14,7 +15,7 @@ pub trait Plain: Ord + Copy {
 /// (Kuper and Newton, LVars, FHPC 2013).
 pub trait Lattice: Eq + Drop {
     /// What a state is made of; a put introduces the events that it brings.
-    type Event: Plain;
+    type Event: Plain + Hash;
 
     ghost least: { Self };
 

@@ -32,8 +32,8 @@ fn of_path(alloc: Global, verb: &str, path: &str) -> Result<String, Fault> {
 
 fn of_task(alloc: Global, verb: &str, name: &Name) -> Result<String, Fault> {
     match verb {
-        "task" => Ok(name.copy(alloc)?.text(alloc)?),
-        "parts" => Ok(format!(in alloc; "{}", name.parts().len())?),
+        "task" => Ok(name.copy()?.text(alloc)?),
+        "parts" => Ok(format!(in alloc; "{}", name.len())?),
         "pool" => pool_text(alloc, name),
         _ => Err(Fault::Unreadable),
     }
@@ -41,7 +41,7 @@ fn of_task(alloc: Global, verb: &str, name: &Name) -> Result<String, Fault> {
 
 /// The handler in whose pool the task runs.
 fn pool_text(alloc: Global, name: &Name) -> Result<String, Fault> {
-    match name.pool_of(alloc)? {
+    match name.pool_of()? {
         Some(handler) => Ok(handler.text(alloc)?),
         None => Ok(String::from_str(alloc, "none")?),
     }
@@ -49,7 +49,7 @@ fn pool_text(alloc: Global, name: &Name) -> Result<String, Fault> {
 
 fn handler_text(alloc: Global, path: &str, number: &str) -> Result<String, Fault> {
     let name = handler::<i64>(alloc, path, number)?;
-    let copy = name.copy(alloc)?;
+    let copy = name.copy()?;
     Ok(copy.text(alloc)?)
 }
 
@@ -94,7 +94,7 @@ fn names(alloc: Global, paths: &[&str]) -> Result<Vec<Name>, Fault> {
 
 /// The name of the task at the end of the path.
 pub fn task<E: Value>(alloc: Global, path: &str) -> Result<TaskName<E>, Fault> {
-    let mut name = TaskName::main(alloc);
+    let mut name = TaskName::main();
     if path != "_" {
         for step in path.split('/') {
             name = stepped(alloc, name, step)?;
@@ -106,7 +106,7 @@ pub fn task<E: Value>(alloc: Global, path: &str) -> Result<TaskName<E>, Fault> {
 /// The handler of this number that the task at the end of the path adds.
 pub fn handler<E: Value>(alloc: Global, path: &str, number: &str) -> Result<HandlerName<E>, Fault> {
     let adder = task(alloc, path)?;
-    Ok(HandlerName::new(alloc, &adder, natural(number)?)?)
+    Ok(HandlerName::new(&adder, natural(number)?)?)
 }
 
 fn stepped<E: Value>(alloc: Global, name: TaskName<E>, step: &str) -> Result<TaskName<E>, Fault> {
@@ -121,7 +121,7 @@ fn stepped<E: Value>(alloc: Global, name: TaskName<E>, step: &str) -> Result<Tas
 
 fn handled<E: Value>(alloc: Global, name: &TaskName<E>, hand: &str) -> Result<TaskName<E>, Fault> {
     let (number, event) = halves(hand, ':')?;
-    let handler = HandlerName::new(alloc, name, natural(number)?)?;
+    let handler = HandlerName::new(name, natural(number)?)?;
     Ok(TaskName::handled(alloc, &handler, &E::value(event)?)?)
 }
 

@@ -1,1 +1,2 @@
 pub mod NameLaws
+mod Prefixes

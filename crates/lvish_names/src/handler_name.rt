@@ -10,6 +10,7 @@ use lvish_lattice::{Numbered, Plain};
 use std::alloc::{AllocError, Global};
 use std::cmp::Ordering;
 use std::fmt;
+use std::hash::{Hash, Hasher};
 use std::marker::Model;
 
 /// A handler's name: the task that added it, and which of that task's handlers it is, from 1.
@@ -59,27 +60,28 @@ impl<E: Plain> HandlerName<E> {
     ///
     /// # Errors
     ///
-    /// `Deep` where the task's name has 64 parts, else `Memory` where there is no room for a copy of it.
-    pub fn new(alloc: Global, adder: &TaskName<E>, number: u64) -> Result<HandlerName<E>, NameFault>
+    /// `Deep` where the task's name has 64 parts, else `Memory` where more names share it than can be
+    /// counted.
+    pub fn new(adder: &TaskName<E>, number: u64) -> Result<HandlerName<E>, NameFault>
         ensures ok { IfOk result (λ h. h ≡ record { adder = adder.now; number = number }) }
         ensures deep { IsErrOf result NameFault.Deep ↔ IsTrue (is_deep adder.now) }
     {
         if adder.is_deep() {
             return Err(NameFault::Deep);
         }
-        let adder = adder.copy(alloc)?;
+        let adder = adder.copy()?;
         Ok(HandlerName::of(adder, number))
     }
 
-    /// An equal name.
+    /// An equal name, which takes no memory.
     ///
     /// # Errors
     ///
-    /// Where there is no room for it.
-    pub fn copy(&self, alloc: Global) -> Result<HandlerName<E>, AllocError>
+    /// Where more names share the adder's than can be counted.
+    pub fn copy(&self) -> Result<HandlerName<E>, AllocError>
         ensures { IfOk result (λ h. h ≡ self.now) }
     {
-        let adder = self.adder.copy(alloc)?;
+        let adder = self.adder.copy()?;
         let number = self.number;
         Ok(HandlerName { adder, number })
     }
@@ -155,5 +157,18 @@ impl<E: Numbered> fmt::Display for HandlerName<E> {
 
     fn fmt<W: fmt::Write>(&self, f: &mut fmt::Formatter<W>) -> fmt::Result {
         write!(f, "{}/h{}", self.adder, self.number)
+    }
+}
+
+impl<E: Eq + Hash> Hash for HandlerName<E> {
+    ghost use Rattle.lvish_names.specs.NameHash.{handler_input, handlers_alike};
+
+    ghost hash_input = { handler_input E.hash_input };
+
+    ghost respects_eq = { handlers_alike E.hash_input E.respects_eq };
+
+    fn hash<H: Hasher>(&self, state: &mut H) {
+        state.write_u64(self.number);
+        self.adder.hash(state);
     }
 }

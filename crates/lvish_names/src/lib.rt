@@ -5,8 +5,8 @@
 //! So the same task has the same name in every schedule.
 //!
 //! ```
-//! let main = TaskName::<i64>::main(alloc);
-//! let handler = HandlerName::new(alloc, &main, 1)?;
+//! let main = TaskName::<i64>::main();
+//! let handler = HandlerName::new(&main, 1)?;
 //! let task = TaskName::handled(alloc, &handler, &3)?;
 //! assert_eq!(rt; task.text(alloc)?.as_str(), "main/h1:0:3");
 //! ```

@@ -7,6 +7,7 @@ ghost use Rattle.std.specs.Cmp.{partial_order_from_agreeing_total};
 use lvish_lattice::Numbered;
 use std::cmp::Ordering;
 use std::fmt;
+use std::hash::{Hash, Hasher};
 
 /// A step on the path from `main` to a task.
 ///
@@ -76,6 +77,24 @@ impl<E: Numbered> fmt::Display for Part<E> {
         match self {
             Part::Fork(i) => write!(f, "{i}"),
             Part::Hand(j, event) => write!(f, "h{j}:{}:{}", event.key(), event.number()),
+        }
+    }
+}
+
+impl<E: Eq + Hash> Hash for Part<E> {
+    ghost use Rattle.lvish_names.specs.NameHash.{part_input, parts_alike};
+
+    ghost hash_input = { part_input E.hash_input };
+
+    ghost respects_eq = { parts_alike E.hash_input E.respects_eq };
+
+    fn hash<H: Hasher>(&self, state: &mut H) {
+        match self {
+            Part::Fork(i) => state.write_u64(*i),
+            Part::Hand(j, event) => {
+                state.write_u64(*j);
+                event.hash(state);
+            }
         }
     }
 }

@@ -1,8 +1,10 @@
-ghost use Rattle.std.specs.Prelude.{◌≡◌, ◌∷◌, ◌≤◌, ◌↔◌, Some, IfOk, IsErrOf, IsTrue, IsFalse, length, reverse};
+ghost use Rattle.std.specs.Prelude.{◌≡◌, ◌∷◌, ◌≤◌, ◌↔◌, Some, IfOk, IsErrOf, IsTrue, IsFalse, length, reverse, take};
 ghost use Rattle.std.specs.String.{string_bytes};
 ghost use Rattle.lvish_names.specs.Names.{main, forked, handed, is_deep, handler_of, same_name};
 ghost use Rattle.lvish_names.specs.NameText.{name_text};
 ghost use Rattle.lvish_names.specs.NameOrder.{name_cmp};
+ghost use Rattle.lvish_names.specs.NameHash.{name_input};
+ghost use Rattle.std.specs.List.{fold};
 
 use crate::handler_name::HandlerName;
 use crate::name_fault::NameFault;
@@ -11,32 +13,41 @@ use lvish_lattice::{Numbered, Plain};
 use std::alloc::{AllocError, Global};
 use std::cmp::Ordering;
 use std::fmt;
+use std::hash::{Hash, Hasher};
 use std::marker::Model;
+use std::sync::ArcSlice;
 
 /// A task's name: the path from `main` to the task, of at most 64 parts.
+///
+/// Copies share it.
 #[derive(Debug, Drop)]
 pub struct TaskName<E> {
-    parts: Vec<Part<E>>,
+    path: Option<ArcSlice<Part<E>>>,
+    // how many parts of the path are the name's, from `main` on
+    depth: usize,
 }
 
 impl<E> Model for TaskName<E> {
-    ghost use Rattle.std.specs.Prelude.{reverse, length, ◌≤◌};
+    ghost use Rattle.std.specs.Prelude.{◌≤◌, option_map, reverse};
+    ghost use Rattle.std.specs.Arc.{arc_slice_items};
     ghost use Rattle.lvish_names.specs.Names.{Name};
+    ghost use Rattle.lvish_names.specs.Path.{taken, total};
 
     ghost Value = { Name E };
 
-    ghost view = { λ n. reverse n.parts.items };
+    ghost view = { λ n. reverse (taken (option_map arc_slice_items n.path) n.depth) };
 
-    ghost invariant = { λ n. length n.parts.items ≤ 64 };
+    ghost invariant = { λ n. (n.depth ≤ total (option_map arc_slice_items n.path)) × (n.depth ≤ 64) };
 }
 
 impl<E> TaskName<E> {
     /// The first task's name.
-    pub fn main(alloc: Global) -> Self
+    pub fn main() -> Self
         ensures { result ≡ main }
     {
         TaskName {
-            parts: Vec::new(alloc),
+            path: None,
+            depth: 0,
         }
     }
 
@@ -45,14 +56,25 @@ impl<E> TaskName<E> {
         ensures parts { result.now ≡ reverse self.now }
         ensures few { length result.now ≤ 64 }
     {
-        self.parts.as_slice()
+        match &self.path {
+            Some(path) => &path.as_slice()[..self.depth],
+            None => &[],
+        }
+    }
+
+    /// How many parts the name has after `main`, at most 64.
+    pub fn len(&self) -> usize
+        ensures length { result ≡ length self.now }
+        ensures few { result ≤ 64 }
+    {
+        self.parts().len()
     }
 
     /// Whether the name has 64 parts, so that none may be added.
     pub fn is_deep(&self) -> bool
         ensures { result ≡ is_deep self.now }
     {
-        self.parts.len() >= 64
+        self.len() >= 64
     }
 }
 
@@ -93,14 +115,14 @@ impl<E: Plain> TaskName<E> {
     ///
     /// # Errors
     ///
-    /// Where there is no room for the handler's name.
-    pub fn pool_of(&self, alloc: Global) -> Result<Option<HandlerName<E>>, AllocError>
+    /// Where more names share the handler's than can be counted.
+    pub fn pool_of(&self) -> Result<Option<HandlerName<E>>, AllocError>
         ensures { IfOk result (λ h. h ≡ handler_of self.now) }
     {
         let mut parts = self.parts();
         while let Some((last, before)) = parts.split_last() {
             if let Part::Hand(number, _) = last {
-                let adder = TaskName::of(alloc, before)?;
+                let adder = self.up_to(before.len())?;
                 return Ok(Some(HandlerName::of(adder, *number)));
             }
             parts = before;
@@ -108,34 +130,45 @@ impl<E: Plain> TaskName<E> {
         Ok(None)
     }
 
-    /// An equal name.
+    /// An equal name, which takes no memory.
     ///
     /// # Errors
     ///
-    /// Where there is no room for it.
-    pub fn copy(&self, alloc: Global) -> Result<TaskName<E>, AllocError>
+    /// Where more names share this one than can be counted.
+    pub fn copy(&self) -> Result<TaskName<E>, AllocError>
         ensures { IfOk result (λ t. t ≡ self.now) }
     {
-        TaskName::of(alloc, &self.parts)
+        self.up_to(self.len())
     }
 
-    fn of(alloc: Global, from_main: &[Part<E>]) -> Result<TaskName<E>, AllocError>
-        requires { length from_main.now ≤ 64 }
-        ensures { IfOk result (λ t. t ≡ reverse from_main.now) }
+    /// The name of the task to which so many parts of this name lead.
+    ///
+    /// # Errors
+    ///
+    /// Where more names share the path than can be counted.
+    fn up_to(&self, depth: usize) -> Result<TaskName<E>, AllocError>
+        requires { depth ≤ length self.now }
+        ensures { IfOk result (λ t. t ≡ reverse (take depth (reverse self.now))) }
     {
-        let mut parts = Vec::new(alloc);
-        parts.extend_from_slice(from_main)?;
-        Ok(TaskName { parts })
+        let path = match &self.path {
+            Some(path) => Some(path.clone()?),
+            None => None,
+        };
+        Ok(TaskName { path, depth })
     }
 
-    fn followed_by(&self, alloc: Global, last: Part<E>) -> Result<TaskName<E>, AllocError>
+    fn followed_by(&self, alloc: Global, part: Part<E>) -> Result<TaskName<E>, AllocError>
         requires { IsFalse (is_deep self.now) }
-        ensures { IfOk result (λ t. t ≡ last ∷ self.now) }
+        ensures { IfOk result (λ t. t ≡ part ∷ self.now) }
     {
-        let mut parts = Vec::with_capacity(alloc, self.parts.len() + 1)?;
-        parts.extend_from_slice(&self.parts)?;
-        parts.push(last)?;
-        Ok(TaskName { parts })
+        let mut parts = Vec::with_capacity(alloc, self.depth + 1)?;
+        parts.extend_from_slice(self.parts())?;
+        parts.push(part)?;
+        let depth = parts.len();
+        Ok(TaskName {
+            path: Some(ArcSlice::from_vec(parts)?),
+            depth,
+        })
     }
 }
 
@@ -147,7 +180,7 @@ impl<E: PartialEq> PartialEq for TaskName<E> {
     ghost laws = { name_per E.laws };
 
     fn eq(&self, other: &TaskName<E>) -> bool {
-        self.parts == other.parts
+        self.parts() == other.parts()
     }
 }
 
@@ -185,7 +218,29 @@ impl<E: Ord> Ord for TaskName<E> {
     ghost matches_eq = { name_ties E.cmp E.matches_eq };
 
     fn cmp(&self, other: &TaskName<E>) -> Ordering {
-        self.parts.cmp(&other.parts)
+        self.parts().cmp(other.parts())
+    }
+}
+
+impl<E: Eq + Hash> Hash for TaskName<E> {
+    ghost use Rattle.lvish_names.specs.NameHash.{name_input, names_alike};
+
+    ghost hash_input = { name_input E.hash_input };
+
+    ghost respects_eq = { names_alike E.hash_input E.respects_eq };
+
+    fn hash<H: Hasher>(&self, state: &mut H) {
+        feed(self.parts(), state);
+    }
+}
+
+/// Feeds each part to the hasher, the last one first.
+fn feed<E: Eq + Hash, H: Hasher>(parts: &[Part<E>], state: &mut H)
+    ensures { state.new ≡ fold H.write state.old (name_input E.hash_input (reverse parts.now)) }
+{
+    if let Some((last, before)) = parts.split_last() {
+        last.hash(state);
+        feed(before, state);
     }
 }
 
@@ -207,7 +262,7 @@ impl<E: Numbered> fmt::Display for TaskName<E> {
 
     fn fmt<W: fmt::Write>(&self, f: &mut fmt::Formatter<W>) -> fmt::Result {
         write!(f, "main")?;
-        for part in &self.parts {
+        for part in self.parts() {
             write!(f, "/{part}")?;
         }
         Ok(())

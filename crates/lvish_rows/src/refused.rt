@@ -56,7 +56,10 @@ fn try_question<R: Host>(
 /// check of the script; none where it is another question.
 fn order_asked(alloc: Global, words: &[&str]) -> Result<Option<Order>, AllocError> {
     if is_of_many(words) {
-        return Ok(Some(Order::Check));
+        return Ok(Some(Order::Check {
+            ends: false,
+            budget: FEW_STEPS,
+        }));
     }
     match order_of(alloc, words) {
         Ok((order, _)) => Ok(Some(order)),
@@ -74,7 +77,7 @@ fn try_order<R: Host>(
     tried: &mut Tried,
 ) -> Result<()> {
     match order {
-        Order::Check => try_script(rt, case, tried),
+        Order::Check { ends, budget } => try_script(rt, case, *ends, *budget, tried),
         Order::Run { budget, all, .. } => {
             try_run(rt, case, 1, *budget, *all, tried)?;
             if !words.contains(&"--workers") {
@@ -90,8 +93,14 @@ fn try_order<R: Host>(
 }
 
 /// Tries a check of the script, and where it is one, a run by a worker and one by no picks.
-fn try_script<R: Host>(rt: &R, case: &Case<'_>, tried: &mut Tried) -> Result<()> {
-    if try_check(rt, case, tried)? {
+fn try_script<R: Host>(
+    rt: &R,
+    case: &Case<'_>,
+    ends: bool,
+    budget: u64,
+    tried: &mut Tried,
+) -> Result<()> {
+    if try_check(rt, case, ends, budget, tried)? {
         try_run(rt, case, 1, FEW_STEPS, true, tried)?;
         try_pick(rt, case, &[], FEW_STEPS, true, tried)?;
     }

@@ -4,4 +4,8 @@ mod Texts
 pub mod Braces
 mod Alikes
 mod Tallies
+mod Parts
+mod Faults
 pub mod OfScript
+pub mod Once
+pub mod Ending

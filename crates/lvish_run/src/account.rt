@@ -69,7 +69,7 @@ pub fn outcome_of<P: Program>(
         return Ok(Outcome::Error {
             kind: fault.kind,
             variable: fault.variable,
-            task: fault.task.copy(alloc)?,
+            task: fault.task.copy()?,
         });
     }
     let labels = core.labels(alloc)?;

@@ -17,7 +17,7 @@ use lvish_lattice::{Lattice, Plain};
 use std::alloc::{AllocError, Global};
 
 /// An equal outcome.
-fn copy_of<E: Plain>(alloc: Global, outcome: &Outcome<E>) -> Result<Outcome<E>, AllocError>
+fn copy_of<E: Plain>(outcome: &Outcome<E>) -> Result<Outcome<E>, AllocError>
     ensures { IfOk result (λ o. o ≡ outcome.now) }
 {
     match outcome {
@@ -29,7 +29,7 @@ fn copy_of<E: Plain>(alloc: Global, outcome: &Outcome<E>) -> Result<Outcome<E>, 
         } => Ok(Outcome::Error {
             kind: *kind,
             variable: *variable,
-            task: task.copy(alloc)?,
+            task: task.copy()?,
         }),
         Outcome::Budget => Ok(Outcome::Budget),
     }
@@ -60,7 +60,7 @@ pub fn report_of<P: Program, J: Named<P>>(
     let Some(over) = board.over() else {
         return Err(RunFault::Mixed);
     };
-    let outcome = copy_of(alloc, over)?;
+    let outcome = copy_of(over)?;
     let by_worker = tally(alloc, board.trace(), workers)?;
     let account = account_of(alloc, board.core(), outcome)?;
     let trace = board.into_trace();

@@ -1,11 +1,13 @@
 //! The workers on their threads.
 
-ghost use Rattle.std.specs.Prelude.{◌≡◌, ◌≢◌, IfOk, All, true, false, [], Some};
+ghost use Rattle.std.specs.Prelude.{◌≡◌, ◌≢◌, ◌↔◌, ◌+◌, IfOk, IsTrue, All, true, false, [], length, suc};
+ghost use Rattle.std.specs.List.{list_any};
+ghost use Rattle.lvish_run.specs.Crew.{IsFault, IsPart, lacked_memory, was_stopped};
 ghost use Rattle.lvish_run.specs.declared.own.Why.TheVariants.{Stopped};
 
 use crate::fault::RunFault;
 use crate::gate::Gate;
-use crate::own::{Own, Why};
+use crate::own::Own;
 use crate::worker::work;
 use lvish_board::{Board, Entry, Named, Work};
 use lvish_compound::Event;
@@ -41,19 +43,18 @@ pub struct Crew {
 impl Crew {
     /// Why there is no report of this trace.
     pub fn fault(&self, trace: &[Entry<Event>]) -> Option<RunFault>
-        ensures patient { All (λ own. own.why ≢ Stopped) self.now.owns.items → result ≢ Some RunFault.Stopped }
-        ensures all_there { self.now.missing ≡ false → result ≢ Some RunFault.NoThread }
+        ensures { IsFault self.now.missing self.now.owns.items trace.now result }
     {
         if self.missing {
             return Some(RunFault::NoThread);
         }
-        if some_left(&self.owns, Why::Memory) {
+        if some_lacked_memory(&self.owns) {
             return Some(RunFault::Memory);
         }
-        if some_left(&self.owns, Why::Stopped) {
+        if some_was_stopped(&self.owns) {
             return Some(RunFault::Stopped);
         }
-        if self.owns.iter().all(|own| own.is_part(trace)) {
+        if are_parts(&self.owns, trace) {
             None
         } else {
             Some(RunFault::Mixed)
@@ -61,11 +62,25 @@ impl Crew {
     }
 }
 
-/// Whether some worker left for this reason.
-fn some_left(owns: &[Own], why: Why) -> bool
-    ensures { All (λ own. own.why ≢ why) owns.now → result ≡ false }
+/// Whether some worker left for want of memory.
+fn some_lacked_memory(owns: &[Own]) -> bool
+    ensures { result ≡ list_any lacked_memory owns.now }
 {
-    owns.iter().any(|own| own.why == why)
+    owns.iter().any(|own| own.lacked_memory())
+}
+
+/// Whether some worker was stopped.
+fn some_was_stopped(owns: &[Own]) -> bool
+    ensures { result ≡ list_any was_stopped owns.now }
+{
+    owns.iter().any(|own| own.was_stopped())
+}
+
+/// Whether each worker's own list is just its steps in the trace.
+fn are_parts(owns: &[Own], trace: &[Entry<Event>]) -> bool
+    ensures { IsTrue result ↔ All (IsPart trace.now) owns.now }
+{
+    owns.iter().all(|own| own.is_part(trace))
 }
 
 /// Runs the worker of the first seat on this thread and those of the others on threads of their own,
@@ -83,6 +98,7 @@ pub fn together<J: Named<Code> + Send + Sync, R: Threads + Wait + Sync, G: Gate>
     requires code { code.now ≡ J.program }
     ensures patient { IfOk result (λ crew. G.patient ≡ true → All (λ own. own.why ≢ Stopped) crew.owns.items) }
     ensures alone { IfOk result (λ crew. others.items ≡ [] → crew.missing ≡ false) }
+    ensures joined { IfOk result (λ crew. crew.missing ≡ false → length crew.owns.items ≡ suc (length others.items)) }
 {
     let mut others = others;
     let mut handles = Vec::with_capacity(alloc, others.len())?;
@@ -93,8 +109,10 @@ pub fn together<J: Named<Code> + Send + Sync, R: Threads + Wait + Sync, G: Gate>
         |scope| -> Result<Crew, AllocError>
             requires code { code.now ≡ J.program }
             requires fresh { owns.items ≡ [] }
+            requires empty { handles.items ≡ [] }
             ensures patient { IfOk result (λ crew. G.patient ≡ true → All (λ own. own.why ≢ Stopped) crew.owns.items) }
             ensures alone { IfOk result (λ crew. others.entry.items ≡ [] → crew.missing ≡ false) }
+            ensures joined { IfOk result (λ crew. crew.missing ≡ false → length crew.owns.items ≡ suc (length others.entry.items)) }
         {
             let mut missing = false;
             while let Some(seat) = others.pop() {
@@ -124,7 +142,8 @@ fn join_all<R: Threads, G: Gate>(
     mut owns: Vec<Own>,
 ) -> Result<Vec<Own>, AllocError>
     requires { G.patient ≡ true → All (λ own. own.why ≢ Stopped) owns.items }
-    ensures { IfOk result (λ v. G.patient ≡ true → All (λ own. own.why ≢ Stopped) v.items) }
+    ensures patient { IfOk result (λ v. G.patient ≡ true → All (λ own. own.why ≢ Stopped) v.items) }
+    ensures all { IfOk result (λ v. length v.items ≡ length owns.items + length handles.items) }
 {
     for handle in handles {
         owns.push(handle.join(rt))?;

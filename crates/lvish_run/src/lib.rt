@@ -3,7 +3,8 @@
 //! [`run`] runs a script by 1 to 8 workers, each at a deque of its own, round one board. [`run_picks`]
 //! makes the steps on one thread, taking at each step the enabled label that a list of picks names.
 //! A [`Report`] is honest: its trace is a run of the script's nested statements, and its states, steps
-//! and blocked tasks are those of that run's last configuration.
+//! and blocked tasks are those of that run's last configuration. [`always_ends`] says beforehand after
+//! how many steps every run of a script has ended.
 //!
 //! ```text
 //! let report = run(&rt, alloc, &script, 2, 100_000, &Open)?;
@@ -17,6 +18,7 @@
 mod account;
 mod closing;
 mod counts;
+mod ends;
 mod fault;
 mod gate;
 mod hall;
@@ -38,6 +40,7 @@ mod workers;
 
 pub use closing::report_of;
 pub use counts::Counts;
+pub use ends::always_ends;
 pub use fault::RunFault;
 pub use gate::{Gate, Open};
 pub use lvish_board::{Entry, Outcome};

@@ -1,7 +1,10 @@
+ghost use Rattle.std.specs.Prelude.{◌≡◌, ◌↔◌, IsTrue, slice_get, Some};
+ghost use Rattle.lvish_run.specs.Crew.{step_of, lacked_memory, was_stopped, IsPart};
+
 use lvish_board::Entry;
 use lvish_calculus::Label;
 use lvish_compound::Event;
-use lvish_names::{HandlerName, TaskName};
+use lvish_names::{HandlerName, TaskName, handler_names_identical, task_names_identical};
 
 /// A step in a worker's own list: the task that acted, or the handler that was handed an event.
 #[derive(Drop)]
@@ -17,7 +20,11 @@ impl Step {
     }
 
     /// Whether the label is this step's.
-    fn has(&self, label: &Label<Event>) -> bool {
+    fn has(&self, label: &Label<Event>) -> bool
+        ensures { IsTrue result ↔ (self.now ≡ step_of label.now) }
+    {
+        task_names_identical::<Event>();
+        handler_names_identical::<Event>();
         match (self, label) {
             (Step::Act(task), Label::Task(name)) => task == name,
             (Step::Hand(handler), Label::Hand(name, _event)) => handler == name,
@@ -49,17 +56,43 @@ pub struct Own {
 }
 
 impl Own {
+    /// Whether the worker left for want of memory.
+    pub fn lacked_memory(&self) -> bool
+        ensures { result ≡ lacked_memory self.now }
+    {
+        matches!(self.why, Why::Memory)
+    }
+
+    /// Whether its gate stopped the worker.
+    pub fn was_stopped(&self) -> bool
+        ensures { result ≡ was_stopped self.now }
+    {
+        matches!(self.why, Why::Stopped)
+    }
+
     /// Whether the steps are just the worker's in the trace.
-    pub fn is_part(&self, trace: &[Entry<Event>]) -> bool {
-        let mut steps = self.steps.iter();
+    pub fn is_part(&self, trace: &[Entry<Event>]) -> bool
+        ensures { IsTrue result ↔ IsPart trace.now self.now }
+    {
+        let mut made = 0;
         for entry in trace {
             if entry.worker == self.worker {
-                match steps.next() {
-                    Some(step) if step.has(&entry.label) => {}
-                    _ => return false,
+                if !self.has_at(made, &entry.label) {
+                    return false;
                 }
+                made += 1;
             }
         }
-        steps.next().is_none()
+        made == self.steps.len()
+    }
+
+    /// Whether the step of this number is the label's.
+    fn has_at(&self, number: usize, label: &Label<Event>) -> bool
+        ensures { IsTrue result ↔ (slice_get self.now.steps.items number ≡ Some (step_of label.now)) }
+    {
+        match self.steps.get(number) {
+            Some(step) => step.has(label),
+            None => false,
+        }
     }
 }

@@ -1,19 +1,33 @@
-//! How an idle worker passes the time.
+//! How a worker passes the time: without work, and where the board is taken.
 
 use crossbeam_utils::Backoff;
-use std::sync::Wait;
+use std::sync::{Mutex, MutexGuard, Wait};
 use std::thread::Parker;
 use std::time::Duration;
 
 /// How long a worker sleeps once its back-off is over, in microseconds.
 const SLEEP: u64 = 100;
 
-/// The pauses of an idle worker: at first it spins, then it yields its processor, at last it sleeps.
-/// Nobody wakes it.
+/// How often a worker tries to take the board before it waits for its turn.
+const TRIES: usize = 100;
+
+/// How many times more often than not the board was taken when a worker gives up spinning for it.
+const CROWDED: u32 = 4;
+
+/// The most that a worker counts of these.
+const MOST_CROWDED: u32 = 2 * CROWDED;
+
+/// The pauses of a worker. Nobody wakes it.
+///
+/// Without work it spins at first, then it yields its processor, at last it sleeps. Where the board is
+/// taken it spins as well; but where it was taken more often than not, it sleeps at once. So where
+/// steps are all that there is to do, one worker makes many of them in a row while the others sleep,
+/// and the board doesn't change hands with each.
 #[derive(Drop)]
 pub struct Pause {
     backoff: Backoff,
     parker: Parker,
+    crowded: u32,
 }
 
 impl Pause {
@@ -22,6 +36,7 @@ impl Pause {
         Pause {
             backoff: Backoff::new(),
             parker: Parker::new(),
+            crowded: 0,
         }
     }
 
@@ -38,9 +53,36 @@ impl Pause {
     /// Makes the next pause.
     pub fn make<R: Wait>(&self, rt: &R) {
         if self.is_sleep() {
-            self.parker.park_timeout(rt, Duration::from_micros(SLEEP));
+            self.sleep(rt);
         } else {
             self.backoff.snooze();
         }
+    }
+
+    /// Takes what the lock holds, with pauses as long as another has it.
+    pub fn take<'l, T, R: Wait>(&mut self, rt: &R, lock: &'l Mutex<T>) -> MutexGuard<'l, T> {
+        if let Some(guard) = lock.try_lock() {
+            self.crowded = self.crowded.saturating_sub(1);
+            return guard;
+        }
+        if self.crowded < MOST_CROWDED {
+            self.crowded += 1;
+        }
+        let spins = Backoff::new();
+        for _ in 0..TRIES {
+            if self.crowded < CROWDED && !spins.is_completed() {
+                spins.snooze();
+            } else {
+                self.sleep(rt);
+            }
+            if let Some(guard) = lock.try_lock() {
+                return guard;
+            }
+        }
+        lock.lock(rt)
+    }
+
+    fn sleep<R: Wait>(&self, rt: &R) {
+        self.parker.park_timeout(rt, Duration::from_micros(SLEEP));
     }
 }

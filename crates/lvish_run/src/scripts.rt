@@ -10,7 +10,7 @@ use std::alloc::{AllocError, Global};
 
 /// What contracts say of a script's runs.
 pub trait Runs {
-    ghost use Rattle.std.specs.Prelude.{ℕ, List};
+    ghost use Rattle.std.specs.Prelude.{ℕ, List, Option};
     ghost use Rattle.lvish_compound.specs.declared.any.Any.{Any};
     ghost use Rattle.lvish_compound.specs.declared.event.Event.{Event};
     ghost use Rattle.lvish_run.specs.declared.report.Report.{Report};
@@ -22,14 +22,21 @@ pub trait Runs {
     /// An honest report of the run of the script's nested statements that takes, at each step, the
     /// label that its pick names; of an end, that all ends that don't cross it are alike.
     ghost is_picked_run: { Self → List ℕ → ℕ → Report Any Event → Type 0 };
+
+    /// After how many steps every run of the script has ended, without an error, as far as the run
+    /// without picks shows it within the budget.
+    ghost is_bound: { Self → ℕ → Option ℕ → Type 0 };
 }
 
 impl Runs for Script {
+    ghost use Rattle.lvish_run.specs.Ends.{IsBound};
     ghost use Rattle.lvish_run.specs.Scripts.{IsRunBy, IsPickedRun};
 
     ghost is_run = { λ script workers budget r. IsRunBy (⟦<Script as ScriptMeaning>⟧.machine script) script workers budget r };
 
     ghost is_picked_run = { λ script picks budget r. IsPickedRun ⟦<Event as Ord>⟧.cmp (⟦<Script as ScriptMeaning>⟧.machine script) script picks budget r };
+
+    ghost is_bound = { λ script budget bound. IsBound ⟦<Event as Ord>⟧.cmp (⟦<Script as ScriptMeaning>⟧.machine script) script budget bound };
 }
 
 /// Runs the script on one thread: at each step the enabled label whose number is the next pick

@@ -65,13 +65,13 @@ fn turns<J: Named<Code>, R: Wait, G: Gate>(
     requires { code.now ≡ J.program }
     ensures { G.patient ≡ true → result ≢ Stopped }
 {
-    let pause = Pause::new();
+    let mut pause = Pause::new();
     let mut own = None;
     for _ in rt.forever() {
         if left.load(Ordering::SeqCst) {
             return Why::Others;
         }
-        match take_turn(rt, alloc, code, board, gate, seat, steps, &pause, own) {
+        match take_turn(rt, alloc, code, board, gate, seat, steps, &mut pause, own) {
             Ok(next) => own = next,
             Err(why) => return why,
         }
@@ -89,7 +89,7 @@ fn take_turn<J: Named<Code>, R: Wait, G: Gate>(
     gate: &G,
     seat: &mut Seat<Work<Code, J>>,
     steps: &mut Vec<Step>,
-    pause: &Pause,
+    pause: &mut Pause,
     own: Option<Work<Code, J>>,
 ) -> Result<Option<Work<Code, J>>, Why>
     requires { code.now ≡ J.program }
@@ -102,7 +102,7 @@ fn take_turn<J: Named<Code>, R: Wait, G: Gate>(
         };
     };
     pause.reset();
-    match take_up(rt, alloc, code, board, gate, seat, steps, work) {
+    match take_up(rt, alloc, code, board, gate, seat, steps, pause, work) {
         Turn::On(next) => Ok(next),
         Turn::Over => Err(Why::Over),
         Turn::Memory => Err(Why::Memory),
@@ -110,7 +110,8 @@ fn take_turn<J: Named<Code>, R: Wait, G: Gate>(
 }
 
 /// An idle turn: it says why the worker leaves, if it does. Whoever makes the last step looks whether
-/// the board is over, so an idle worker takes the lock for that only before it sleeps.
+/// the board is over, so an idle worker looks only before it sleeps, and where nobody else has the
+/// board.
 fn idle<J: Named<Code>, R: Wait, G: Gate>(
     rt: &R,
     board: &Mutex<Board<'_, Code, J>>,
@@ -120,7 +121,7 @@ fn idle<J: Named<Code>, R: Wait, G: Gate>(
 ) -> Option<Why>
     ensures { G.patient ≡ true → result ≢ Some Stopped }
 {
-    if pause.is_sleep() && is_over(rt, board) {
+    if pause.is_sleep() && is_seen_over(board) {
         return Some(Why::Over);
     }
     if !gate.idle(worker) {
@@ -168,9 +169,12 @@ fn steal<T>(seat: &mut Seat<T>, first: usize, end: usize) -> Option<T>
     None
 }
 
-/// Whether the board is over.
-fn is_over<J: Named<Code>, R: Wait>(rt: &R, board: &Mutex<Board<'_, Code, J>>) -> bool {
-    board.lock(rt).over().is_some()
+/// Whether the board is over, as far as that can be seen without a wait for it.
+fn is_seen_over<J: Named<Code>>(board: &Mutex<Board<'_, Code, J>>) -> bool {
+    match board.try_lock() {
+        Some(board) => board.over().is_some(),
+        None => false,
+    }
 }
 
 /// Does one piece of work.
@@ -182,6 +186,7 @@ fn take_up<J: Named<Code>, R: Wait, G: Gate>(
     gate: &G,
     seat: &mut Seat<Work<Code, J>>,
     steps: &mut Vec<Step>,
+    pause: &mut Pause,
     work: Work<Code, J>,
 ) -> Turn<J>
     requires { code.now ≡ J.program }
@@ -190,12 +195,12 @@ fn take_up<J: Named<Code>, R: Wait, G: Gate>(
         Work::Stretch(ticket) => {
             gate.enter(seat.number(), ticket.task());
             match stretch(alloc, code, ticket) {
-                Ok(asked) => act(rt, alloc, board, seat, steps, asked),
+                Ok(asked) => act(rt, alloc, board, seat, steps, pause, asked),
                 Err(_ticket) => Turn::Memory,
             }
         }
-        Work::Act(asked) => act(rt, alloc, board, seat, steps, asked),
-        Work::Hand(handler) => hand(rt, alloc, board, seat, steps, handler),
+        Work::Act(asked) => act(rt, alloc, board, seat, steps, pause, asked),
+        Work::Hand(handler) => hand(rt, alloc, board, seat, steps, pause, handler),
     }
 }
 
@@ -206,16 +211,17 @@ fn act<J: Named<Code>, R: Wait>(
     board: &Mutex<Board<'_, Code, J>>,
     seat: &mut Seat<Work<Code, J>>,
     steps: &mut Vec<Step>,
+    pause: &mut Pause,
     asked: Asked<Code, J>,
 ) -> Turn<J> {
-    let Ok(task) = asked.task().copy(alloc) else {
+    let Ok(task) = asked.task().copy() else {
         return Turn::Memory;
     };
     if steps.reserve(1).is_err() {
         return Turn::Memory;
     }
-    let answer = board.lock(rt).act(alloc, seat.number(), asked);
-    go_by(rt, board, seat, steps, Step::Act(task), answer)
+    let answer = pause.take(rt, board).act(alloc, seat.number(), asked);
+    go_by(rt, board, seat, steps, pause, Step::Act(task), answer)
 }
 
 /// Takes a handler to the board.
@@ -225,16 +231,17 @@ fn hand<J: Named<Code>, R: Wait>(
     board: &Mutex<Board<'_, Code, J>>,
     seat: &mut Seat<Work<Code, J>>,
     steps: &mut Vec<Step>,
+    pause: &mut Pause,
     handler: HandlerName<Event>,
 ) -> Turn<J> {
-    let Ok(name) = handler.copy(alloc) else {
+    let Ok(name) = handler.copy() else {
         return Turn::Memory;
     };
     if steps.reserve(1).is_err() {
         return Turn::Memory;
     }
-    let answer = board.lock(rt).hand(alloc, seat.number(), handler);
-    go_by(rt, board, seat, steps, Step::Hand(name), answer)
+    let answer = pause.take(rt, board).hand(alloc, seat.number(), handler);
+    go_by(rt, board, seat, steps, pause, Step::Hand(name), answer)
 }
 
 /// Goes on by what the board answered. Where the step's task goes on, its next ticket is the first of
@@ -244,6 +251,7 @@ fn go_by<J: Named<Code>, R: Wait>(
     board: &Mutex<Board<'_, Code, J>>,
     seat: &mut Seat<Work<Code, J>>,
     steps: &mut Vec<Step>,
+    pause: &mut Pause,
     step: Step,
     answer: Act<Code, J>,
 ) -> Turn<J>
@@ -252,7 +260,7 @@ fn go_by<J: Named<Code>, R: Wait>(
     match answer {
         Act::Over => Turn::Over,
         Act::Stale => Turn::On(None),
-        Act::Parked => look(rt, board),
+        Act::Parked => look(rt, board, pause),
         Act::Memory(_work) => Turn::Memory,
         Act::Next(works) => {
             let goes_on = step.is_act();
@@ -260,12 +268,12 @@ fn go_by<J: Named<Code>, R: Wait>(
             if goes_on {
                 go_on(seat, works)
             } else {
-                leave(rt, board, seat, works)
+                leave(rt, board, seat, pause, works)
             }
         }
         Act::Gone(works) => {
             steps.push_reserved(step);
-            leave(rt, board, seat, works)
+            leave(rt, board, seat, pause, works)
         }
     }
 }
@@ -288,10 +296,11 @@ fn leave<J: Named<Code>, R: Wait>(
     rt: &R,
     board: &Mutex<Board<'_, Code, J>>,
     seat: &mut Seat<Work<Code, J>>,
+    pause: &mut Pause,
     works: Vec<Work<Code, J>>,
 ) -> Turn<J> {
     if works.is_empty() {
-        return look(rt, board);
+        return look(rt, board, pause);
     }
     for work in works {
         if seat.push(work).is_err() {
@@ -302,8 +311,12 @@ fn leave<J: Named<Code>, R: Wait>(
 }
 
 /// Goes on unless the board is over.
-fn look<J: Named<Code>, R: Wait>(rt: &R, board: &Mutex<Board<'_, Code, J>>) -> Turn<J> {
-    if is_over(rt, board) {
+fn look<J: Named<Code>, R: Wait>(
+    rt: &R,
+    board: &Mutex<Board<'_, Code, J>>,
+    pause: &mut Pause,
+) -> Turn<J> {
+    if pause.take(rt, board).over().is_some() {
         Turn::Over
     } else {
         Turn::On(None)

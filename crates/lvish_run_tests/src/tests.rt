@@ -5,10 +5,9 @@ ghost use Rattle.std.specs.Prelude.{◌≤◌, ◌<◌};
 mod gates;
 mod scripts;
 
-use gates::{Away, Meeting, Resting};
+use gates::{Away, Meeting, Resting, fork_of_main};
 use lvish_calculus::Label;
 use lvish_compound::{Any, Event};
-use lvish_names::{Part, TaskName};
 use lvish_run::{Entry, Open, Outcome, Report, RunFault, run, run_picks};
 use lvish_script::read_script;
 use lvish_syntax::Script;
@@ -229,10 +228,8 @@ fn errors_end_runs(rt: HostRuntime) -> Result<(), Fail> {
 fn mark_of(trace: &[Entry<Event>], number: u64) -> Option<u64> {
     for entry in trace {
         if let Label::Task(task) = &entry.label {
-            if let [Part::Fork(fork)] = task.parts() {
-                if *fork == number {
-                    return Some((entry.worker as u64).saturating_add(1));
-                }
+            if fork_of_main(task) == Some(number) {
+                return Some((entry.worker as u64).saturating_add(1));
             }
         }
     }

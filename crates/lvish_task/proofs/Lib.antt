@@ -5,3 +5,4 @@ pub mod Inner
 pub mod Places
 pub mod Alike
 pub mod Meant
+mod Freezing

@@ -13,3 +13,4 @@ pub mod ProgramLaws
 pub mod CodeOf
 pub mod Pictures
 pub mod Laws
+pub mod Freezing

@@ -1,10 +1,11 @@
 //! What the code of each script promises, as contracts of functions with no code.
 
-ghost use Rattle.std.specs.Prelude.{◌≡◌};
+ghost use Rattle.std.specs.Prelude.{◌≡◌, false};
 ghost use Rattle.lvish_calculus.specs.SameRuns.{IsMatch, HaveSameRuns};
 ghost use Rattle.lvish_syntax.specs.declared.script.Script.{Script};
 ghost use Rattle.lvish_task.specs.declared.code.Code.{Code};
 ghost use Rattle.lvish_task.specs.CodeOf.{IsCodeOf};
+ghost use Rattle.lvish_task.specs.Freezing.{AsksNoFreeze, NeverAsksFreeze, code_freezes, has_freeze};
 ghost use Rattle.lvish_task.specs.Laws.{KeepsFitting};
 ghost use Rattle.lvish_task.specs.Meaning.{script_functions};
 ghost use Rattle.lvish_task.specs.Pictures.{Pictures, BeginsOnTwo};
@@ -37,3 +38,15 @@ pub fn same_runs()
 pub fn keeps_fitting()
     ensures { (c : Code) → KeepsFitting c }
 {}
+
+/// A script without the line `freeze` asks for no freeze.
+pub fn asks_no_freeze()
+    // Its code has an instruction that freezes exactly where it has the line.
+    ensures lines { (s : Script) (c : Code) → IsCodeOf s c → code_freezes c.flat ≡ has_freeze s }
+    // Without the line no local state of its code asks for one,
+    ensures code { (s : Script) (c : Code) → IsCodeOf s c → has_freeze s ≡ false → AsksNoFreeze (⟦<Code as Meaning>⟧.machine c) }
+    // and no task of the nested statements does, in any run.
+    ensures statements { (s : Script) (c : Code) → IsCodeOf s c → has_freeze s ≡ false → NeverAsksFreeze (⟦<Script as ScriptMeaning>⟧.machine s) }
+{
+    same_runs();
+}

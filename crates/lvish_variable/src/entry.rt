@@ -26,7 +26,7 @@ pub(crate) fn entries_of<E: Plain>(
 {
     let mut made = Vec::with_capacity(alloc, events.len())?;
     for event in events {
-        let task = task.copy(alloc)?;
+        let task = task.copy()?;
         made.push(Entry {
             event: *event,
             task,

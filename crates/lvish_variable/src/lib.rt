@@ -7,7 +7,7 @@
 //! only puts that change nothing are accepted (Kuper, Turon, Krishnaswami, Newton, POPL 2014).
 //!
 //! ```text
-//! let main = TaskName::main(alloc);
+//! let main = TaskName::main();
 //! let mut cell = Variable::<Flat<i64>>::new(alloc);
 //! cell.put(alloc, &main, 1, &Flat::Value(5))?;     // the log is [(5, main, 1)]
 //! let answer = cell.read(&FlatRead::Any);          // Some(5)

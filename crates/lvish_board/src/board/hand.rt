@@ -12,7 +12,6 @@ use crate::entry::Entry;
 use crate::list::{Left, leave, ticket_of};
 use crate::named::Named;
 use crate::outcome::Outcome;
-use crate::room::Room;
 use crate::work::Work;
 use lvish_calculus::{Label, Meaning, Program};
 use lvish_core::Runs;
@@ -78,10 +77,10 @@ impl<'p, P: Program, J: Named<P>> Board<'p, P, J> {
         hands_one_event::<P>();
         waiting_tasks::<P>();
         passes_at_its_spot::<P>();
-        let Ok(room) = Room::new(alloc, self.parked.len(), 1) else {
+        let Ok(()) = self.room.reserve(self.parked.len(), 1) else {
             return Act::Memory(Work::Hand(handler));
         };
-        let Ok(name) = handler.copy(alloc) else {
+        let Ok(name) = handler.copy() else {
             return Act::Memory(Work::Hand(handler));
         };
         let Ok(()) = self.trace.reserve(1) else {
@@ -101,7 +100,7 @@ impl<'p, P: Program, J: Named<P>> Board<'p, P, J> {
             made: ticket_of(moved.made),
             added: Some(handler),
         };
-        let list = leave(&self.core, &mut self.parked, left, room, 0);
+        let list = leave(alloc, &self.core, &mut self.parked, left, &mut self.room, 0);
         self.settle();
         Act::Next(list)
     }

@@ -12,7 +12,6 @@ use crate::entry::Entry;
 use crate::list::{leave, left_by};
 use crate::named::Named;
 use crate::outcome::Outcome;
-use crate::room::Room;
 use crate::work::Work;
 use lvish_calculus::laws::lawful;
 use lvish_calculus::{Label, Meaning, Program};
@@ -35,11 +34,10 @@ impl<'p, P: Program, J: Named<P>> Board<'p, P, J> {
         lawful::<P>();
         waiting_tasks::<P>();
         passes_at_its_spot::<P>();
-        let Ok((room, logged)) = Room::of_request(alloc, &self.core, self.parked.len(), &asked)
-        else {
+        let Ok(logged) = self.room.reserve_for(&self.core, self.parked.len(), &asked) else {
             return Act::Memory(Work::Act(asked));
         };
-        let Ok(name) = asked.task().copy(alloc) else {
+        let Ok(name) = asked.task().copy() else {
             return Act::Memory(Work::Act(asked));
         };
         let Ok(()) = self.trace.reserve(1) else {
@@ -56,17 +54,26 @@ impl<'p, P: Program, J: Named<P>> Board<'p, P, J> {
         });
         match stepped {
             Stepped::Error(kind) => {
+                drop(moved);
+                let nothing = Vec::new(alloc);
                 self.over = Some(Outcome::Error {
                     kind,
                     variable: variable_of(&self.core),
                     task: asked.into_task(),
                 });
-                Act::Gone(room.list)
+                Act::Gone(nothing)
             }
             Stepped::Done => {
                 let left = left_by(asked, moved);
                 let goes_on = left.own.is_some();
-                let list = leave(&self.core, &mut self.parked, left, room, logged);
+                let list = leave(
+                    alloc,
+                    &self.core,
+                    &mut self.parked,
+                    left,
+                    &mut self.room,
+                    logged,
+                );
                 self.settle();
                 if goes_on {
                     Act::Next(list)

@@ -35,7 +35,11 @@ fn prints_or_wants_memory<R: Threads + Wait + Sync>(
 }
 
 fn checks<R: Threads + Wait + Sync>(rt: &R, alloc: Global) -> bool {
-    prints_or_wants_memory(rt, alloc, &Order::Check, COUNTING, "ok\n")
+    let order = Order::Check {
+        ends: true,
+        budget: 100,
+    };
+    prints_or_wants_memory(rt, alloc, &order, COUNTING, "ok\nunknown\n")
 }
 
 fn runs<R: Threads + Wait + Sync>(rt: &R, alloc: Global, workers: usize) -> bool

@@ -45,7 +45,13 @@ fn end<T: Threads + Wait + Sync, R: Read>(
     writer: &mut ShortWriter,
 ) -> Status {
     match asked {
-        Asked::Check => perform(rt, alloc, &Order::Check, reader, writer),
+        Asked::Check => {
+            let order = Order::Check {
+                ends: true,
+                budget: 100,
+            };
+            perform(rt, alloc, &order, reader, writer)
+        }
         Asked::Alone => run(rt, alloc, 1, reader, writer),
         Asked::Both => run(rt, alloc, 2, reader, writer),
         Asked::Pick => pick(rt, alloc, reader, writer),

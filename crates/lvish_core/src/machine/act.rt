@@ -35,8 +35,8 @@ impl<'p, P: Program> Core<'p, P> {
             }
             Request::Freeze(variable, _) => self.freeze(alloc, name, at, numbers, *variable),
             Request::Pause => self.go_on(alloc, name, at, numbers, Reply::Done),
-            Request::End => self.end(alloc, name, at, numbers),
-            Request::Fault(kind) => self.fail(alloc, name, *kind, None),
+            Request::End => self.end(name, at, numbers),
+            Request::Fault(kind) => self.fail(name, *kind, None),
         }
     }
 }

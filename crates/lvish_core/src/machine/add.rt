@@ -40,9 +40,9 @@ impl<'p, P: Program> Core<'p, P> {
         let local = self.program.resume(alloc, at, Reply::Done)?;
         let own = self.program.copy_local(alloc, &local)?;
         let adds = numbers.adds + 1;
-        let handler = match HandlerName::new(alloc, name, adds) {
+        let handler = match HandlerName::new(name, adds) {
             Ok(handler) => handler,
-            Err(NameFault::Deep) => return self.fail(alloc, name, ErrorKind::Deep, None),
+            Err(NameFault::Deep) => return self.fail(name, ErrorKind::Deep, None),
             Err(NameFault::Memory) => return Err(StepFault::Memory),
         };
         let Some(variable) = self.program.pool_variable(pool) else {
@@ -50,9 +50,9 @@ impl<'p, P: Program> Core<'p, P> {
         };
         let on = &self.variables[variable];
         if on.is_frozen() {
-            return self.fail(alloc, name, ErrorKind::Late, Some(variable));
+            return self.fail(name, ErrorKind::Late, Some(variable));
         }
-        let added = handler.copy(alloc)?;
+        let added = handler.copy()?;
         let place = Place {
             variable,
             pool,

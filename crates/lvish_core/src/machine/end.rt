@@ -15,13 +15,11 @@ use lvish_calculus::{Meaning, Program};
 use lvish_lattice::Lattice;
 use lvish_names::TaskName;
 use lvish_picture::laws::{counts_follow, counts_kept, plain_kept, running_counts};
-use std::alloc::Global;
 
 impl<'p, P: Program> Core<'p, P> {
     /// Ends the task.
     pub(super) fn end(
         &mut self,
-        alloc: Global,
         name: &TaskName<<P::Lat as Lattice>::Event>,
         at: &P::Local,
         numbers: Numbers,
@@ -34,7 +32,7 @@ impl<'p, P: Program> Core<'p, P> {
         counts_kept::<P>();
         counts_follow::<P>();
         running_counts::<P>();
-        let place = self.place_of(alloc, name)?;
+        let place = self.place_of(name)?;
         self.tasks.replace(name, Stage::Ended);
         end_at(&mut self.handlers, place);
         self.running -= 1;

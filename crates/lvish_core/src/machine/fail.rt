@@ -11,13 +11,11 @@ use lvish_calculus::{ErrorKind, Meaning, Program};
 use lvish_lattice::Lattice;
 use lvish_names::TaskName;
 use lvish_picture::laws::errors_are_steps;
-use std::alloc::Global;
 
 impl<'p, P: Program> Core<'p, P> {
     /// Makes the step that gives an error.
     pub(super) fn fail(
         &mut self,
-        alloc: Global,
         name: &TaskName<<P::Lat as Lattice>::Event>,
         kind: ErrorKind,
         variable: Option<usize>,
@@ -27,7 +25,7 @@ impl<'p, P: Program> Core<'p, P> {
     {
         lawful::<P>();
         errors_are_steps::<P>();
-        let task = name.copy(alloc)?;
+        let task = name.copy()?;
         self.fault = Some(Fault {
             kind,
             variable,

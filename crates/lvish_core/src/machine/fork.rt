@@ -40,15 +40,15 @@ impl<'p, P: Program> Core<'p, P> {
         let forks = numbers.forks + 1;
         let task = match name.child(alloc, forks) {
             Ok(task) => task,
-            Err(NameFault::Deep) => return self.fail(alloc, name, ErrorKind::Deep, None),
+            Err(NameFault::Deep) => return self.fail(name, ErrorKind::Deep, None),
             Err(NameFault::Memory) => return Err(StepFault::Memory),
         };
         let made = Made {
-            name: task.copy(alloc)?,
+            name: task.copy()?,
             local: self.program.copy_local(alloc, child)?,
         };
         let started = Stage::started(self.program.copy_local(alloc, child)?);
-        let place = self.place_of(alloc, name)?;
+        let place = self.place_of(name)?;
         self.tasks.insert(task, started)?;
         let stage = Stage::Live {
             local,

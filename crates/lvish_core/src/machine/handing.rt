@@ -78,7 +78,7 @@ impl<'p, P: Program> Core<'p, P> {
         let task = TaskName::handled(alloc, name, &event)?;
         let local = self.program.start_handler(alloc, place.procedure, &event)?;
         let made = Made {
-            name: task.copy(alloc)?,
+            name: task.copy()?,
             local: self.program.copy_local(alloc, &local)?,
         };
         self.tasks.insert(task, Stage::started(local))?;

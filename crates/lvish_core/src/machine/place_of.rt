@@ -10,18 +10,17 @@ use crate::place::Place;
 use lvish_calculus::{Meaning, Program};
 use lvish_lattice::Lattice;
 use lvish_names::TaskName;
-use std::alloc::{AllocError, Global};
+use std::alloc::AllocError;
 
 impl<'p, P: Program> Core<'p, P> {
     /// Where the handler is in whose pool the task runs, if it runs in one.
     pub(super) fn place_of(
         &self,
-        alloc: Global,
         name: &TaskName<<P::Lat as Lattice>::Event>,
     ) -> Result<Option<Place>, AllocError>
         ensures { IfOk result (λ o. IsPlaceOf (⟦<P as Meaning>⟧.machine self.now.program) (state (⟦<P as Meaning>⟧.machine self.now.program) self.now) name.now o) }
     {
-        match name.pool_of(alloc)? {
+        match name.pool_of()? {
             Some(handler) => Ok(self.places.get(&handler)),
             None => Ok(None),
         }

@@ -43,7 +43,7 @@ impl<'p, P: Program> Core<'p, P> {
                 PutFault::Frozen => ErrorKind::Frozen,
                 PutFault::Memory => return Err(StepFault::Memory),
             };
-            return self.fail(alloc, name, kind, Some(variable));
+            return self.fail(name, kind, Some(variable));
         }
         let stage = Stage::Live {
             local,

@@ -56,15 +56,17 @@ impl<'p, P: Program> Core<'p, P> {
         if self.fault.is_some() {
             return Ok(labels);
         }
-        for (task, stage) in self.tasks.iter() {
+        let tasks = self.tasks.in_order(alloc)?;
+        for entry in tasks.iter() {
+            let (task, stage) = *entry;
             if self.is_at_ready(alloc, stage)? {
-                labels.push(Label::Task(task.copy(alloc)?))?;
+                labels.push(Label::Task(task.copy()?))?;
             }
         }
         for (handler, place) in self.places.iter() {
             let variable = &self.variables[place.variable];
             if let Some(event) = self.handlers[place.variable].next(variable, handler) {
-                labels.push(Label::Hand(handler.copy(alloc)?, event))?;
+                labels.push(Label::Hand(handler.copy()?, event))?;
             }
         }
         Ok(labels)

@@ -165,7 +165,7 @@ where
             write_handlers(&mut text, self.core.handlers(0))?;
         }
         write!(text, " | {} running", self.core.running())?;
-        if let Some(request) = self.core.request_of(alloc, &TaskName::main(alloc))? {
+        if let Some(request) = self.core.request_of(alloc, &TaskName::main())? {
             write!(text, ", main asks")?;
             write_request(&mut text, &request)?;
         }

@@ -19,7 +19,7 @@ pub struct Bench<L: Lattice> {
 impl<L: Lattice> Bench<L> {
     /// No handlers, on a variable to which main put these states.
     pub fn new(alloc: Global, puts: &[L]) -> Result<Bench<L>, PutFault> {
-        let main = TaskName::main(alloc);
+        let main = TaskName::main();
         let mut variable = Variable::new(alloc);
         for (i, put) in puts.iter().enumerate() {
             variable.put(alloc, &main, i as u64 + 1, put)?;

@@ -6,6 +6,7 @@ use crate::words::{halves, integer, integers, items_of};
 use lvish_lattice::{Flat, FlatRead, GrowSet, Items, Levels, MaxCounter, Members, Whole};
 use std::alloc::{AllocError, Global};
 use std::fmt::Write;
+use std::hash::Hash;
 
 impl Value for i64 {
     fn value(text: &str) -> Result<i64, Fault> {
@@ -62,7 +63,7 @@ pub fn elements<V: Value>(alloc: Global, text: &str) -> Result<String, Fault> {
     Ok(told)
 }
 
-impl<V: Value> Notation for Flat<V> {
+impl<V: Value + Hash> Notation for Flat<V> {
     fn state(_alloc: Global, text: &str) -> Result<Flat<V>, Fault> {
         if text == "_" {
             return Ok(Flat::Bottom);
@@ -82,7 +83,7 @@ impl<V: Value> Notation for Flat<V> {
     }
 }
 
-impl<V: Value> ReadNotation for Flat<V> {
+impl<V: Value + Hash> ReadNotation for Flat<V> {
     fn read(alloc: Global, text: &str) -> Result<FlatRead<V>, Fault> {
         if text == "any" {
             return Ok(FlatRead::Any);
@@ -99,7 +100,7 @@ impl<V: Value> ReadNotation for Flat<V> {
     }
 }
 
-impl<V: Value> Notation for GrowSet<V> {
+impl<V: Value + Hash> Notation for GrowSet<V> {
     /// `new` is the set that is made with no elements.
     fn state(alloc: Global, text: &str) -> Result<GrowSet<V>, Fault> {
         if text == "new" {
@@ -117,7 +118,7 @@ impl<V: Value> Notation for GrowSet<V> {
     }
 }
 
-impl<V: Value> ReadNotation for GrowSet<V> {
+impl<V: Value + Hash> ReadNotation for GrowSet<V> {
     fn read(alloc: Global, text: &str) -> Result<Members<V>, Fault> {
         Ok(Members::In(Items::new(values(alloc, text)?)))
     }

@@ -27,7 +27,7 @@ fn put_at_last(
 }
 
 fn child(alloc: Global) -> Result<TaskName<i64>, NameFault> {
-    TaskName::main(alloc).child(alloc, 1)
+    TaskName::main().child(alloc, 1)
 }
 
 /// The only entry of the log, as text.

@@ -17,8 +17,18 @@ use std::alloc::AllocError;
 const MOST_STEPS: u64 = 1_000;
 
 /// Tries a check of the script, and answers whether it is one.
-pub fn try_check<R: Host>(rt: &R, case: &Case<'_>, tried: &mut Tried) -> Result<bool> {
-    Ok(try_order(rt, case, &Order::Check, tried)?.status == 0)
+pub fn try_check<R: Host>(
+    rt: &R,
+    case: &Case<'_>,
+    ends: bool,
+    budget: u64,
+    tried: &mut Tried,
+) -> Result<bool> {
+    let order = Order::Check {
+        ends,
+        budget: budget.min(MOST_STEPS),
+    };
+    Ok(try_order(rt, case, &order, tried)?.status == 0)
 }
 
 /// Tries a run of the script by so many workers.

@@ -58,15 +58,23 @@ impl Gate for Meeting {
 
     fn enter(&self, worker: usize, task: &TaskName<Event>) {
         let mark = (worker as u64).saturating_add(1);
-        match task.parts() {
-            [Part::Fork(1)] => self.hold(&self.first, &self.second, mark),
-            [Part::Fork(2)] => self.hold(&self.second, &self.first, mark),
+        match fork_of_main(task) {
+            Some(1) => self.hold(&self.first, &self.second, mark),
+            Some(2) => self.hold(&self.second, &self.first, mark),
             _ => {}
         }
     }
 
     fn idle(&self, _worker: usize) -> bool {
         true
+    }
+}
+
+/// Which of main's forks the task is; `None` of main and of others' tasks.
+pub fn fork_of_main(task: &TaskName<Event>) -> Option<u64> {
+    match task.parts() {
+        [Part::Fork(number)] => Some(*number),
+        _ => None,
     }
 }
 
@@ -114,10 +122,10 @@ impl Gate for Resting {
     ghost patient = { true };
 
     fn enter(&self, _worker: usize, task: &TaskName<Event>) {
-        match task.parts() {
-            [] => self.hold(&self.idled),
-            [Part::Fork(2)] => self.entered.store(true, Ordering::SeqCst),
-            _ => {}
+        if task.len() == 0 {
+            self.hold(&self.idled);
+        } else if fork_of_main(task) == Some(2) {
+            self.entered.store(true, Ordering::SeqCst);
         }
     }
 

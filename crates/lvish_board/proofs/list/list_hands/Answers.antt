@@ -32,6 +32,22 @@ loop-handler-preserved-then-is_some g c =
       listing = list_more _ _ _ _ _ _ _ listing (there _ _ c.next-in-loop-handler.ensures (sym c.is_some.ensures ∙ c.if-is_some.true)) c.push_reserved.ensures.items;
     }
 
+pub loop-handler-preserved-else-is_some : goal.loop-handler-preserved-else-is_some
+loop-handler-preserved-else-is_some g c =
+    let steps : into_iter_items c.loop-handler.handler-iterator ≡ c.in-Some.handler ∷ into_iter_items c.next.new.self = c.in-Some.ensures.steps.0 in
+    let gone = c.in-Some.ensures.steps.1 in
+    let short = ap length steps in
+    let was = c.loop-handler.invariant.long in
+    let long : into_iter_len c.next.new.self ≡ length (into_iter_items c.next.new.self) = omega arith in
+    let listing = rw steps at c.loop-handler.invariant.listing in
+    record {
+      can = tt;
+      finite = tt;
+      long = long;
+      room = search rules;
+      listing = list_passed _ _ _ _ _ _ listing (none_there _ _ c.next-in-loop-handler.ensures (sym c.is_some.ensures ∙ c.if-is_some.false));
+    }
+
 pub loop-handler-preserved : goal.loop-handler-preserved
 loop-handler-preserved g c =
     let steps : into_iter_items c.loop-handler.handler-iterator ≡ c.in-Some.handler ∷ into_iter_items c.next.new.self = c.in-Some.ensures.steps.0 in

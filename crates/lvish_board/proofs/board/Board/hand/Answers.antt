@@ -1,11 +1,11 @@
-use Rattle.std.proofs.Common.{rules, ◌≡◌, None, Some, length, refl, sym, subst, arith}
+use Rattle.std.proofs.Common.{rules, ◌≡◌, None, Some, length, refl, sym, subst, ◌∙◌, arith}
 use Rattle.lvish_calculus.specs.Program.{machine_of}
 use Rattle.lvish_calculus.specs.declared.label.Label.TheVariants.{Hand}
 use Rattle.lvish_core.specs.Core.{IsNext}
 use Rattle.lvish_board.specs.declared.outcome.Outcome.TheVariants.{Budget}
 use Rattle.lvish_board.specs.Acts.{ListsWork}
 use Rattle.lvish_board.proofs.Handing.{comes_once, hand_open, none_seen}
-use Rattle.lvish_board.proofs.Steps.{kept_over}
+use Rattle.lvish_board.proofs.Steps.{kept_over, none_is}
 use Rattle.lvish_board.proofs.board.Board.hand.Goals as goal
 
 pub returns-in_default-clause-parked : goal.returns-in_default-clause-parked
@@ -24,7 +24,7 @@ invariant_of-self g c =
 pub returns-clause-step : goal.returns-clause-step
 returns-clause-step g c = λ made e comes.
     let M = machine_of g.P.Lat.PartialEq.eq g.P.Lat.Event.PartialEq.eq g.P.Lat.Event.Ord.cmp g.P.Lat.Lattice.least g.P.Lat.Lattice.joined g.P.Lat.Lattice.events_of g.P.Lat.Reads.answer_of (g.P.Program.functions g.J.Named.program) in
-    let none : c.self.inside.over ≡ None = search rules in
+    let none : c.self.inside.over ≡ None = none_is c.self.inside.over (sym c.is_some.ensures ∙ c.if-is_some.false) in
     let next : IsNext g.P.Lat.Event.PartialEq.eq c.self.inside.core.table c.args.handler c.in-Some.event = search rules in
     let here = rw (← c.self.view_is) at comes in
     let same : c.in-Some.event ≡ e = comes_once M (c.hands_one_event.ensures.one g.J.Named.program) (c.hands_one_event.ensures.open g.J.Named.program) g.J.Named.program g.J.Named.budget (record { trace = c.self.inside.trace.items; core = c.self.inside.core; over = c.self.inside.over; parked = c.self.inside.parked }) c.self.invariant.1 none c.args.handler c.in-Some.event e next here in

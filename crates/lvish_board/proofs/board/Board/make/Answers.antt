@@ -13,8 +13,8 @@ use Rattle.lvish_board.proofs.Steps.{done_none, kept_step}
 use Rattle.lvish_board.proofs.Wakened.{current_after}
 use Rattle.lvish_board.proofs.board.Board.make.Goals as goal
 
-pub invariant_of-self-in-Error-1 : goal.invariant_of-self-in-Error-1
-invariant_of-self-in-Error-1 g c =
+pub invariant_of-self-in-Error : goal.invariant_of-self-in-Error
+invariant_of-self-in-Error g c =
     let M = machine_of g.P.Lat.PartialEq.eq g.P.Lat.Event.PartialEq.eq g.P.Lat.Event.Ord.cmp g.P.Lat.Lattice.least g.P.Lat.Lattice.joined g.P.Lat.Lattice.events_of g.P.Lat.Reads.answer_of (g.P.Program.functions g.J.Named.program) in
     let machine = λ (p : g.row.P.Denot). machine_of g.P.Lat.PartialEq.eq g.P.Lat.Event.PartialEq.eq g.P.Lat.Event.Ord.cmp g.P.Lat.Lattice.least g.P.Lat.Lattice.joined g.P.Lat.Lattice.events_of g.P.Lat.Reads.answer_of (g.P.Program.functions p) in
     let sound = c.self.invariant.1 in
@@ -33,11 +33,11 @@ leave-list-requires-clause-logged g c =
     let step = own_step machine g.J.Named.program c.self.inside.core c.step_asked.new.self sound.program_is c.task-2.result.now c.args.asked.task task c.in-Ok-step_asked.stepped DoneStep said c.in-Ok-step_asked.ensures.stepped in
     let ok = c.lawful.ensures g.J.Named.program in
     let at = rw (← c.self.view_is) at c.requires.current in
-    let con = own_concerned machine g.J.Named.program c.self.inside.core c.step_asked.new.self sound.program_is g.P.Lat.Event.Ord.cmp c.args.asked.from c.in-Ok.room.hands.items c.in-Ok.logged c.in-Ok.ensures.hands in
+    let con = own_concerned machine g.J.Named.program c.self.inside.core c.step_asked.new.self sound.program_is g.P.Lat.Event.Ord.cmp c.args.asked.from c.reserve_for.new.self.hands.items c.in-Ok.logged c.in-Ok.ensures.hands in
     let count = (g.P.Program.functions c.self.inside.core.program).variables in
     let size = c.has_all_variables.ensures in
     let size_after = c.has_all_variables-2.ensures ∙ ap (λ p. (g.P.Program.functions p).variables) c.in-Ok-step_asked.ensures.stepped.program in
-    is_logged g.P.Lat.Event.Ord.cmp M ok c.self.inside.core c.step_asked.new.self c.args.asked.task c.args.asked.from c.in-Ok.room.hands.items c.in-Ok.logged step at con count size size_after
+    is_logged g.P.Lat.Event.Ord.cmp M ok c.self.inside.core c.step_asked.new.self c.args.asked.task c.args.asked.from c.reserve_for.new.self.hands.items c.in-Ok.logged step at con count size size_after
 
 pub leave-list-requires-clause-current : goal.leave-list-requires-clause-current
 leave-list-requires-clause-current g c =
@@ -59,13 +59,13 @@ leave-list-requires-clause-list_room g c =
     let step = own_step machine g.J.Named.program c.self.inside.core c.step_asked.new.self sound.program_is c.task-2.result.now c.args.asked.task task c.in-Ok-step_asked.stepped DoneStep said c.in-Ok-step_asked.ensures.stepped in
     let ok = c.lawful.ensures g.J.Named.program in
     let at = rw (← c.self.view_is) at c.requires.current in
-    let con = own_concerned machine g.J.Named.program c.self.inside.core c.step_asked.new.self sound.program_is g.P.Lat.Event.Ord.cmp c.args.asked.from c.in-Ok.room.hands.items c.in-Ok.logged c.in-Ok.ensures.hands in
+    let con = own_concerned machine g.J.Named.program c.self.inside.core c.step_asked.new.self sound.program_is g.P.Lat.Event.Ord.cmp c.args.asked.from c.reserve_for.new.self.hands.items c.in-Ok.logged c.in-Ok.ensures.hands in
     let count = (g.P.Program.functions c.self.inside.core.program).variables in
     let size = c.has_all_variables.ensures in
     let size_after = c.has_all_variables-2.ensures ∙ ap (λ p. (g.P.Program.functions p).variables) c.in-Ok-step_asked.ensures.stepped.program in
     let is_moved = own_moved machine g.J.Named.program c.self.inside.core c.step_asked.new.self sound.program_is c.task-2.result.now c.args.asked.task task c.in-Ok-step_asked.moved c.in-Ok-step_asked.ensures.moved in
     let added : c.left_by-left.result.added ≡ c.in-Ok-step_asked.moved.added = c.left_by-left.ensures.added in
-    let few = few_added g.P.Lat.Event.Ord.cmp M ok c.self.inside.core c.step_asked.new.self c.args.asked.task c.args.asked.from c.in-Ok.room.hands.items c.in-Ok.logged step at con count size size_after c.left_by-left.result.added (added ∙ ap (λ m. m.added) is_moved) in
+    let few = few_added g.P.Lat.Event.Ord.cmp M ok c.self.inside.core c.step_asked.new.self c.args.asked.task c.args.asked.from c.reserve_for.new.self.hands.items c.in-Ok.logged step at con count size size_after c.left_by-left.result.added (added ∙ ap (λ m. m.added) is_moved) in
     let most : most_added ((g.P.Program.functions c.self.inside.core.program).request c.args.asked.from) ≡ most_added (M.request c.args.asked.from) = ap (λ p. most_added ((g.P.Program.functions p).request c.args.asked.from)) sound.program_is in
     let room = c.in-Ok.ensures.list_room in
     let parked : c.len.result ≡ length c.self.inside.parked = c.len.ensures in
@@ -81,13 +81,13 @@ leave-list-requires-clause-hands_room g c =
     let step = own_step machine g.J.Named.program c.self.inside.core c.step_asked.new.self sound.program_is c.task-2.result.now c.args.asked.task task c.in-Ok-step_asked.stepped DoneStep said c.in-Ok-step_asked.ensures.stepped in
     let ok = c.lawful.ensures g.J.Named.program in
     let at = rw (← c.self.view_is) at c.requires.current in
-    let con = own_concerned machine g.J.Named.program c.self.inside.core c.step_asked.new.self sound.program_is g.P.Lat.Event.Ord.cmp c.args.asked.from c.in-Ok.room.hands.items c.in-Ok.logged c.in-Ok.ensures.hands in
+    let con = own_concerned machine g.J.Named.program c.self.inside.core c.step_asked.new.self sound.program_is g.P.Lat.Event.Ord.cmp c.args.asked.from c.reserve_for.new.self.hands.items c.in-Ok.logged c.in-Ok.ensures.hands in
     let count = (g.P.Program.functions c.self.inside.core.program).variables in
     let size = c.has_all_variables.ensures in
     let size_after = c.has_all_variables-2.ensures ∙ ap (λ p. (g.P.Program.functions p).variables) c.in-Ok-step_asked.ensures.stepped.program in
     let is_moved = own_moved machine g.J.Named.program c.self.inside.core c.step_asked.new.self sound.program_is c.task-2.result.now c.args.asked.task task c.in-Ok-step_asked.moved c.in-Ok-step_asked.ensures.moved in
     let added : c.left_by-left.result.added ≡ c.in-Ok-step_asked.moved.added = c.left_by-left.ensures.added in
-    let few = few_added g.P.Lat.Event.Ord.cmp M ok c.self.inside.core c.step_asked.new.self c.args.asked.task c.args.asked.from c.in-Ok.room.hands.items c.in-Ok.logged step at con count size size_after c.left_by-left.result.added (added ∙ ap (λ m. m.added) is_moved) in
+    let few = few_added g.P.Lat.Event.Ord.cmp M ok c.self.inside.core c.step_asked.new.self c.args.asked.task c.args.asked.from c.reserve_for.new.self.hands.items c.in-Ok.logged step at con count size size_after c.left_by-left.result.added (added ∙ ap (λ m. m.added) is_moved) in
     let most : most_added ((g.P.Program.functions c.self.inside.core.program).request c.args.asked.from) ≡ most_added (M.request c.args.asked.from) = ap (λ p. most_added ((g.P.Program.functions p).request c.args.asked.from)) sound.program_is in
     let room = c.in-Ok.ensures.hands_room in
     omega (arith, room, few, most)
@@ -102,14 +102,14 @@ invariant_of-self-in-Done g c =
     let step = own_step machine g.J.Named.program c.self.inside.core c.step_asked.new.self sound.program_is c.task-2.result.now c.args.asked.task task c.in-Ok-step_asked.stepped DoneStep said c.in-Ok-step_asked.ensures.stepped in
     let ok = c.lawful.ensures g.J.Named.program in
     let at = rw (← c.self.view_is) at c.requires.current in
-    let con = own_concerned machine g.J.Named.program c.self.inside.core c.step_asked.new.self sound.program_is g.P.Lat.Event.Ord.cmp c.args.asked.from c.in-Ok.room.hands.items c.in-Ok.logged c.in-Ok.ensures.hands in
+    let con = own_concerned machine g.J.Named.program c.self.inside.core c.step_asked.new.self sound.program_is g.P.Lat.Event.Ord.cmp c.args.asked.from c.reserve_for.new.self.hands.items c.in-Ok.logged c.in-Ok.ensures.hands in
     let count = (g.P.Program.functions c.self.inside.core.program).variables in
     let size = c.has_all_variables.ensures in
     let size_after = c.has_all_variables-2.ensures ∙ ap (λ p. (g.P.Program.functions p).variables) c.in-Ok-step_asked.ensures.stepped.program in
-    let left = own_left machine g.J.Named.program c.self.inside.core c.step_asked.new.self (step.program ∙ sound.program_is) g.P.Lat.Event.Ord.cmp g.P.Lat.Reads.spot_of g.P.Lat.Reads.watched c.in-Ok.logged c.left_by-left.result.own c.left_by-left.result.made c.left_by-left.result.added c.in-Ok.room.hands.items c.self.inside.parked c.leave-list.new.parked c.leave-list.result.items c.leave-list.ensures.left in
+    let left = own_left machine g.J.Named.program c.self.inside.core c.step_asked.new.self (step.program ∙ sound.program_is) g.P.Lat.Event.Ord.cmp g.P.Lat.Reads.spot_of g.P.Lat.Reads.watched c.in-Ok.logged c.left_by-left.result.own c.left_by-left.result.made c.left_by-left.result.added c.reserve_for.new.self.hands.items c.self.inside.parked c.leave-list.new.parked c.leave-list.result.items c.leave-list.ensures.left in
     let none : c.self.inside.over ≡ None = search rules in
     let fine : OverIs M g.J.Named.budget (record { trace = c.push_reserved.new.self.items; core = c.step_asked.new.self; over = c.self.inside.over; parked = c.leave-list.new.parked }) c.self.inside.over = subst (λ o. OverIs M g.J.Named.budget (record { trace = c.push_reserved.new.self.items; core = c.step_asked.new.self; over = c.self.inside.over; parked = c.leave-list.new.parked }) o) (sym none) (done_none M c.self.inside.core c.step_asked.new.self (Act c.args.asked.task) step) in
-    (c.self.invariant.0, kept_step M g.J.Named.program g.J.Named.budget c.self.inside.trace.items c.push_reserved.new.self.items c.self.inside.core c.step_asked.new.self c.self.inside.over c.self.inside.over c.self.inside.parked c.leave-list.new.parked (Act c.args.asked.task) c.args.worker DoneStep sound step (rw (← c.self.view_is) at c.requires.room) (search rules) fine (act_blocked M ok g.P.Lat.Reads.spot_of g.P.Lat.Reads.watched (c.waiting_tasks.ensures.until_touched g.J.Named.program) (c.passes_at_its_spot.ensures g.J.Named.program) g.P.Lat.Event.Ord.cmp c.self.inside.core c.step_asked.new.self (labels_of c.self.inside.trace.items) sound.leads c.args.asked.task c.args.asked.from c.in-Ok.room.hands.items c.in-Ok.logged step at con count size size_after c.self.inside.parked c.leave-list.new.parked sound.blocked c.left_by-left.result.own c.left_by-left.result.made c.left_by-left.result.added c.leave-list.result.items left) (c.leave-list.ensures.once sound.once))
+    (c.self.invariant.0, kept_step M g.J.Named.program g.J.Named.budget c.self.inside.trace.items c.push_reserved.new.self.items c.self.inside.core c.step_asked.new.self c.self.inside.over c.self.inside.over c.self.inside.parked c.leave-list.new.parked (Act c.args.asked.task) c.args.worker DoneStep sound step (rw (← c.self.view_is) at c.requires.room) (search rules) fine (act_blocked M ok g.P.Lat.Reads.spot_of g.P.Lat.Reads.watched (c.waiting_tasks.ensures.until_touched g.J.Named.program) (c.passes_at_its_spot.ensures g.J.Named.program) g.P.Lat.Event.Ord.cmp c.self.inside.core c.step_asked.new.self (labels_of c.self.inside.trace.items) sound.leads c.args.asked.task c.args.asked.from c.reserve_for.new.self.hands.items c.in-Ok.logged step at con count size size_after c.self.inside.parked c.leave-list.new.parked sound.blocked c.left_by-left.result.own c.left_by-left.result.made c.left_by-left.result.added c.leave-list.result.items left) (c.leave-list.ensures.once sound.once))
 
 pub returns-in-Error-clause-gone : goal.returns-in-Error-clause-gone
 returns-in-Error-clause-gone g c =
@@ -129,7 +129,7 @@ returns-in-Error-clause-list g c =
     let task : c.task-2.result.now ≡ c.args.asked.task = search rules in
     let said : c.in-Ok-step_asked.stepped ≡ ErrorStep c.in-Error.kind = search rules in
     let step = own_step machine g.J.Named.program c.self.inside.core c.step_asked.new.self sound.program_is c.task-2.result.now c.args.asked.task task c.in-Ok-step_asked.stepped (ErrorStep c.in-Error.kind) said c.in-Ok-step_asked.ensures.stepped in
-    error_listed M c.self.inside.core c.step_asked.new.self c.args.asked.task c.in-Error.kind step g.P.Lat.Event.Ord.cmp c.args.self.now _ (seen_core c.self.view_is) refl (sym (seen_parked c.self.view_is)) c.in-Ok.room.list.items c.in-Ok.ensures.empty.0
+    error_listed M c.self.inside.core c.step_asked.new.self c.args.asked.task c.in-Error.kind step g.P.Lat.Event.Ord.cmp c.args.self.now _ (seen_core c.self.view_is) refl (sym (seen_parked c.self.view_is)) _ (search rules)
 
 pub returns-then-goes_on-clause-gone : goal.returns-then-goes_on-clause-gone
 returns-then-goes_on-clause-gone g c =
@@ -169,13 +169,13 @@ returns-then-goes_on-clause-list g c =
     let step = own_step machine g.J.Named.program c.self.inside.core c.step_asked.new.self sound.program_is c.task-2.result.now c.args.asked.task task c.in-Ok-step_asked.stepped DoneStep said c.in-Ok-step_asked.ensures.stepped in
     let ok = c.lawful.ensures g.J.Named.program in
     let at = rw (← c.self.view_is) at c.requires.current in
-    let con = own_concerned machine g.J.Named.program c.self.inside.core c.step_asked.new.self sound.program_is g.P.Lat.Event.Ord.cmp c.args.asked.from c.in-Ok.room.hands.items c.in-Ok.logged c.in-Ok.ensures.hands in
+    let con = own_concerned machine g.J.Named.program c.self.inside.core c.step_asked.new.self sound.program_is g.P.Lat.Event.Ord.cmp c.args.asked.from c.reserve_for.new.self.hands.items c.in-Ok.logged c.in-Ok.ensures.hands in
     let count = (g.P.Program.functions c.self.inside.core.program).variables in
     let size = c.has_all_variables.ensures in
     let size_after = c.has_all_variables-2.ensures ∙ ap (λ p. (g.P.Program.functions p).variables) c.in-Ok-step_asked.ensures.stepped.program in
     let is_moved = own_moved machine g.J.Named.program c.self.inside.core c.step_asked.new.self sound.program_is c.task-2.result.now c.args.asked.task task c.in-Ok-step_asked.moved c.in-Ok-step_asked.ensures.moved in
-    let left = own_left machine g.J.Named.program c.self.inside.core c.step_asked.new.self (step.program ∙ sound.program_is) g.P.Lat.Event.Ord.cmp g.P.Lat.Reads.spot_of g.P.Lat.Reads.watched c.in-Ok.logged c.left_by-left.result.own c.left_by-left.result.made c.left_by-left.result.added c.in-Ok.room.hands.items c.self.inside.parked c.leave-list.new.parked c.leave-list.result.items c.leave-list.ensures.left in
-    act_listed M ok g.P.Lat.Reads.spot_of g.P.Lat.Reads.watched (c.waiting_tasks.ensures.until_touched g.J.Named.program) (c.passes_at_its_spot.ensures g.J.Named.program) g.P.Lat.Event.Ord.cmp c.self.inside.core c.step_asked.new.self (labels_of c.self.inside.trace.items) sound.leads c.args.asked.task c.args.asked.from c.in-Ok.room.hands.items c.in-Ok.logged step at con count size size_after c.self.inside.parked c.leave-list.new.parked sound.blocked c.left_by-left.result.own c.left_by-left.result.made c.left_by-left.result.added c.leave-list.result.items left c.in-Ok-step_asked.moved is_moved c.left_by-left.ensures.own c.left_by-left.ensures.made c.left_by-left.ensures.added c.args.self.now c.settle.new.self (seen_core c.self.view_is) (seen_parked c.self.view_is) c.settle.ensures.core c.settle.ensures.parked
+    let left = own_left machine g.J.Named.program c.self.inside.core c.step_asked.new.self (step.program ∙ sound.program_is) g.P.Lat.Event.Ord.cmp g.P.Lat.Reads.spot_of g.P.Lat.Reads.watched c.in-Ok.logged c.left_by-left.result.own c.left_by-left.result.made c.left_by-left.result.added c.reserve_for.new.self.hands.items c.self.inside.parked c.leave-list.new.parked c.leave-list.result.items c.leave-list.ensures.left in
+    act_listed M ok g.P.Lat.Reads.spot_of g.P.Lat.Reads.watched (c.waiting_tasks.ensures.until_touched g.J.Named.program) (c.passes_at_its_spot.ensures g.J.Named.program) g.P.Lat.Event.Ord.cmp c.self.inside.core c.step_asked.new.self (labels_of c.self.inside.trace.items) sound.leads c.args.asked.task c.args.asked.from c.reserve_for.new.self.hands.items c.in-Ok.logged step at con count size size_after c.self.inside.parked c.leave-list.new.parked sound.blocked c.left_by-left.result.own c.left_by-left.result.made c.left_by-left.result.added c.leave-list.result.items left c.in-Ok-step_asked.moved is_moved c.left_by-left.ensures.own c.left_by-left.ensures.made c.left_by-left.ensures.added c.args.self.now c.settle.new.self (seen_core c.self.view_is) (seen_parked c.self.view_is) c.settle.ensures.core c.settle.ensures.parked
 
 pub returns-else-goes_on-clause-list : goal.returns-else-goes_on-clause-list
 returns-else-goes_on-clause-list g c =
@@ -187,10 +187,10 @@ returns-else-goes_on-clause-list g c =
     let step = own_step machine g.J.Named.program c.self.inside.core c.step_asked.new.self sound.program_is c.task-2.result.now c.args.asked.task task c.in-Ok-step_asked.stepped DoneStep said c.in-Ok-step_asked.ensures.stepped in
     let ok = c.lawful.ensures g.J.Named.program in
     let at = rw (← c.self.view_is) at c.requires.current in
-    let con = own_concerned machine g.J.Named.program c.self.inside.core c.step_asked.new.self sound.program_is g.P.Lat.Event.Ord.cmp c.args.asked.from c.in-Ok.room.hands.items c.in-Ok.logged c.in-Ok.ensures.hands in
+    let con = own_concerned machine g.J.Named.program c.self.inside.core c.step_asked.new.self sound.program_is g.P.Lat.Event.Ord.cmp c.args.asked.from c.reserve_for.new.self.hands.items c.in-Ok.logged c.in-Ok.ensures.hands in
     let count = (g.P.Program.functions c.self.inside.core.program).variables in
     let size = c.has_all_variables.ensures in
     let size_after = c.has_all_variables-2.ensures ∙ ap (λ p. (g.P.Program.functions p).variables) c.in-Ok-step_asked.ensures.stepped.program in
     let is_moved = own_moved machine g.J.Named.program c.self.inside.core c.step_asked.new.self sound.program_is c.task-2.result.now c.args.asked.task task c.in-Ok-step_asked.moved c.in-Ok-step_asked.ensures.moved in
-    let left = own_left machine g.J.Named.program c.self.inside.core c.step_asked.new.self (step.program ∙ sound.program_is) g.P.Lat.Event.Ord.cmp g.P.Lat.Reads.spot_of g.P.Lat.Reads.watched c.in-Ok.logged c.left_by-left.result.own c.left_by-left.result.made c.left_by-left.result.added c.in-Ok.room.hands.items c.self.inside.parked c.leave-list.new.parked c.leave-list.result.items c.leave-list.ensures.left in
-    act_listed M ok g.P.Lat.Reads.spot_of g.P.Lat.Reads.watched (c.waiting_tasks.ensures.until_touched g.J.Named.program) (c.passes_at_its_spot.ensures g.J.Named.program) g.P.Lat.Event.Ord.cmp c.self.inside.core c.step_asked.new.self (labels_of c.self.inside.trace.items) sound.leads c.args.asked.task c.args.asked.from c.in-Ok.room.hands.items c.in-Ok.logged step at con count size size_after c.self.inside.parked c.leave-list.new.parked sound.blocked c.left_by-left.result.own c.left_by-left.result.made c.left_by-left.result.added c.leave-list.result.items left c.in-Ok-step_asked.moved is_moved c.left_by-left.ensures.own c.left_by-left.ensures.made c.left_by-left.ensures.added c.args.self.now c.settle.new.self (seen_core c.self.view_is) (seen_parked c.self.view_is) c.settle.ensures.core c.settle.ensures.parked
+    let left = own_left machine g.J.Named.program c.self.inside.core c.step_asked.new.self (step.program ∙ sound.program_is) g.P.Lat.Event.Ord.cmp g.P.Lat.Reads.spot_of g.P.Lat.Reads.watched c.in-Ok.logged c.left_by-left.result.own c.left_by-left.result.made c.left_by-left.result.added c.reserve_for.new.self.hands.items c.self.inside.parked c.leave-list.new.parked c.leave-list.result.items c.leave-list.ensures.left in
+    act_listed M ok g.P.Lat.Reads.spot_of g.P.Lat.Reads.watched (c.waiting_tasks.ensures.until_touched g.J.Named.program) (c.passes_at_its_spot.ensures g.J.Named.program) g.P.Lat.Event.Ord.cmp c.self.inside.core c.step_asked.new.self (labels_of c.self.inside.trace.items) sound.leads c.args.asked.task c.args.asked.from c.reserve_for.new.self.hands.items c.in-Ok.logged step at con count size size_after c.self.inside.parked c.leave-list.new.parked sound.blocked c.left_by-left.result.own c.left_by-left.result.made c.left_by-left.result.added c.leave-list.result.items left c.in-Ok-step_asked.moved is_moved c.left_by-left.ensures.own c.left_by-left.ensures.made c.left_by-left.ensures.added c.args.self.now c.settle.new.self (seen_core c.self.view_is) (seen_parked c.self.view_is) c.settle.ensures.core c.settle.ensures.parked

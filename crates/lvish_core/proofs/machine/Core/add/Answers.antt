@@ -1,6 +1,8 @@
-use Rattle.std.proofs.Common.{◌∙◌, subst, sym, arith}
+use Rattle.std.proofs.Common.{refl, ◌∙◌, subst, sym, arith}
 use Rattle.std.proofs.lemmas.Bool.{false_from_ne_true}
+use Rattle.lvish_names.specs.declared.name_fault.NameFault.TheVariants.{Deep as TooDeep}
 use Rattle.lvish_core.specs.Beside.{CanAdd}
+use Rattle.lvish_core.proofs.Forks.{ok_is_no_error}
 use Rattle.lvish_core.proofs.Adds.{pool_is_there, variable_is_there, late_fails, can_add, no_place, unseated, wanted, same_handlers, adding}
 use Rattle.lvish_core.proofs.Gets.{get_some}
 use Rattle.lvish_core.proofs.Written.{added_written}
@@ -25,7 +27,7 @@ fail-requires-then-is_frozen g c =
     let known = variable_is_there _ (c.lawful.ensures c.self.inside.program.now) _ _ _ _ c.self.invariant (g.met.P.Program.lawful c.self.inside.program.now).known c.args.name.now _ _ _ _ c.args.pool c.args.procedure acts c.in-Some.variable own in
     rw (← c.self.view_is)
     (late_fails _ (c.lawful.ensures c.self.inside.program.now) _ _ _ _ c.self.invariant (g.met.P.Program.lawful c.self.inside.program.now).known c.args.name.now _ _ _ _ c.args.pool c.args.procedure acts
-    (false_from_ne_true _ (λ e. cc (c.in-Ok.ensures.deep.1 e))) c.in-Some.variable own c.index-on.result.now (get_some _ _ _ known c.index-on.ensures) (sym c.is_frozen.ensures ∙ c.if-is_frozen.true))
+    (false_from_ne_true _ (λ e. ok_is_no_error {f = TooDeep} refl (c.in-Ok.ensures.deep.1 e))) c.in-Some.variable own c.index-on.result.now (get_some _ _ _ known c.index-on.ensures) (sym c.is_frozen.ensures ∙ c.if-is_frozen.true))
 
 pub seat-requires-clause-fits : goal.seat-requires-clause-fits
 seat-requires-clause-fits g c =
@@ -55,7 +57,7 @@ invariant_of-self-2 g c =
     let known = variable_is_there _ (c.lawful.ensures c.self.inside.program.now) _ _ _ _ c.self.invariant (g.met.P.Program.lawful c.self.inside.program.now).known c.args.name.now _ _ _ _ c.args.pool c.args.procedure acts c.in-Some.variable own in
     let w = added_written _ c.in-Some.variable c.deref_mut.result.now c.self.inside.handlers.items c.seat.new.handlers c.self.inside.handlers.len c.deref_mut.ensures.value c.self.inside.handlers.ok.0 c.in_ok-seat.ensures.handlers in
     (adding _ (c.lawful.ensures c.self.inside.program.now) _ _ _ _ c.self.invariant (g.met.P.Program.lawful c.self.inside.program.now).known c.args.name.now _ _ _ _ c.args.pool c.args.procedure acts (c.names_are_new.ensures.handlers c.self.inside.program.now)
-    c.in-Ok.handler c.in-Ok.ensures.ok c.in-Some.variable own (c.add_kept.ensures c.self.inside.program.now) (c.counts_kept.ensures.add c.self.inside.program.now) (false_from_ne_true _ (λ e. cc (c.in-Ok.ensures.deep.1 e)))
+    c.in-Ok.handler c.in-Ok.ensures.ok c.in-Some.variable own (c.add_kept.ensures c.self.inside.program.now) (c.counts_kept.ensures.add c.self.inside.program.now) (false_from_ne_true _ (λ e. ok_is_no_error {f = TooDeep} refl (c.in-Ok.ensures.deep.1 e)))
     c.index-on.result.now (get_some _ _ _ known c.index-on.ensures) (sym c.is_frozen.ensures ∙ c.if-is_frozen.false) _ c.in_ok-seat.ensures.places _ w _ _ c.in_ok-local.ensures c.replace.ensures _ _ c.in_ok-own.ensures c.in_ok-added.ensures).1
 
 pub returns : goal.returns
@@ -66,5 +68,5 @@ returns g c =
     let w = added_written _ c.in-Some.variable c.deref_mut.result.now c.self.inside.handlers.items c.seat.new.handlers c.self.inside.handlers.len c.deref_mut.ensures.value c.self.inside.handlers.ok.0 c.in_ok-seat.ensures.handlers in
     rw (← c.self.view_is)
     (adding _ (c.lawful.ensures c.self.inside.program.now) _ _ _ _ c.self.invariant (g.met.P.Program.lawful c.self.inside.program.now).known c.args.name.now _ _ _ _ c.args.pool c.args.procedure acts (c.names_are_new.ensures.handlers c.self.inside.program.now)
-    c.in-Ok.handler c.in-Ok.ensures.ok c.in-Some.variable own (c.add_kept.ensures c.self.inside.program.now) (c.counts_kept.ensures.add c.self.inside.program.now) (false_from_ne_true _ (λ e. cc (c.in-Ok.ensures.deep.1 e)))
+    c.in-Ok.handler c.in-Ok.ensures.ok c.in-Some.variable own (c.add_kept.ensures c.self.inside.program.now) (c.counts_kept.ensures.add c.self.inside.program.now) (false_from_ne_true _ (λ e. ok_is_no_error {f = TooDeep} refl (c.in-Ok.ensures.deep.1 e)))
     c.index-on.result.now (get_some _ _ _ known c.index-on.ensures) (sym c.is_frozen.ensures ∙ c.if-is_frozen.false) _ c.in_ok-seat.ensures.places _ w _ _ c.in_ok-local.ensures c.replace.ensures _ _ c.in_ok-own.ensures c.in_ok-added.ensures).0

@@ -2,9 +2,9 @@ use Rattle.std.proofs.Common.{sym, ap, ◌∙◌, refl}
 use Rattle.std.specs.Map.Iter.{deref_pair}
 use Rattle.std.proofs.lemmas.Map.Iter.{rest_all, rest_more}
 use Rattle.std.proofs.lemmas.Bool.{both_ways, false≢true}
-use Rattle.lvish_names.specs.OrderLaws.{name_ties, name_equiv}
+use Rattle.lvish_names.specs.OrderLaws.{name_equiv}
 use Rattle.lvish_core.specs.Tasks.{standing, standings}
-use Rattle.lvish_core.proofs.Listing.{each_task}
+use Rattle.lvish_core.proofs.Listing.{each_of_distinct}
 use Rattle.lvish_core.proofs.Ended.{ahead, error_is_no_end, cursor_is_no_end, task_is_no_end, is_end, is_end_of_all}
 use Rattle.lvish_core.proofs.machine.Core.is_ended.Goals as goal
 use Rattle.lvish_core.proofs.machine.Core.is_ended.Goals.{then-is_some-via-then-is_some, then-is_some-via-else-is_some+then-not-is_drained}
@@ -37,7 +37,7 @@ loop-task-init g c =
     let it = c.into_iter-task-iterator.ensures.into_iter_gives in
     let all = ap standings it ∙ c.iter-task-items.ensures.all in
     rw (← c.self.view_is, all) (record {
-      each = each_task _ (c.lawful.ensures c.self.inside.program.now).event_same_is g.P.Lat.Event.Ord.cmp (name_equiv g.met.P.Lat.Event.Eq.laws).symm (name_ties g.P.Lat.Event.Ord.cmp g.met.P.Lat.Event.Ord.matches_eq) c.self.inside.tasks c.iter-task-items.ensures.ascending;
+      each = each_of_distinct _ (c.lawful.ensures c.self.inside.program.now).event_same_is g.P.Lat.Event.Ord.cmp (name_equiv g.met.P.Lat.Event.Eq.laws).symm c.self.inside.tasks c.iter-task-items.ensures.once;
       ahead = λ t z. z;
     })
 

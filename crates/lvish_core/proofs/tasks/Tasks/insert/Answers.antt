@@ -1,7 +1,7 @@
-use Rattle.lvish_names.specs.OrderLaws.{name_ties, name_equiv}
+use Rattle.lvish_names.specs.OrderLaws.{name_equiv}
 use Rattle.lvish_core.proofs.Table.{sets_by}
 use Rattle.lvish_core.proofs.tasks.Tasks.insert.Goals as goal
 
 pub returns : goal.returns
 returns g c = rw (← c.self.view_is)
-    (sets_by _ _ (name_ties g.E.Ord.cmp g.met.E.Ord.matches_eq) (name_equiv g.met.E.Eq.laws).symm c.self.inside.stages.entries _ c.args.name c.args.stage c.in_ok-insert.ensures.updates.0)
+    (sets_by _ (name_equiv g.met.E.Eq.laws).symm c.self.inside.stages.entries _ c.args.name c.args.stage c.in_ok-insert.ensures.updates.0)

@@ -1,9 +1,11 @@
-use Rattle.std.proofs.Common.{sym, ◌∙◌}
+use Rattle.std.proofs.Common.{◌≡◌, reverse, sym, ap, ◌∙◌}
+use Rattle.std.proofs.lemmas.List.{reverse-reverse}
 use Rattle.lvish_names.specs.Names.{same_name}
 use Rattle.lvish_names.specs.OrderLaws.{same_name-from_parts}
 use Rattle.lvish_names.proofs.task_name.TaskNamePartialEq.eq.Goals as goal
 
 pub returns : goal.returns
 returns g c =
-    let from_main = same_name-from_parts g.E.PartialEq.eq c.self.inside.parts.items c.other.inside.parts.items in
-    c.eq.ensures ∙ sym from_main ∙ (λ i. same_name g.E.PartialEq.eq (c.self.view_is i) (c.other.view_is i))
+    let one : reverse c.parts.result.now ≡ c.args.self.now = ap reverse c.parts.ensures.parts ∙ reverse-reverse c.args.self.now in
+    let two : reverse c.parts-2.result.now ≡ c.args.other.now = ap reverse c.parts-2.ensures.parts ∙ reverse-reverse c.args.other.now in
+    c.eq.ensures ∙ sym (same_name-from_parts g.E.PartialEq.eq c.parts.result.now c.parts-2.result.now) ∙ (λ i. same_name g.E.PartialEq.eq (one i) (two i))

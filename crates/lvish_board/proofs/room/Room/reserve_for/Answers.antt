@@ -7,7 +7,7 @@ use Rattle.lvish_calculus.specs.Machine.{Machine}
 use Rattle.lvish_calculus.specs.Calculus.{Handler}
 use Rattle.lvish_core.specs.Core.{View}
 use Rattle.lvish_board.specs.Left.{AreConcerned, most_added}
-use Rattle.lvish_board.proofs.room.Room.of_request.Goals as goal
+use Rattle.lvish_board.proofs.room.Room.reserve_for.Goals as goal
 
 pub offset_bounds-states-variable : goal.offset_bounds-states-variable
 offset_bounds-states-variable g c =
@@ -42,18 +42,18 @@ none_added : {S R L : Type 0} (q : Request S R L) → ((p k : ℕ) → q ≡ Add
 none_added (Add p k) never = absurd (never p k refl)
 none_added q never = refl
 
-pub returns-in_ok-new-in_default : goal.returns-in_ok-new-in_default
-returns-in_ok-new-in_default g c =
+pub returns-in_ok-reserve-in_default : goal.returns-in_ok-reserve-in_default
+returns-in_ok-reserve-in_default g c =
     let M = machine_of g.P.Lat.PartialEq.eq g.P.Lat.Event.PartialEq.eq g.P.Lat.Event.Ord.cmp g.P.Lat.Lattice.least g.P.Lat.Lattice.joined g.P.Lat.Lattice.events_of g.P.Lat.Reads.answer_of (g.P.Program.functions c.args.core.now.program) in
     let asked : (g.P.Program.functions c.args.core.now.program).request c.args.asked.now.from ≡ c.asks.result.now.request = ap (λ p. (g.P.Program.functions p).request c.args.asked.now.from) c.requires.program ∙ sym c.asks.ensures.request in
-    let list = c.in_ok-new-in_default.ensures.list in
-    let woken = c.in_ok-new-in_default.ensures.woken in
-    let hands = c.in_ok-new-in_default.ensures.hands in
+    let list = c.in_ok-reserve-in_default.ensures.list in
+    let woken = c.in_ok-reserve-in_default.ensures.woken in
+    let hands = c.in_ok-reserve-in_default.ensures.hands in
     let none = ap length hands.0 in
     let added = ap most_added asked ∙ none_added c.asks.result.now.request c.in_default.not-Add in
     record {
       empty = (list.0, woken.0);
-      hands = subst (λ q. AreConcerned g.P.Lat.Event.Ord.cmp M c.args.core.now q c.in_ok-new-in_default.field-0.hands.items 0) (sym asked) (other_concerned g.P.Lat.Event.Ord.cmp M c.args.core.now c.asks.result.now.request c.in_ok-new-in_default.field-0.hands.items 0 c.in_default.not-Put hands.0);
+      hands = subst (λ q. AreConcerned g.P.Lat.Event.Ord.cmp M c.args.core.now q c.reserve-in_default.new.self.hands.items 0) (sym asked) (other_concerned g.P.Lat.Event.Ord.cmp M c.args.core.now c.asks.result.now.request c.reserve-in_default.new.self.hands.items 0 c.in_default.not-Put hands.0);
       list_room = omega (arith, list.1, none, added);
       woken_room = woken.1;
       hands_room = omega (arith, hands.1, none, added);

@@ -1,0 +1,168 @@
+-- What one run without picks shows of all runs.
+use Rattle.std.proofs.Common.{◌≡◌, ◌<◌, ◌≤◌, ◌↔◌, ◌⊎◌, inl, inr, ℕ, ℤ, Bool, true, false, List, [], ◌∷◌, ◌++◌, length, Option, Some, None, refl, sym, ap, ◌∙◌, subst, arith}
+use Rattle.std.proofs.lemmas.List.{length-map, append-nil}
+use Rattle.std.proofs.lemmas.Bool.{cases_lt, false≢true}
+use Rattle.std.specs.declared.cmp.Ordering.{Ordering}
+use Rattle.std.specs.Cmp.{IsTotalOrder}
+use Rattle.lvish_calculus.specs.declared.label.Label.{Label}
+use Rattle.lvish_calculus.specs.declared.request.ErrorKind.{ErrorKind}
+use Rattle.lvish_calculus.specs.Machine.{Machine}
+use Rattle.lvish_calculus.specs.Program.{Functions, machine_of}
+use Rattle.lvish_calculus.specs.Calculus.{Name, State, Configuration, Running, Error, IsEnabled, IsRun, IsEnd, start}
+use Rattle.lvish_calculus.specs.Laws.{Reaches, NoLateError}
+use Rattle.lvish_calculus.specs.SameRuns.{HaveSameRuns}
+use Rattle.lvish_calculus.proofs.SameThere.{Base, over, flip_runs, reached, never_there, end_there}
+use Rattle.lvish_compound.specs.declared.any.Any.{Any}
+use Rattle.lvish_compound.specs.declared.any_read.AnyRead.{AnyRead}
+use Rattle.lvish_compound.specs.declared.event.Event.{Event}
+use Rattle.lvish_syntax.specs.declared.script.Script.{Script}
+use Rattle.lvish_task.specs.Meaning.{State as Left}
+use Rattle.lvish_task.specs.Freezing.{AsksNoFreeze, has_freeze}
+use Rattle.lvish_board.specs.declared.entry.Entry.{Entry}
+use Rattle.lvish_board.specs.declared.outcome.Outcome.{Outcome}
+use Rattle.lvish_board.specs.declared.outcome.Outcome.TheVariants.{Ended, Error as ErrorOutcome, Budget}
+use Rattle.lvish_run.specs.declared.report.Report.{Report}
+use Rattle.lvish_run.specs.Honest.{labels_of, Comes, IsOutcome, IsHonest}
+use Rattle.lvish_run.specs.Picked.{IsPicked}
+use Rattle.lvish_run.specs.Scripts.{IsPickedRun}
+use Rattle.lvish_run.specs.Ends.{EndsAfter, AlwaysEnds, IsBound}
+use Rattle.lvish_run.proofs.Once.{goes_on}
+
+module _ {S E R A L : Type 0} (M : Machine S E R A L) where
+  -- no run goes on from an end
+  ends_there : (a : State S E L) (rest : List (Label E)) (f : Configuration S E L) → IsEnd M a → IsRun M (Running a) rest f → (rest ≡ []) × (Running a ≡ f)
+  ends_there a [] f end run = (refl, run)
+  ends_there a (l ∷ rest) f end run = absurd (end l run.0)
+
+  -- nor from an error
+  errs_there : (kind : ErrorKind) (v : Option ℕ) (t : Name E) (rest : List (Label E)) (a : State S E L) → IsRun M (Error kind v t) rest (Running a) → ⊥
+  errs_there kind v t [] a run = let n : ⊥ = cc in n
+  errs_there kind v t (l ∷ rest) a run = run
+
+module _ {S E R A L : Type 0} (cmp : E → E → Ordering) (o : IsTotalOrder cmp) (M : Machine S E R A L) (variables budget : ℕ) (r : Report S E)
+    (honest : IsHonest M variables 1 budget r) (picked : IsPicked cmp M [] [] (Running (start M)) (labels_of r.trace)) where
+  abbrev trace : List (Label E)
+  trace = labels_of r.trace
+
+  long : length trace ≡ r.steps
+  long = length-map r.trace (λ (e : Entry E). e.label) ∙ sym honest.steps
+
+  -- a run that ends, and the report's, where that is no shorter
+  before : (n : ℕ) (h : EndsAfter cmp M n) (f : Configuration S E L) → IsRun M (Running (start M)) trace f → length h.labels ≤ length trace → (length trace ≡ n) × (Running h.last ≡ f)
+  before n h f run le =
+      let z = goes_on cmp o M [] [] (Running (start M)) h.labels trace (Running h.last) f h.first picked h.reached run le in
+      let e = ends_there M h.last z.0 f h.end z.2 in
+      (ap length (z.1 ∙ ap (λ xs. h.labels ++ xs) e.0 ∙ append-nil h.labels) ∙ h.steps, e.1)
+
+  -- and where it is no longer
+  beyond : (n : ℕ) (h : EndsAfter cmp M n) (f : Configuration S E L) → IsRun M (Running (start M)) trace f → length trace ≤ length h.labels → (rest : List (Label E)) × (h.labels ≡ trace ++ rest) × IsRun M f rest (Running h.last)
+  beyond n h f run le = goes_on cmp o M [] [] (Running (start M)) trace h.labels f (Running h.last) picked h.first run h.reached le
+
+  -- where the report's run ends, no other has an end
+  one_end : (n : ℕ) → EndsAfter cmp M n → (a : State S E L) → Reaches M trace a → IsEnd M a → r.steps ≡ n
+  one_end n h a run end = sym long ∙ by (cases_lt (length trace) (length h.labels))
+    where
+      by : (length trace < length h.labels) ⊎ (length h.labels ≤ length trace) → length trace ≡ n
+      by (inr le) = (before n h (Running a) run le).0
+      by (inl lt) =
+          let z = beyond n h (Running a) run (omega (arith, lt)) in
+          let e = ends_there M a z.0 (Running h.last) end z.2 in
+          sym (ap length (z.1 ∙ ap (λ xs. trace ++ xs) e.0 ∙ append-nil trace)) ∙ h.steps
+
+  -- where it errs, there is no end
+  no_end_at_error : (n : ℕ) → EndsAfter cmp M n → (kind : ErrorKind) (v : Option ℕ) (t : Name E) → IsRun M (Running (start M)) trace (Error kind v t) → ⊥
+  no_end_at_error n h kind v t run = by (cases_lt (length trace) (length h.labels))
+    where
+      by : (length trace < length h.labels) ⊎ (length h.labels ≤ length trace) → ⊥
+      by (inr le) = let e : Running h.last ≡ Error kind v t = (before n h (Error kind v t) run le).1 in let no : ⊥ = cc in no
+      by (inl lt) = let z = beyond n h (Error kind v t) run (omega (arith, lt)) in errs_there M kind v t z.0 h.last z.2
+
+  -- where it stops at the budget, there is no end within it
+  no_end_at_budget : (n : ℕ) → EndsAfter cmp M n → n ≤ budget → (a : State S E L) → Reaches M trace a → r.steps ≡ budget → (l : Label E) → IsEnabled M a l → ⊥
+  no_end_at_budget n h within a run used l enabled =
+      let le : length h.labels ≤ length trace = omega (arith, long, used, within, h.steps) in
+      let same : Running h.last ≡ Running a = (before n h (Running a) run le).1 in
+      let at : h.last ≡ a = cc in
+      h.end l (subst (λ c. IsEnabled M c l) (sym at) enabled)
+
+  -- the run without picks ends after as many steps as the report has, and after no other number
+  ended_by : (q : Outcome E) → IsOutcome M variables budget r q → q ≡ Ended → (n : ℕ) → (r.steps ≡ n) ↔ (EndsAfter cmp M n × (n ≤ budget))
+  ended_by Ended h is n = (
+    λ e. (record { labels = trace; last = h.0.last; first = picked; reached = h.0.reached; end = h.1; steps = long ∙ e }, subst (λ k. k ≤ budget) e honest.within),
+    λ k. one_end n k.0 h.0.last h.0.reached h.1,
+  )
+  ended_by (ErrorOutcome kind v t) h is n = absurd (let no : ⊥ = cc in no)
+  ended_by Budget h is n = absurd (let no : ⊥ = cc in no)
+
+  pub ended_exactly : r.outcome ≡ Ended → (n : ℕ) → (r.steps ≡ n) ↔ (EndsAfter cmp M n × (n ≤ budget))
+  ended_exactly is = ended_by r.outcome honest.outcome is
+
+  -- a report of no end
+  other_by : (q : Outcome E) → IsOutcome M variables budget r q → (q ≡ Ended → ⊥) → (n : ℕ) → EndsAfter cmp M n → n ≤ budget → ⊥
+  other_by Ended h unended n k within = unended refl
+  other_by (ErrorOutcome kind v t) h unended n k within = no_end_at_error n k kind v t h.0
+  other_by Budget h unended n k within = no_end_at_budget n k within h.0.last h.0.reached h.1 h.2.0 h.2.1
+
+  pub never_ended : (r.outcome ≡ Ended → ⊥) → (n : ℕ) → EndsAfter cmp M n → n ≤ budget → ⊥
+  never_ended unended = other_by r.outcome honest.outcome unended
+
+-- ---- all runs
+
+-- where code asks for no freeze, an end of its script's statements bounds all their runs
+module _ {S E R A L K : Type 0} (same : S → S → Bool) (event_same : E → E → Bool) (cmp : E → E → Ordering) (bottom : S) (join : S → S → Option S) (events : S → List E) (answer : R → S → Option A) (f : Functions S E R A L) (g : Functions S E R A K)
+    (H : HaveSameRuns (machine_of same event_same cmp bottom join events answer f) (machine_of same event_same cmp bottom join events answer g))
+    (law : NoLateError (machine_of same event_same cmp bottom join events answer f)) (none : AsksNoFreeze (machine_of same event_same cmp bottom join events answer f)) where
+  abbrev base : Base S E R A
+  base = record { same = same; event_same = event_same; cmp = cmp; bottom = bottom; join = join; events = events; answer = answer }
+
+  abbrev M : Machine S E R A L
+  M = over base f
+
+  abbrev N : Machine S E R A K
+  N = over base g
+
+  abbrev back : HaveSameRuns N M
+  back = flip_runs M N H
+
+  pub bounds_all : (order : E → E → Ordering) (n : ℕ) → EndsAfter order (machine_of same event_same cmp bottom join events answer g) n → AlwaysEnds (machine_of same event_same cmp bottom join events answer g) n
+  bounds_all order n h =
+      let z = reached N M back h.labels h.last h.reached in
+      let all = law none h.labels z.0 z.1 (end_there base g f back.pools h.last z.0 z.2 h.end) in
+      record {
+        never_errs = never_there M N H all.0;
+        longest = λ ys b run. let y = reached N M back ys b run in subst (λ k. length ys ≤ k) h.steps (all.1 ys y.0 y.1);
+      }
+
+-- ---- what is answered about a script
+
+module _ (cmp : Event → Event → Ordering) (M : Machine Any Event AnyRead ℤ Left) (script : Script) (budget : ℕ) where
+  none_is_some : {X : Type 0} (n : ℕ) → None ≡ Some n → X
+  none_is_some n e = let no : ⊥ = cc in absurd no
+
+  -- a script with the line `freeze`
+  pub with_freeze : has_freeze script ≡ true → IsBound cmp M script budget None
+  with_freeze has = record {
+    exact = λ n. (λ e. none_is_some n e, λ k. absurd (false≢true (sym k.0 ∙ has)));
+    always = λ n e. none_is_some n e;
+  }
+
+  module _ (o : IsTotalOrder cmp) (r : Report Any Event) (run : IsPickedRun cmp M script [] budget r) where
+    -- a script whose run doesn't end, or errs
+    pub without_end : (r.outcome ≡ Ended → ⊥) → IsBound cmp M script budget None
+    without_end unended = record {
+      exact = λ n. (λ e. none_is_some n e, λ k. absurd (never_ended cmp o M _ budget r run.honest run.picked unended n k.1 k.2));
+      always = λ n e. none_is_some n e;
+    }
+
+    -- and one whose run ends
+    pub with_end : r.outcome ≡ Ended → has_freeze script ≡ false → ((n : ℕ) → EndsAfter cmp M n → AlwaysEnds M n) → IsBound cmp M script budget (Some r.steps)
+    with_end ended none all = record {
+      exact = λ n. (
+        λ e. let same : r.steps ≡ n = cc in let k = (exactly n).0 same in (none, k.0, k.1),
+        λ k. ap (λ (m : ℕ). Some m) ((exactly n).1 (k.1, k.2)),
+      );
+      always = λ n e. let same : r.steps ≡ n = cc in all n ((exactly n).0 same).0;
+    }
+      where
+        exactly : (n : ℕ) → (r.steps ≡ n) ↔ (EndsAfter cmp M n × (n ≤ budget))
+        exactly n = ended_exactly cmp o M _ budget r run.honest run.picked ended n

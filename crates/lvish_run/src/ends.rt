@@ -1,0 +1,36 @@
+ghost use Rattle.std.specs.Prelude.{◌≤◌, IfOk};
+
+use crate::scripts::{Runs, run_picks};
+use lvish_board::Outcome;
+use lvish_calculus::laws::no_late_error;
+use lvish_syntax::Script;
+use lvish_task::Code;
+use lvish_task::laws::{asks_no_freeze, same_runs};
+use std::alloc::{AllocError, Global};
+
+/// After how many steps every run of the script has ended, whatever the schedule and the number of
+/// workers: then none errs, and all that go on to their end come to the same states. `None` where one
+/// run doesn't show it: the script has the line `freeze`, or the run that takes the first enabled
+/// label at each step errs, or doesn't end within the budget.
+///
+/// # Errors
+///
+/// `AllocError` where a growth was refused.
+pub fn always_ends(alloc: Global, script: &Script, budget: u64) -> Result<Option<u64>, AllocError>
+    requires { budget ≤ 1000000 }
+    ensures { IfOk result (λ bound. ⟦<Script as Runs>⟧.is_bound script.now budget bound) }
+{
+    same_runs();
+    asks_no_freeze();
+    no_late_error::<Code>();
+    let code = Code::new(alloc, script)?;
+    if code.freezes() {
+        return Ok(None);
+    }
+    let report = run_picks(alloc, script, &[], budget)?;
+    match report.outcome {
+        Outcome::Ended => Ok(Some(report.steps)),
+        Outcome::Error { .. } => Ok(None),
+        Outcome::Budget => Ok(None),
+    }
+}
