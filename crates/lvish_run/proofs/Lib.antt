@@ -1,3 +1,11 @@
+mod Placed
+mod Upcoming
+mod Beside
+mod Firsts
+mod Agendas
+mod Tries
+mod Openings
+mod Turns
 mod Walks
 mod Reports
 mod Texts

@@ -1,5 +1,5 @@
 -- A report of one machine's run is one of a machine that has the same runs.
-use Rattle.std.proofs.Common.{◌≡◌, ℕ, Bool, List, [], ◌∷◌, ◌++◌, Option, Some, sym, ◌∙◌, ap, subst}
+use Rattle.std.proofs.Common.{◌≡◌, ◌↔◌, ℕ, Bool, List, [], ◌∷◌, ◌++◌, length, slice_get, Option, Some, None, sym, ◌∙◌, ap, subst}
 use Rattle.std.specs.declared.cmp.Ordering.{Ordering}
 use Rattle.lvish_calculus.specs.declared.label.Label.{Label}
 use Rattle.lvish_calculus.specs.declared.request.ErrorKind.{ErrorKind}
@@ -15,7 +15,7 @@ use Rattle.lvish_run.specs.declared.report.Report.{Report}
 use Rattle.lvish_board.specs.declared.outcome.Outcome.{Outcome}
 use Rattle.lvish_board.specs.declared.outcome.Outcome.TheVariants.{Ended, Error as ErrorOutcome, Budget}
 use Rattle.lvish_run.specs.Honest.{labels_of, AreStates, Comes, IsOutcome, IsHonest}
-use Rattle.lvish_run.specs.Picked.{AreNext, IsPicked}
+use Rattle.lvish_run.specs.Picked.{ComesNext, IsNamed, IsPicked}
 use Rattle.lvish_run.specs.Alike.{EndsAlikeIf, IsAlike}
 
 abbrev back : {S E R A L K : Type 0} (B : Base S E R A) (f : Functions S E R A L) (g : Functions S E R A K) → HaveSameRuns (over B f) (over B g) → HaveSameRuns (over B g) (over B f)
@@ -76,19 +76,28 @@ module _ {S E R A L K : Type 0} (B : Base S E R A) (f : Functions S E R A L) (g 
   flip_configuration (Error k v t) (Error j u r) s = (sym s.0, sym s.1, sym s.2)
 
   -- the same labels come next
-  next_there : (cmp : E → E → Ordering) (xs : List (Label E)) (C : Configuration S E L) (D : Configuration S E K) (ls : List (Label E)) → SameConfiguration (over B f) (over B g) C D → AreNext cmp (over B f) xs C ls → AreNext cmp (over B g) xs D ls
-  next_there cmp xs C D ls s a = record {
-    ascending = a.ascending;
-    just = λ l. (
-      λ among. let z = (a.just l).0 among in (can_there B f g H.pools C D s l z.0, core_there B f g H (xs ++ l ∷ []) z.1),
-      λ z. (a.just l).1 (can_there B g f (back B f g H).pools D C (flip_configuration C D s) l z.0, core_there B g f (back B f g H) (xs ++ l ∷ []) z.1),
-    );
+  comes_next : (xs : List (Label E)) (C : Configuration S E L) (D : Configuration S E K) → SameConfiguration (over B f) (over B g) C D → (l : Label E) → ComesNext (over B f) xs C l ↔ ComesNext (over B g) xs D l
+  comes_next xs C D s l = (
+    λ z. (can_there B f g H.pools C D s l z.0, core_there B f g H (xs ++ l ∷ []) z.1),
+    λ z. (can_there B g f (back B f g H).pools D C (flip_configuration C D s) l z.0, core_there B g f (back B f g H) (xs ++ l ∷ []) z.1),
+  )
+
+  -- so the picks name the same
+  named_there : (cmp : E → E → Ordering) (xs : List (Label E)) (C : Configuration S E L) (D : Configuration S E K) → SameConfiguration (over B f) (over B g) C D → (n : Option ℕ) (l : Label E) → IsNamed cmp (over B f) xs C n l → IsNamed cmp (over B g) xs D n l
+  named_there cmp xs C D s (Some n) l h = record {
+    all = h.all;
+    enabled = record {
+      ascending = h.enabled.ascending;
+      just = λ m. (λ among. (comes_next xs C D s m).0 ((h.enabled.just m).0 among), λ z. (h.enabled.just m).1 ((comes_next xs C D s m).1 z));
+    };
+    chosen = h.chosen;
   }
+  named_there cmp xs C D s None l h = record { comes = (comes_next xs C D s l).0 h.comes; before = λ m z. h.before m ((comes_next xs C D s m).1 z) }
 
   picked_from : (cmp : E → E → Ordering) (picks : List ℕ) (xs : List (Label E)) (C : Configuration S E L) (D : Configuration S E K) (ls : List (Label E)) (last : Configuration S E L) → Both B f g H xs C D → IsRun (over B f) C ls last → IsPicked cmp (over B f) picks xs C ls → IsPicked cmp (over B g) picks xs D ls
   picked_from cmp picks xs C D [] last b run p = tt
   picked_from cmp picks xs (Running c) (Running d) (l ∷ ls) last b run p = (
-    record { all = p.0.all; enabled = next_there cmp xs (Running c) (Running d) p.0.all b.same p.0.enabled; chosen = p.0.chosen },
+    named_there cmp xs (Running c) (Running d) b.same (slice_get picks (length xs)) l p.0,
     picked_from cmp picks (xs ++ l ∷ []) (step (over B f) c l) (step (over B g) d l) ls last (both_step B f g H xs c d l b run.0) run.1 p.1,
   )
   picked_from cmp picks xs (Running c) (Error k v t) (l ∷ ls) last b run p = absurd b.same

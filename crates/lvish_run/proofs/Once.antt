@@ -1,5 +1,5 @@
 -- The run that picks name is one run.
-use Rattle.std.proofs.Common.{◌≡◌, ◌≤◌, ◌+◌, ◌%◌, ◌↔◌, inl, inr, ℕ, suc, List, [], ◌∷◌, ◌++◌, length, Some, refl, sym, ap, ◌∙◌, subst, arith}
+use Rattle.std.proofs.Common.{◌≡◌, ◌≤◌, ◌+◌, ◌%◌, ◌↔◌, ◌⊎◌, inl, inr, ℕ, suc, List, [], ◌∷◌, ◌++◌, length, Option, Some, None, refl, sym, ap, ◌∙◌, subst, arith}
 use Rattle.std.proofs.lemmas.Bool.{false≢true}
 use Rattle.std.specs.List.{AllByRecursion, slice_get}
 use Rattle.std.specs.List.Sorted.{IsStrictlySortedBy}
@@ -14,7 +14,7 @@ use Rattle.lvish_calculus.specs.Machine.{Machine}
 use Rattle.lvish_calculus.specs.Calculus.{Handler, Configuration, Running, Error, IsRun, step}
 use Rattle.lvish_calculus.specs.Handing.{IsAmong}
 use Rattle.lvish_core.specs.Labels.{label_cmp}
-use Rattle.lvish_run.specs.Picked.{IsChoice, IsPicked, pick}
+use Rattle.lvish_run.specs.Picked.{IsChoice, IsFirst, IsNamed, IsPicked}
 
 -- ---- ascending lists
 
@@ -72,6 +72,18 @@ module _ {S E R A L : Type 0} (cmp : E → E → Ordering) (o : IsTotalOrder cmp
       let at : Some l ≡ Some k = sym a.chosen ∙ ap (λ ls. slice_get ls (n % length ls)) same ∙ b.chosen in
       cc
 
+  one_first : (xs : List (Label E)) (d : Configuration S E L) (l k : Label E) → IsFirst cmp M xs d l → IsFirst cmp M xs d k → l ≡ k
+  one_first xs d l k a b = by (a.before k b.comes) (b.before l a.comes)
+    where
+      by : (k ≡ l) ⊎ (label_cmp cmp l k ≡ Less) → (l ≡ k) ⊎ (label_cmp cmp k l ≡ Less) → l ≡ k
+      by (inl e) z = sym e
+      by (inr below) (inl e) = e
+      by (inr below) (inr above) = absurd (labels_apart cmp o l k below above)
+
+  one_named : (xs : List (Label E)) (d : Configuration S E L) (n : Option ℕ) (l k : Label E) → IsNamed cmp M xs d n l → IsNamed cmp M xs d n k → l ≡ k
+  one_named xs d (Some n) l k a b = one_choice xs d n l k a b
+  one_named xs d None l k a b = one_first xs d l k a b
+
   -- of two runs by the same picks, the longer one goes on from where the other leads
   pub goes_on : (picks : List ℕ) (xs : List (Label E)) (d : Configuration S E L) (ls ms : List (Label E)) (e f : Configuration S E L)
       → IsPicked cmp M picks xs d ls → IsPicked cmp M picks xs d ms → IsRun M d ls e → IsRun M d ms f → length ls ≤ length ms
@@ -80,7 +92,7 @@ module _ {S E R A L : Type 0} (cmp : E → E → Ordering) (o : IsTotalOrder cmp
   goes_on picks xs d (l ∷ ls) [] e f p q r s le = absurd (omega (arith, le))
   goes_on picks xs (Error kind v t) (l ∷ ls) (k ∷ ms) e f p q r s le = absurd r
   goes_on picks xs (Running c) (l ∷ ls) (k ∷ ms) e f p q r s le =
-      let same : k ≡ l = one_choice xs (Running c) (pick picks (length xs)) k l q.0 p.0 in
+      let same : k ≡ l = one_named xs (Running c) (slice_get picks (length xs)) k l q.0 p.0 in
       let z = goes_on picks (xs ++ l ∷ []) (step M c l) ls ms e f p.1
       (subst (λ j. IsPicked cmp M picks (xs ++ j ∷ []) (step M c j) ms) same q.1) r.1 (subst (λ j. IsRun M (step M c j) ms f) same s.1) (omega (arith, le)) in
       (z.0, ap (λ j. j ∷ ms) same ∙ ap (λ js. l ∷ js) z.1, z.2)

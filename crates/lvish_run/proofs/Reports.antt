@@ -1,5 +1,5 @@
 -- The report of a walk is honest.
-use Rattle.std.proofs.Common.{◌≡◌, ◌⊎◌, inl, inr, ℕ, suc, zero, ◌+◌, ◌<◌, ◌≤◌, ◌==◌, List, [], ◌∷◌, length, Option, Some, None, slice_get, sum, cond, Bool, Result, Ok, Err, IfOk, refl, sym, ap, ◌∙◌, subst, arith}
+use Rattle.std.proofs.Common.{◌≡◌, ◌⊎◌, inl, inr, ℕ, suc, zero, ◌+◌, ◌<◌, ◌≤◌, ◌==◌, List, [], ◌∷◌, length, Option, Some, None, slice_get, sum, cond, Bool, Result, Ok, Err, IfOk, IsSome, refl, sym, ap, ◌∙◌, subst, arith}
 use Rattle.std.proofs.lemmas.Option.{slice_get-map}
 use Rattle.std.proofs.lemmas.List.{length-map}
 use Rattle.std.specs.List.{AllByRecursion, count_by, fold}
@@ -95,11 +95,12 @@ honest_at {S = S} {E = E} machine variables p c trace workers budget o q states 
     report : Report S E
     report = record { outcome = q; states = states; steps = steps; blocked = blocked; trace = trace; by_worker = by_worker }
 
-module _ {P S E R A L : Type 0} (machine : P → Machine S E R A L) (variables : P → ℕ) (cmp : E → E → Ordering) (p : P) (picks : List ℕ) (budget : ℕ) (b c : View P S E L) (trace : List (Entry E)) (r : Report S E)
-    (is : b.program ≡ p) (w : IsWalked cmp (machine b.program) b.program picks budget c trace) where
-  walked : IsWalked cmp (machine p) p picks budget c trace
-  walked = subst (λ q. IsWalked cmp (machine q) q picks budget c trace) is w
+-- a walk, in words of what shows it
+pub walked_at : {P S E R A L : Type 0} (cmp : E → E → Ordering) (M : Machine S E R A L) (p : P) (picks : List ℕ) (budget : ℕ) (c core : View P S E L) (t trace : List (Entry E)) → core ≡ c → trace ≡ t → IsWalked cmp M p picks budget c t → IsWalked cmp M p picks budget core trace
+walked_at cmp M p picks budget c core t trace core_is trace_is w = subst (λ k. IsWalked cmp M p picks budget k trace) (sym core_is) (subst (λ es. IsWalked cmp M p picks budget c es) (sym trace_is) w)
 
+module _ {P S E R A L : Type 0} (machine : P → Machine S E R A L) (variables : P → ℕ) (cmp : E → E → Ordering) (p : P) (picks : List ℕ) (budget : ℕ) (c : View P S E L) (trace : List (Entry E)) (r : Report S E)
+    (walked : IsWalked cmp (machine p) p picks budget c trace) where
   -- the report of a walk
   pub walk_is_honest : (o q : Outcome E) (states : List (FinalState S)) (steps blocked : ℕ) (by_worker : List ℕ) → TakesSomething P (machine p) → IsHow (machine c.program) c o → q ≡ o
       → IsAccount (machine c.program) (variables c.program) c q states blocked → steps ≡ c.steps → by_worker ≡ c.steps ∷ []
@@ -137,6 +138,17 @@ ended_then M c end = (by c.fault (λ i. c.fault), stuck)
     stuck l can =
         let at_end : IsEnded M (Running (state M c)) = subst (λ g. IsEnded M (at_fault (state M c) g)) none end in
         at_end l (subst (λ g. CanStep M (at_fault (state M c) g) l) none can.0)
+
+-- nor can one with an error
+failed_then : {P S E R A L : Type 0} (M : Machine S E R A L) (c : View P S E L) (f : Fault E) → c.fault ≡ Some f → IsStuck M c
+failed_then M c f is l can = (let none : Some f ≡ None = sym is ∙ able M c l can in let no : ⊥ = cc in no)
+
+-- where a board is over, its run has stopped
+pub over_stops : {P S E R A L : Type 0} (M : Machine S E R A L) (budget : ℕ) (s : Standing P S E L) (o : Option (Outcome E)) → IsSome o → OverIs M budget s o → (length s.trace ≡ budget) ⊎ IsStuck M s.core
+over_stops M budget s None some h = absurd cc
+over_stops M budget s (Some Ended) some h = inr (ended_then M s.core h).1
+over_stops M budget s (Some Budget) some h = inl h.0
+over_stops M budget s (Some (ErrorOutcome kind v t)) some h = inr (failed_then M s.core (record { kind = kind; variable = v; task = t }) h)
 
 -- how the steps of a board that is over came out
 over_how : {P S E R A L : Type 0} (M : Machine S E R A L) (budget : ℕ) (s : Standing P S E L) (o : Outcome E) → OverIs M budget s (Some o) → IsHow M s.core o

@@ -1,17 +1,18 @@
--- Runs that a core makes step by step, over any machine.
-use Rattle.std.proofs.Common.{◌≡◌, ◌↔◌, inr, ℕ, suc, ◌+◌, ◌≤◌, List, [], ◌∷◌, ◌++◌, length, Option, Some, None, refl, sym, ap, ◌∙◌, subst, arith, length-append, append_assoc}
+-- Runs that a board makes step by step, over any machine.
+use Rattle.std.proofs.Common.{◌≡◌, ◌⊎◌, ◌↔◌, inl, inr, ℕ, suc, ◌+◌, ◌≤◌, Bool, true, false, List, [], ◌∷◌, ◌++◌, length, slice_get, Option, Some, None, IsSome, Ordering, refl, sym, ap, ◌∙◌, subst, arith, length-append, append_assoc}
 use Rattle.std.proofs.lemmas.List.{map-append, append-nil}
 use Rattle.std.specs.List.{AllByRecursion}
-use Rattle.std.specs.declared.cmp.Ordering.{Ordering}
 use Rattle.lvish_calculus.specs.declared.label.Label.{Label}
 use Rattle.lvish_calculus.specs.Machine.{Machine}
 use Rattle.lvish_calculus.specs.Calculus.{Configuration, Running, Error, IsRun, step, start}
-use Rattle.lvish_core.specs.Core.{View, picture, IsBegun, IsRunTo}
+use Rattle.lvish_core.specs.Core.{View, picture, IsRunTo}
 use Rattle.lvish_core.specs.CoreLaws.{TakesCoreRuns}
 use Rattle.lvish_board.specs.declared.entry.Entry.{Entry}
+use Rattle.lvish_board.specs.Standing.{Standing, IsSound, IsOpened}
 use Rattle.lvish_run.specs.Honest.{labels_of}
-use Rattle.lvish_run.specs.Picked.{IsChoice, IsPicked, pick}
-use Rattle.lvish_run.specs.Walk.{IsTaken, IsTurn, IsStuck, IsWalk, IsWalked}
+use Rattle.lvish_run.specs.Picked.{IsNamed, IsPicked}
+use Rattle.lvish_run.specs.Walk.{IsTaken, IsEntered, IsTurn, IsStuck, IsWalk, IsWalked}
+use Rattle.lvish_run.proofs.Reports.{over_stops}
 
 all_more : {X : Type 0} (P : X → Type 0) (xs : List X) (x : X) → AllByRecursion P xs → P x → AllByRecursion P (xs ++ x ∷ [])
 all_more P [] x h p = (p, tt)
@@ -20,76 +21,80 @@ all_more P (y ∷ ys) x h p = (h.0, all_more P ys x h.1 p)
 both_if : {X Y Z : Type 0} → (X ↔ Y) → (Y ↔ Z) → (X ↔ Z)
 both_if f g = (λ x. g.0 (f.0 x), λ z. f.1 (g.1 z))
 
-module _ {S E R A L : Type 0} (M : Machine S E R A L) where
+module _ {S E R A L : Type 0} (M : Machine S E R A L) (cmp : E → E → Ordering) (picks : List ℕ) where
   -- the picks of a run after the steps xs, and one more
-  pub picked_more : (cmp : E → E → Ordering) (picks : List ℕ) (n : ℕ) (xs : List (Label E)) (d : Configuration S E L) (ls : List (Label E)) (e : Configuration S E L) (l : Label E)
-      → IsPicked cmp M picks xs d ls → IsRun M d ls e → n ≡ length xs + length ls → IsChoice cmp M (xs ++ ls) e (pick picks n) l → IsPicked cmp M picks xs d (ls ++ l ∷ [])
-  picked_more cmp picks n xs d [] e l h run at choice =
+  picked_more : (n : ℕ) (xs : List (Label E)) (d : Configuration S E L) (ls : List (Label E)) (e : Configuration S E L) (l : Label E)
+      → IsPicked cmp M picks xs d ls → IsRun M d ls e → n ≡ length xs + length ls → IsNamed cmp M (xs ++ ls) e (slice_get picks n) l → IsPicked cmp M picks xs d (ls ++ l ∷ [])
+  picked_more n xs d [] e l h run at named =
       let same : n ≡ length xs = omega arith in
-      let here : IsChoice cmp M (xs ++ []) d (pick picks (length xs)) l = subst (λ q. IsChoice cmp M (xs ++ []) q (pick picks (length xs)) l) (sym run) (subst (λ j. IsChoice cmp M (xs ++ []) e (pick picks j) l) same choice) in
-      (subst (λ ys. IsChoice cmp M ys d (pick picks (length xs)) l) (append-nil xs) here, tt)
-  picked_more cmp picks n xs (Running c) (j ∷ ls) e l h run at choice =
+      let here : IsNamed cmp M (xs ++ []) d (slice_get picks (length xs)) l = subst (λ q. IsNamed cmp M (xs ++ []) q (slice_get picks (length xs)) l) (sym run) (subst (λ j. IsNamed cmp M (xs ++ []) e (slice_get picks j) l) same named) in
+      (subst (λ ys. IsNamed cmp M ys d (slice_get picks (length xs)) l) (append-nil xs) here, tt)
+  picked_more n xs (Running c) (j ∷ ls) e l h run at named =
       let long : length (xs ++ j ∷ []) ≡ length xs + 1 = length-append xs (j ∷ []) in
-      let after : IsChoice cmp M ((xs ++ j ∷ []) ++ ls) e (pick picks n) l = subst (λ ys. IsChoice cmp M ys e (pick picks n) l) (sym (append_assoc xs (j ∷ []) ls)) choice in
-      (h.0, picked_more cmp picks n (xs ++ j ∷ []) (step M c j) ls e l h.1 run.1 (omega (arith, at, long)) after)
-  picked_more cmp picks n xs (Error kind v t) (j ∷ ls) e l h run at choice = absurd run
-
-  pub walk_begun : {P : Type 0} (cmp : E → E → Ordering) (p : P) (picks : List ℕ) (c : View P S E L) (trace : List (Entry E)) → IsBegun M p c → trace ≡ [] → IsWalk cmp M p picks c trace
-  walk_begun cmp p picks c trace b e = subst (λ t. IsWalk cmp M p picks c t) (sym e) (record {
-    program = b.program;
-    steps = b.steps;
-    leads = b.leads;
-    picked = tt;
-    workers = tt;
-  })
+      let after : IsNamed cmp M ((xs ++ j ∷ []) ++ ls) e (slice_get picks n) l = subst (λ ys. IsNamed cmp M ys e (slice_get picks n) l) (sym (append_assoc xs (j ∷ []) ls)) named in
+      (h.0, picked_more n (xs ++ j ∷ []) (step M c j) ls e l h.1 run.1 (omega (arith, at, long)) after)
+  picked_more n xs (Error kind v t) (j ∷ ls) e l h run at named = absurd run
 
   -- the label that the core takes is the one that the pick names
-  choice_of : {P : Type 0} (cmp : E → E → Ordering) (n : ℕ) (c : View P S E L) (xs : List (Label E)) (l : Label E) → TakesCoreRuns P M → IsRunTo M c xs → IsTaken cmp M n c l → IsChoice cmp M xs (picture M c) n l
-  choice_of cmp n c xs l takes k t = record {
+  named_of : {P : Type 0} (c : View P S E L) (xs : List (Label E)) (n : Option ℕ) (l : Label E) → TakesCoreRuns P M → IsRunTo M c xs → IsTaken cmp M c n l → IsNamed cmp M xs (picture M c) n l
+  named_of c xs (Some n) l takes k t = record {
     all = t.all;
     enabled = record { ascending = t.labels.ascending; just = λ j. both_if (t.labels.just j) (takes c xs k j) };
     chosen = t.chosen;
   }
+  named_of c xs None l takes k t = record { comes = (takes c xs k l).0 t.can; before = λ m z. t.before m ((takes c xs k m).1 z) }
 
-  -- a walk, and one step more
-  pub walk_more : {P : Type 0} (cmp : E → E → Ordering) (p : P) (picks : List ℕ) (c d : View P S E L) (trace : List (Entry E)) (n : ℕ) (l : Label E) → TakesCoreRuns P M
-      → IsWalk cmp M p picks c trace → n ≡ pick picks (length trace) → IsTurn cmp M n c (Some l) d → IsWalk cmp M p picks d (trace ++ record { worker = 0; label = l } ∷ [])
-  walk_more cmp p picks c d trace n l takes w at t = record {
-    program = t.1.1.program ∙ w.program;
-    steps = t.1.1.steps ∙ ap (λ k. k + 1) w.steps ∙ sym (length-append trace (record { worker = 0; label = l } ∷ []));
-    leads = subst (λ xs. IsRunTo M d xs) (sym grown) (t.1.1.leads (labels_of trace) w.leads);
-    picked = subst (λ xs. IsPicked cmp M picks [] (Running (start M)) xs) (sym grown)
-        (picked_more cmp picks (length trace) [] (Running (start M)) (labels_of trace) (picture M c) l w.picked w.leads.reached as_long
-        (subst (λ k. IsChoice cmp M (labels_of trace) (picture M c) k l) at (choice_of cmp n c (labels_of trace) l takes w.leads t.0)));
-    workers = all_more (λ (e : Entry E). e.worker ≡ 0) trace (record { worker = 0; label = l }) w.workers refl;
-  }
-    where
-      grown : labels_of (trace ++ record { worker = 0; label = l } ∷ []) ≡ labels_of trace ++ l ∷ []
-      grown = map-append (λ (e : Entry E). e.label) trace (record { worker = 0; label = l } ∷ [])
+  module _ {P : Type 0} (p : P) (budget : ℕ) (takes : TakesCoreRuns P M) where
+    pub walk_begun : (s : Standing P S E L) → IsSound M p budget s → IsOpened M p s → IsWalk cmp M p picks s.core s.trace
+    walk_begun s sound opened = record {
+      program = sound.program_is;
+      steps = sound.counted;
+      leads = sound.leads;
+      picked = subst (λ t. IsPicked cmp M picks [] (Running (start M)) (labels_of t)) (sym opened.trace) tt;
+      workers = subst (λ t. AllByRecursion (λ (e : Entry E). e.worker ≡ 0) t) (sym opened.trace) tt;
+    }
 
-      long : (xs : List (Entry E)) → length xs ≡ length (labels_of xs)
-      long [] = refl
-      long (x ∷ xs) = ap suc (long xs)
+    module _ (s r : Standing P S E L) (w : IsWalk cmp M p picks s.core s.trace) (sound : IsSound M p budget r) where
+      -- a walk, and one step more
+      goes : (k : ℕ) → length s.trace ≡ k → IsTurn cmp M (slice_get picks k) s true r → IsWalk cmp M p picks r.core r.trace × (length r.trace ≡ k + 1)
+      goes k at t = (
+        record {
+          program = sound.program_is;
+          steps = sound.counted;
+          leads = sound.leads;
+          picked = subst (λ xs. IsPicked cmp M picks [] (Running (start M)) xs) (sym grown) (picked_more k [] (Running (start M)) (labels_of s.trace) (picture M s.core) l w.picked w.leads.reached as_long
+              (named_of s.core (labels_of s.trace) (slice_get picks k) l takes w.leads t.1));
+          workers = subst (λ xs. AllByRecursion (λ (e : Entry E). e.worker ≡ 0) xs) (sym t.2) (all_more (λ (e : Entry E). e.worker ≡ 0) s.trace (record { worker = 0; label = l }) w.workers refl);
+        },
+        ap length t.2 ∙ length-append s.trace (record { worker = 0; label = l } ∷ []) ∙ ap (λ j. j + 1) at,
+      )
+        where
+          l : Label E
+          l = t.0
 
-      as_long : length trace ≡ 0 + length (labels_of trace)
-      as_long = omega (arith, long trace)
+          grown : labels_of r.trace ≡ labels_of s.trace ++ t.0 ∷ []
+          grown = ap labels_of t.2 ∙ map-append (λ (e : Entry E). e.label) s.trace (record { worker = 0; label = t.0 } ∷ [])
 
-module _ {P S E R A L : Type 0} (machine : P → Machine S E R A L) (cmp : E → E → Ordering) (p : P) (picks : List ℕ) (c d : View P S E L) (trace : List (Entry E)) (n : ℕ) (o : Option (Label E)) (takes : TakesCoreRuns P (machine p)) (w : IsWalk cmp (machine p) p picks c trace) (t : IsTurn cmp (machine c.program) n c o d) where
-  -- the turn, in words of the machine of p
-  turned : IsTurn cmp (machine p) n c o d
-  turned = subst (λ q. IsTurn cmp (machine q) n c o d) w.program t
+          long : (xs : List (Entry E)) → length xs ≡ length (labels_of xs)
+          long [] = refl
+          long (x ∷ xs) = ap suc (long xs)
 
-  -- a walk ends where nothing is enabled
-  pub walk_stops : (budget : ℕ) → length trace ≤ budget → o ≡ None → IsWalked cmp (machine p) p picks budget d trace
-  walk_stops budget within is =
-      let stop : (d ≡ c) × IsStuck (machine p) c = subst (λ q. IsTurn cmp (machine p) n c q d) is turned in
-      subst (λ e. IsWalked cmp (machine p) p picks budget e trace) (sym stop.0) (record { walk = w; within = within; stopped = inr stop.1 })
+          as_long : k ≡ 0 + length (labels_of s.trace)
+          as_long = omega (arith, long s.trace, at)
 
-  -- or goes on by the label of the turn
-  pub walk_goes : (k : ℕ) (l : Label E) (more : List (Entry E)) → length trace ≡ k → n ≡ pick picks k → o ≡ Some l → more ≡ trace ++ record { worker = 0; label = l } ∷ []
-      → IsWalk cmp (machine p) p picks d more × (length more ≡ k + 1)
-  walk_goes k l more long at is grown = (
-    subst (λ xs. IsWalk cmp (machine p) p picks d xs) (sym grown)
-        (walk_more (machine p) cmp p picks c d trace n l takes w (at ∙ ap (pick picks) (sym long)) (subst (λ q. IsTurn cmp (machine p) n c q d) is turned)),
-    ap length grown ∙ length-append trace (record { worker = 0; label = l } ∷ []) ∙ ap (λ j. j + 1) long,
-  )
+      pub walk_goes : (k : ℕ) (n : Option ℕ) (made : Bool) → length s.trace ≡ k → n ≡ slice_get picks k → made ≡ true → IsTurn cmp M n s made r → IsWalk cmp M p picks r.core r.trace × (length r.trace ≡ k + 1)
+      walk_goes k n made at is was t = goes k at (subst (λ q. IsTurn cmp M q s true r) is (subst (λ b. IsTurn cmp M n s b r) was t))
+
+      -- or it stops
+      stops : (n : Option ℕ) → IsTurn cmp M n s false r → IsWalked cmp M p picks budget r.core r.trace
+      stops n t = record { walk = walk; within = sound.within; stopped = stopped t.1 }
+        where
+          walk : IsWalk cmp M p picks r.core r.trace
+          walk = subst (λ c. IsWalk cmp M p picks c r.trace) (sym t.0.core) (subst (λ xs. IsWalk cmp M p picks s.core xs) (sym t.0.trace) w)
+
+          stopped : IsSome r.over ⊎ IsStuck M s.core → (length r.trace ≡ budget) ⊎ IsStuck M r.core
+          stopped (inl over) = over_stops M budget r r.over over sound.over_is
+          stopped (inr stuck) = inr (subst (λ c. IsStuck M c) (sym t.0.core) stuck)
+
+      pub walk_stops : (n : Option ℕ) (made : Bool) → made ≡ false → IsTurn cmp M n s made r → IsWalked cmp M p picks budget r.core r.trace
+      walk_stops n made was t = stops n (subst (λ b. IsTurn cmp M n s b r) was t)

@@ -1,5 +1,6 @@
 pub mod Honest
 pub mod Picked
+pub mod Agenda
 pub mod Walk
 pub mod Text
 pub mod Scripts

@@ -1,36 +1,101 @@
--- A run that a core has made so far, and its report.
-use Rattle.std.specs.Prelude.{◌≡◌, ◌⊎◌, ◌≤◌, ◌%◌, ℕ, List, [], map, length, Option, Some, None, slice_get}
+-- A run that a board has made so far by one worker, and its report.
+use Rattle.std.specs.Prelude.{◌≡◌, ◌⊎◌, ◌≤◌, ◌%◌, ℕ, Bool, true, false, List, [], ◌∷◌, ◌++◌, map, length, Option, Some, None, IsSome, slice_get}
 use Rattle.std.specs.List.{AllByRecursion}
+use Rattle.std.specs.Global.{Vec}
 use Rattle.std.specs.declared.cmp.Ordering.{Ordering}
+use Rattle.std.specs.declared.cmp.Ordering.TheVariants.{Less}
 use Rattle.lvish_calculus.specs.declared.label.Label.{Label}
+use Rattle.lvish_calculus.specs.declared.label.Label.TheVariants.{Task as Act, Hand}
 use Rattle.lvish_calculus.specs.Machine.{Machine}
-use Rattle.lvish_calculus.specs.Calculus.{Running, start}
+use Rattle.lvish_calculus.specs.Calculus.{Name, Handler, Running, start}
 use Rattle.lvish_calculus.specs.Live.{HasLive}
 use Rattle.lvish_variable.specs.Variable.{View as Variable}
-use Rattle.lvish_core.specs.declared.fault.Stepped.{Stepped}
-use Rattle.lvish_core.specs.Core.{View, state, CanTake, IsRunTo, IsStep}
-use Rattle.lvish_core.specs.Labels.{AreLabels}
+use Rattle.lvish_core.specs.Core.{View, state, CanTake, IsNext, IsRunTo}
+use Rattle.lvish_core.specs.Labels.{label_cmp, AreLabels}
 use Rattle.lvish_board.specs.declared.entry.Entry.{Entry}
+use Rattle.lvish_board.specs.Acts.{entry_of}
+use Rattle.lvish_board.specs.declared.work.Work.{Work}
+use Rattle.lvish_board.specs.Listed.{IsListed}
+use Rattle.lvish_board.specs.Place.{Place}
+use Rattle.lvish_board.specs.Standing.{Standing}
+use Rattle.lvish_board.specs.Woken.{IsParkedBeside}
 use Rattle.lvish_run.specs.declared.report.FinalState.{FinalState}
 use Rattle.lvish_board.specs.declared.outcome.Outcome.{Outcome}
 use Rattle.lvish_board.specs.declared.outcome.Outcome.TheVariants.{Ended, Error as ErrorOutcome, Budget}
 use Rattle.lvish_run.specs.Honest.{labels_of, AreStates}
 use Rattle.lvish_run.specs.Picked.{IsPicked}
+use Rattle.lvish_run.specs.Agenda.{Agenda, open_in, IsBeside}
 
 -- the core can take no label
 abbrev pub IsStuck : {P S E R A L : Type 0} → Machine S E R A L → View P S E L → Type 0
 IsStuck {P} {S} {E} M c = (l : Label E) → CanTake M c l → ⊥
 
 -- of the labels that the core can take, l is the one whose number is the pick modulo their count
-pub record IsTaken {P S E R A L : Type 0} (cmp : E → E → Ordering) (M : Machine S E R A L) (n : ℕ) (c : View P S E L) (l : Label E) : Type 0 where
+pub record IsDrawn {P S E R A L : Type 0} (cmp : E → E → Ordering) (M : Machine S E R A L) (c : View P S E L) (n : ℕ) (l : Label E) : Type 0 where
   pub all : List (Label E)
   pub labels : AreLabels cmp M c all
   pub chosen : slice_get all (n % length all) ≡ Some l
 
--- one turn: no label can be taken and nothing changes, or the step that the pick names is made
-abbrev pub IsTurn : {P S E R A L : Type 0} → (E → E → Ordering) → Machine S E R A L → ℕ → View P S E L → Option (Label E) → View P S E L → Type 0
-IsTurn cmp M n old None new = (new ≡ old) × IsStuck M old
-IsTurn cmp M n old (Some l) new = IsTaken cmp M n old l × ((s : Stepped) × IsStep M old l new s)
+-- of the labels that the core can take, l is the first
+pub record IsLowest {P S E R A L : Type 0} (cmp : E → E → Ordering) (M : Machine S E R A L) (c : View P S E L) (l : Label E) : Type 0 where
+  pub can : CanTake M c l
+  pub before : (m : Label E) → CanTake M c m → (m ≡ l) ⊎ (label_cmp cmp l m ≡ Less)
+
+-- l is the label that a pick names, and the first where there is none
+abbrev pub IsTaken : {P S E R A L : Type 0} → (E → E → Ordering) → Machine S E R A L → View P S E L → Option ℕ → Label E → Type 0
+IsTaken cmp M c (Some n) l = IsDrawn cmp M c n l
+IsTaken cmp M c None l = IsLowest cmp M c l
+
+-- the first worker made a step with this label
+abbrev pub IsEntered : {P S E L : Type 0} → Standing P S E L → Label E → Standing P S E L → Type 0
+IsEntered old l new = new.trace ≡ old.trace ++ entry_of 0 l ∷ []
+
+-- no step was made
+pub record IsIdle {P S E L : Type 0} (old new : Standing P S E L) : Type 0 where
+  pub trace : new.trace ≡ old.trace
+  pub core : new.core ≡ old.core
+
+-- a step with this label was made, which left this work
+pub record IsMade {P' P J S L R A W E Ans : Type 0} (cmp : E → E → Ordering) (M : Machine S E R Ans L) (old : Standing P' S E L) (l : Label E) (new : Standing P' S E L) (ws : List (Work P J S L R A W E)) : Type 0 where
+  pub entered : IsEntered old l new
+  pub listed : IsListed cmp M old l new ws
+
+-- the task's step wasn't made: the board is over, or the task can't go on and was parked
+pub record IsPassed {P S E R A L : Type 0} (M : Machine S E R A L) (old : Standing P S E L) (p : Place E L) (new : Standing P S E L) : Type 0 where
+  pub idle : IsIdle old new
+  pub why : IsSome new.over ⊎ ((CanTake M old.core (Act p.task) → ⊥) × IsParkedBeside old.parked p new.parked)
+
+-- what came of what a task asks for: the work that its step left
+abbrev pub IsTried : {P' P J S L R A W E Ans : Type 0} → (E → E → Ordering) → Machine S E R Ans L → Standing P' S E L → Place E L → Option (Vec (Work P J S L R A W E)) → Standing P' S E L → Type 0
+IsTried cmp M old p (Some ws) new = IsMade cmp M old (Act p.task) new ws.items
+IsTried cmp M old p None new = IsPassed M old p new
+
+-- what came of a handler for which something comes next: the work that its handing left, or none, because the board is over
+abbrev pub IsTriedHand : {P' P J S L R A W E Ans : Type 0} → (E → E → Ordering) → Machine S E R Ans L → Standing P' S E L → Handler E → Option (Vec (Work P J S L R A W E)) → Standing P' S E L → Type 0
+IsTriedHand {E = E} cmp M old h (Some ws) new = (e : E) → IsNext M.event_same old.core.table h e → IsMade cmp M old (Hand h e) new ws.items
+IsTriedHand cmp M old h None new = IsIdle old new × IsSome new.over
+
+-- whether the task's step was made: where it wasn't, the board is over, or the task can't go on
+abbrev pub IsActed : {P S E R A L : Type 0} → Machine S E R A L → Standing P S E L → Name E → Bool → Standing P S E L → Type 0
+IsActed M old t true new = CanTake M old.core (Act t) × IsEntered old (Act t) new
+IsActed M old t false new = IsIdle old new × (IsSome new.over ⊎ (CanTake M old.core (Act t) → ⊥))
+
+-- whether the handing was made: where it wasn't, the board is over
+abbrev pub IsHanded : {P S E L : Type 0} → Standing P S E L → Label E → Bool → Standing P S E L → Type 0
+IsHanded old l true new = IsEntered old l new
+IsHanded old l false new = IsIdle old new × IsSome new.over
+
+-- the handler is the first that can be handed something, and no label of a task comes before; the agenda has all that may be done but for it
+pub record IsFirstHandler {P S E R A L : Type 0} (cmp : E → E → Ordering) (M : Machine S E R A L) (s : Standing P S E L) (h : Handler E) (a : Agenda E L) : Type 0 where
+  pub event : E
+  pub next : IsNext M.event_same s.core.table h event
+  pub lowest : IsLowest cmp M s.core (Hand h event)
+  pub beside : IsBeside M s None (Some h) (open_in cmp a)
+
+-- one turn: the step that the pick names; or none, because the board is over or no label can be taken
+abbrev pub IsTurn : {P S E R A L : Type 0} → (E → E → Ordering) → Machine S E R A L → Option ℕ → Standing P S E L → Bool → Standing P S E L → Type 0
+IsTurn {E = E} cmp M pick old true new = (l : Label E) × IsTaken cmp M old.core pick l × IsEntered old l new
+IsTurn cmp M pick old false new = IsIdle old new × (IsSome new.over ⊎ IsStuck M old.core)
 
 -- the steps of the trace led a core of the program from the start to c
 pub record IsWalk {P S E R A L : Type 0} (cmp : E → E → Ordering) (M : Machine S E R A L) (p : P) (picks : List ℕ) (c : View P S E L) (trace : List (Entry E)) : Type 0 where

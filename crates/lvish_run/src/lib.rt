@@ -1,7 +1,8 @@
 //! Runs of scripts, and their reports.
 //!
 //! [`run`] runs a script by 1 to 8 workers, each at a deque of its own, round one board. [`run_picks`]
-//! makes the steps on one thread, taking at each step the enabled label that a list of picks names.
+//! makes the steps on one thread, taking at each step the enabled label that a list of picks names, and
+//! the first when the picks are used up.
 //! A [`Report`] is honest: its trace is a run of the script's nested statements, and its states, steps
 //! and blocked tasks are those of that run's last configuration. [`always_ends`] says beforehand after
 //! how many steps every run of a script has ended.
@@ -16,6 +17,7 @@
 #![tactic(auto)]
 
 mod account;
+mod agenda;
 mod closing;
 mod counts;
 mod ends;
@@ -35,6 +37,7 @@ mod tally;
 mod text;
 mod trace;
 mod trace_lines;
+mod turn;
 mod worker;
 mod workers;
 

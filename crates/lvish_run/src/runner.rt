@@ -1,21 +1,27 @@
-ghost use Rattle.std.specs.Prelude.{◌≡◌, ◌<◌, ◌≤◌, ◌%◌, ℕ, IfOk, MatchOption, length, [], slice_get, Some};
+//! Runs on one thread, step by step as picks say.
+
+ghost use Rattle.std.specs.Prelude.{◌≡◌, ◌≤◌, ◌%◌, IfOk, MatchOption, length, [], slice_get, true, None, Some};
 ghost use Rattle.lvish_calculus.specs.Calculus.{Running, start};
 ghost use Rattle.lvish_calculus.specs.Handing.{IsHandedWell};
+ghost use Rattle.lvish_board.specs.Standing.{IsOpened};
+ghost use Rattle.lvish_run.specs.Agenda.{open_in, NoTask, IsBeside, IsFor};
 ghost use Rattle.lvish_run.specs.Honest.{IsHonest, labels_of};
 ghost use Rattle.lvish_run.specs.Picked.{IsPicked};
 ghost use Rattle.lvish_run.specs.Alike.{IsAlike};
-ghost use Rattle.lvish_run.specs.Walk.{IsTurn, IsWalked, IsAccount};
+ghost use Rattle.lvish_run.specs.Walk.{IsStuck, IsDrawn, IsFirstHandler, IsTurn, IsWalked};
 
 use crate::account::{account_of, outcome_of};
+use crate::agenda::Agenda;
 use crate::counts::Counts;
 use crate::picks::pick_at;
 use crate::report::Report;
-use lvish_board::Entry;
-use lvish_calculus::laws::{handing_kept, same_end};
+use crate::turn::{act, hand, is_sound};
+use lvish_board::{Board, Named};
+use lvish_calculus::laws::{handing_kept, lawful, same_end};
 use lvish_calculus::{Label, Meaning, Program};
-use lvish_core::laws::{takes_core_runs, takes_something};
-use lvish_core::{Core, Runs, StepFault};
+use lvish_core::laws::{hands_one_event, takes_core_runs, takes_something};
 use lvish_lattice::Lattice;
+use lvish_names::HandlerName;
 use std::alloc::{AllocError, Global};
 
 /// The label whose number is the pick modulo their count, `None` of no labels.
@@ -29,77 +35,232 @@ fn choose<E: Drop>(mut labels: Vec<Label<E>>, pick: u64) -> Option<Label<E>>
     Some(labels.swap_remove(place))
 }
 
-/// Makes the step that the pick names, and answers its label; `None` where nothing is enabled.
-fn turn<P: Program>(
+/// The label that the pick names, `None` where nothing is enabled.
+fn named<P: Program, J: Named<P>>(
     alloc: Global,
-    core: &mut Core<'_, P>,
+    board: &Board<'_, P, J>,
     pick: u64,
 ) -> Result<Option<Label<<P::Lat as Lattice>::Event>>, AllocError>
-    requires { core.old.steps < 1000000 }
-    ensures { IfOk result (λ o. IsTurn P.Lat.Event.cmp (⟦<P as Meaning>⟧.machine core.old.program) pick core.old o core.new) }
+    ensures { IfOk result (λ o. MatchOption o (IsStuck (⟦<P as Meaning>⟧.machine J.program) board.now.core) (λ l. IsDrawn P.Lat.Event.cmp (⟦<P as Meaning>⟧.machine J.program) board.now.core pick l)) }
 {
-    let labels = core.labels(alloc)?;
-    match choose(labels, pick) {
-        None => Ok(None),
-        Some(label) => match core.step(alloc, &label) {
-            Ok(_) => Ok(Some(label)),
-            Err(StepFault::Memory) => Err(AllocError),
-            Err(StepFault::NotEnabled) => unreachable!(),
-            Err(StepFault::Full) => unreachable!(),
-        },
+    is_sound(board);
+    let labels = board.core().labels(alloc)?;
+    Ok(choose(labels, pick))
+}
+
+/// Makes the step of the label that the pick names. Answers whether there was one.
+fn take_named<P: Program, J: Named<P>>(
+    alloc: Global,
+    program: &P,
+    board: &mut Board<'_, P, J>,
+    agenda: &mut Agenda<P, J>,
+    pick: u64,
+) -> Result<bool, AllocError>
+    requires program { program.now ≡ J.program }
+    requires running { board.old.over ≡ None }
+    requires agenda { IsBeside (⟦<P as Meaning>⟧.machine J.program) board.old None None (open_in P.Lat.Event.cmp agenda.old) }
+    ensures turn { IfOk result (λ made. IsTurn P.Lat.Event.cmp (⟦<P as Meaning>⟧.machine J.program) (Some pick) board.old made board.new) }
+    ensures agenda { IfOk result (λ made. made ≡ true → IsFor P.Lat.Event.cmp (⟦<P as Meaning>⟧.machine J.program) board.new agenda.new) }
+{
+    is_sound(board);
+    match named(alloc, board, pick)? {
+        Some(Label::Task(name)) => {
+            let Some(asked) = agenda.take_task(&name) else {
+                unreachable!()
+            };
+            act(alloc, program, board, agenda, asked)
+        }
+        Some(Label::Hand(handler, _event)) => hand(alloc, program, board, agenda, handler),
+        None => Ok(false),
     }
 }
 
-/// Makes steps from the start until nothing is enabled or the budget is used up.
-fn walk<P: Program>(
+/// Makes the first step that can be made. Answers whether there was one.
+///
+/// Open tasks that can't go on are parked on the way, and are open again once they can.
+fn take_first<P: Program, J: Named<P>>(
     alloc: Global,
-    core: &mut Core<'_, P>,
-    picks: &[u64],
-    budget: u64,
-) -> Result<Vec<Entry<<P::Lat as Lattice>::Event>>, AllocError>
-    requires begun { ⟦<P as Runs>⟧.is_begun core.old.program core.old }
-    requires small { budget ≤ 1000000 }
-    ensures { IfOk result (λ t. IsWalked P.Lat.Event.cmp (⟦<P as Meaning>⟧.machine core.old.program) core.old.program picks.now budget core.new t.items) }
+    program: &P,
+    board: &mut Board<'_, P, J>,
+    agenda: &mut Agenda<P, J>,
+) -> Result<bool, AllocError>
+    requires program { program.now ≡ J.program }
+    requires running { board.old.over ≡ None }
+    requires agenda { IsBeside (⟦<P as Meaning>⟧.machine J.program) board.old None None (open_in P.Lat.Event.cmp agenda.old) }
+    ensures turn { IfOk result (λ made. IsTurn P.Lat.Event.cmp (⟦<P as Meaning>⟧.machine J.program) None board.old made board.new) }
+    ensures agenda { IfOk result (λ made. made ≡ true → IsFor P.Lat.Event.cmp (⟦<P as Meaning>⟧.machine J.program) board.new agenda.new) }
 {
-    takes_core_runs::<P>();
-    let mut trace = Vec::new(alloc);
-    for k in 0..budget {
-        match turn(alloc, core, pick_at(picks, k as usize))? {
-            Some(label) => trace.push(Entry { worker: 0, label })?,
-            None => return Ok(trace),
+    is_sound(board);
+    while let Some(asked) = agenda.pop_task() {
+        if act(alloc, program, board, agenda, asked)? {
+            return Ok(true);
+        }
+        if board.over().is_some() {
+            return Ok(false);
         }
     }
-    Ok(trace)
+    take_first_handing(alloc, program, board, agenda)
+}
+
+/// Makes the first handing, where no task is open. Answers whether there was one.
+fn take_first_handing<P: Program, J: Named<P>>(
+    alloc: Global,
+    program: &P,
+    board: &mut Board<'_, P, J>,
+    agenda: &mut Agenda<P, J>,
+) -> Result<bool, AllocError>
+    requires program { program.now ≡ J.program }
+    requires running { board.old.over ≡ None }
+    requires agenda { IsBeside (⟦<P as Meaning>⟧.machine J.program) board.old None None (open_in P.Lat.Event.cmp agenda.old) }
+    requires no_task { NoTask (open_in P.Lat.Event.cmp agenda.old) }
+    ensures turn { IfOk result (λ made. IsTurn P.Lat.Event.cmp (⟦<P as Meaning>⟧.machine J.program) None board.old made board.new) }
+    ensures agenda { IfOk result (λ made. made ≡ true → IsFor P.Lat.Event.cmp (⟦<P as Meaning>⟧.machine J.program) board.new agenda.new) }
+{
+    match first_handler(board, agenda) {
+        Some(handler) => hand(alloc, program, board, agenda, handler),
+        None => Ok(false),
+    }
+}
+
+/// The first handler with something left for it, where no task is open; `None` where there is none.
+fn first_handler<P: Program, J: Named<P>>(
+    board: &Board<'_, P, J>,
+    agenda: &mut Agenda<P, J>,
+) -> Option<HandlerName<<P::Lat as Lattice>::Event>>
+    requires running { board.now.over ≡ None }
+    requires agenda { IsBeside (⟦<P as Meaning>⟧.machine J.program) board.now None None (open_in P.Lat.Event.cmp agenda.old) }
+    requires no_task { NoTask (open_in P.Lat.Event.cmp agenda.old) }
+    ensures { MatchOption result (IsStuck (⟦<P as Meaning>⟧.machine J.program) board.now.core) (λ h. IsFirstHandler P.Lat.Event.cmp (⟦<P as Meaning>⟧.machine J.program) board.now h agenda.new) }
+{
+    hands_one_event::<P>();
+    is_sound(board);
+    while let Some(handler) = agenda.pop_handler() {
+        if let Some(_event) = board.core().next(&handler) {
+            return Some(handler);
+        }
+    }
+    None
+}
+
+/// Makes the step that the pick names, or the first where there is none. Answers whether there was
+/// one.
+fn turn<P: Program, J: Named<P>>(
+    alloc: Global,
+    program: &P,
+    board: &mut Board<'_, P, J>,
+    agenda: &mut Agenda<P, J>,
+    pick: Option<u64>,
+) -> Result<bool, AllocError>
+    requires program { program.now ≡ J.program }
+    requires agenda { IsFor P.Lat.Event.cmp (⟦<P as Meaning>⟧.machine J.program) board.old agenda.old }
+    ensures turn { IfOk result (λ made. IsTurn P.Lat.Event.cmp (⟦<P as Meaning>⟧.machine J.program) pick board.old made board.new) }
+    ensures agenda { IfOk result (λ made. made ≡ true → IsFor P.Lat.Event.cmp (⟦<P as Meaning>⟧.machine J.program) board.new agenda.new) }
+{
+    if board.over().is_some() {
+        return Ok(false);
+    }
+    match pick {
+        Some(pick) => take_named(alloc, program, board, agenda, pick),
+        None => take_first(alloc, program, board, agenda),
+    }
+}
+
+/// Makes steps from the start until none can be made or the budget is used up.
+fn walk<P: Program, J: Named<P>>(
+    alloc: Global,
+    program: &P,
+    board: &mut Board<'_, P, J>,
+    agenda: &mut Agenda<P, J>,
+    picks: &[u64],
+    budget: u64,
+) -> Result<(), AllocError>
+    requires program { program.now ≡ J.program }
+    requires budget { budget ≡ J.budget }
+    requires board { IsOpened (⟦<P as Meaning>⟧.machine J.program) J.program board.old }
+    requires agenda { IsFor P.Lat.Event.cmp (⟦<P as Meaning>⟧.machine J.program) board.old agenda.old }
+    ensures { IfOk result (λ _. IsWalked P.Lat.Event.cmp (⟦<P as Meaning>⟧.machine J.program) J.program picks.now J.budget board.new.core board.new.trace) }
+{
+    takes_core_runs::<P>();
+    is_sound(board);
+    for k in 0..budget {
+        let made = turn(alloc, program, board, agenda, pick_at(picks, k as usize))?;
+        is_sound(board);
+        if !made {
+            return Ok(());
+        }
+    }
+    Ok(())
+}
+
+/// A board at the start of a run, and the agenda beside it.
+fn opened<'p, P: Program, J: Named<P>>(
+    alloc: Global,
+    program: &'p P,
+    budget: u64,
+) -> Result<(Board<'p, P, J>, Agenda<P, J>), AllocError>
+    requires program { program.now ≡ J.program }
+    requires budget { budget ≡ J.budget }
+    requires small { budget ≤ 1000000 }
+    ensures board { IfOk result (λ r. IsOpened (⟦<P as Meaning>⟧.machine J.program) J.program r.0) }
+    ensures agenda { IfOk result (λ r. IsFor P.Lat.Event.cmp (⟦<P as Meaning>⟧.machine J.program) r.0 r.1) }
+{
+    lawful::<P>();
+    hands_one_event::<P>();
+    let (board, first) = Board::new(alloc, program, budget)?;
+    is_sound(&board);
+    let mut agenda = Agenda::new(alloc);
+    agenda.open(alloc, program, first)?;
+    Ok((board, agenda))
+}
+
+/// A board after the steps that can be made from the start within the budget.
+fn walked<'p, P: Program, J: Named<P>>(
+    alloc: Global,
+    program: &'p P,
+    picks: &[u64],
+    budget: u64,
+) -> Result<Board<'p, P, J>, AllocError>
+    requires program { program.now ≡ J.program }
+    requires budget { budget ≡ J.budget }
+    requires small { budget ≤ 1000000 }
+    ensures { IfOk result (λ b. IsWalked P.Lat.Event.cmp (⟦<P as Meaning>⟧.machine J.program) J.program picks.now J.budget b.core b.trace) }
+{
+    let (mut board, mut agenda) = opened::<P, J>(alloc, program, budget)?;
+    walk(alloc, program, &mut board, &mut agenda, picks, budget)?;
+    Ok(board)
 }
 
 /// Runs the program on one thread: at each step the enabled label whose number is the next pick
-/// modulo their count, 0 when the picks are used up.
+/// modulo their count, and the first enabled label when the picks are used up.
 ///
 /// # Errors
 ///
 /// `AllocError` where a growth was refused.
-pub fn run_program<P: Program>(
+pub fn run_program<P: Program, J: Named<P>>(
     alloc: Global,
     program: &P,
     picks: &[u64],
     budget: u64,
 ) -> Result<Report<P::Lat, <P::Lat as Lattice>::Event>, AllocError>
+    requires program { program.now ≡ J.program }
+    requires budget { budget ≡ J.budget }
     requires small { budget ≤ 1000000 }
-    ensures honest { IfOk result (λ r. IsHonest (⟦<P as Meaning>⟧.machine program.now) (P.functions program.now).variables 1 budget r) }
-    ensures picked { IfOk result (λ r. IsPicked P.Lat.Event.cmp (⟦<P as Meaning>⟧.machine program.now) picks.now [] (Running (start (⟦<P as Meaning>⟧.machine program.now))) (labels_of r.trace)) }
+    ensures honest { IfOk result (λ r. IsHonest (⟦<P as Meaning>⟧.machine J.program) (P.functions J.program).variables 1 J.budget r) }
+    ensures picked { IfOk result (λ r. IsPicked P.Lat.Event.cmp (⟦<P as Meaning>⟧.machine J.program) picks.now [] (Running (start (⟦<P as Meaning>⟧.machine J.program))) (labels_of r.trace)) }
     // What handlers are handed in it.
-    ensures handed { IfOk result (λ r. IsHandedWell (⟦<P as Meaning>⟧.machine program.now) (labels_of r.trace)) }
+    ensures handed { IfOk result (λ r. IsHandedWell (⟦<P as Meaning>⟧.machine J.program) (labels_of r.trace)) }
     // What it says of all other runs that end without an error.
-    ensures alike { IfOk result (λ r. IsAlike (⟦<P as Meaning>⟧.machine program.now) (P.functions program.now).variables r) }
+    ensures alike { IfOk result (λ r. IsAlike (⟦<P as Meaning>⟧.machine J.program) (P.functions J.program).variables r) }
 {
     handing_kept::<P>();
     same_end::<P>();
     takes_something::<P>();
-    let mut core = Core::new(alloc, program)?;
-    let trace = walk(alloc, &mut core, picks, budget)?;
-    let outcome = outcome_of(alloc, &core)?;
-    let account = account_of(alloc, &core, outcome)?;
+    let board = walked::<P, J>(alloc, program, picks, budget)?;
+    let core = board.core();
+    let outcome = outcome_of(alloc, core)?;
+    let account = account_of(alloc, core, outcome)?;
+    let steps = core.steps();
     let mut by_worker = Vec::new(alloc);
-    by_worker.push(core.steps())?;
-    Ok(account.report(core.steps(), trace, Counts::from(by_worker)))
+    by_worker.push(steps)?;
+    Ok(account.report(steps, board.into_trace(), Counts::from(by_worker)))
 }

@@ -1,12 +1,20 @@
-ghost use Rattle.std.specs.Prelude.{◌≤◌, IfOk};
+ghost use Rattle.std.specs.Prelude.{◌≡◌, ◌≤◌, [], IfOk};
+ghost use Rattle.lvish_calculus.specs.Calculus.{Running, start};
+ghost use Rattle.lvish_calculus.specs.Handing.{IsHandedWell};
+ghost use Rattle.lvish_run.specs.Alike.{IsAlike};
+ghost use Rattle.lvish_run.specs.Honest.{IsHonest, labels_of};
+ghost use Rattle.lvish_run.specs.Picked.{IsPicked};
 
+use crate::naming::{Naming, Of};
 use crate::report::Report;
 use crate::runner::run_program;
+use lvish_calculus::{Meaning, Program};
 use lvish_compound::{Any, Event};
 use lvish_syntax::Script;
 use lvish_task::laws::same_runs;
 use lvish_task::{Code, ScriptMeaning};
 use std::alloc::{AllocError, Global};
+use std::marker::Brand;
 
 /// What contracts say of a script's runs.
 pub trait Runs {
@@ -20,7 +28,8 @@ pub trait Runs {
     ghost is_run: { Self → ℕ → ℕ → Report Any Event → Type 0 };
 
     /// An honest report of the run of the script's nested statements that takes, at each step, the
-    /// label that its pick names; of an end, that all ends that don't cross it are alike.
+    /// label that its pick names, or the first where the picks are used up; of an end, that all ends
+    /// that don't cross it are alike.
     ghost is_picked_run: { Self → List ℕ → ℕ → Report Any Event → Type 0 };
 
     /// After how many steps every run of the script has ended, without an error, as far as the run
@@ -40,7 +49,7 @@ impl Runs for Script {
 }
 
 /// Runs the script on one thread: at each step the enabled label whose number is the next pick
-/// modulo their count, 0 when the picks are used up.
+/// modulo their count, and the first enabled label when the picks are used up.
 ///
 /// # Errors
 ///
@@ -56,5 +65,23 @@ pub fn run_picks(
 {
     same_runs();
     let code = Code::new(alloc, script)?;
-    run_program(alloc, &code, picks, budget)
+    run_named::<Brand>(alloc, &code, picks, budget)
+}
+
+/// Runs the code that the name is for.
+fn run_named<N: Naming>(
+    alloc: Global,
+    code: &Code,
+    picks: &[u64],
+    budget: u64,
+) -> Result<Report<Any, Event>, AllocError>
+    requires bounded { budget ≤ 1000000 }
+    requires code { code.now ≡ N.code }
+    requires budget { budget ≡ N.budget }
+    ensures honest { IfOk result (λ r. IsHonest (⟦<Code as Meaning>⟧.machine N.code) (⟦<Code as Program>⟧.functions N.code).variables 1 N.budget r) }
+    ensures picked { IfOk result (λ r. IsPicked ⟦<Event as Ord>⟧.cmp (⟦<Code as Meaning>⟧.machine N.code) picks.now [] (Running (start (⟦<Code as Meaning>⟧.machine N.code))) (labels_of r.trace)) }
+    ensures handed { IfOk result (λ r. IsHandedWell (⟦<Code as Meaning>⟧.machine N.code) (labels_of r.trace)) }
+    ensures alike { IfOk result (λ r. IsAlike (⟦<Code as Meaning>⟧.machine N.code) (⟦<Code as Program>⟧.functions N.code).variables r) }
+{
+    run_program::<Code, Of<N>>(alloc, code, picks, budget)
 }

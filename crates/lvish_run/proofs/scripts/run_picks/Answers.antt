@@ -10,9 +10,9 @@ pub returns : goal.returns
 returns c =
     let many = ap length c.in_ok-code.ensures.kinds ∙ kinds_count c.args.script.now.declarations in
     let same = c.same_runs.ensures c.args.script.now c.in_ok-code.code c.in_ok-code.ensures in
-    four_ok c.run_program.result
+    four_ok c.run_named.result
     (λ r honest picked handed alike.
     let said = said_there _ _ _ _ _ _ _ (functions c.in_ok-code.code) (script_functions c.args.script.now) same _ _ _ r (rw many at honest) handed (rw many at alike) in
     let picks = picks_there _ _ _ _ _ _ _ (functions c.in_ok-code.code) (script_functions c.args.script.now) same _ _ _ r (rw many at honest) _ _ picked in
     record { honest = said.0; picked = picks; handed = said.1; alike = said.2 })
-    c.run_program.ensures.honest c.run_program.ensures.picked c.run_program.ensures.handed c.run_program.ensures.alike
+    c.run_named.ensures.honest c.run_named.ensures.picked c.run_named.ensures.handed c.run_named.ensures.alike

@@ -1,0 +1,127 @@
+//! The tasks that may go on, and the handlers that may have something left for them.
+
+ghost use Rattle.std.specs.Prelude.{◌≡◌, ◌∷◌, [], true, None, Some, IfOk, MatchOption};
+ghost use Rattle.lvish_run.specs.Agenda.{open_in, IsEmpty, HasAt, HasHandler, NoTask, NoHandler, IsTaskGone, IsHandlerGone, Adds};
+
+use lvish_board::{Asked, Named, Work, stretch};
+use lvish_calculus::Program;
+use lvish_lattice::Lattice;
+use lvish_names::{HandlerName, TaskName};
+use std::alloc::{AllocError, Global};
+use std::collections::{BTreeMap, BTreeSet};
+use std::marker::Model;
+
+/// The open tasks, each with what it asks for, and the open handlers, both by name.
+#[derive(Drop)]
+pub(crate) struct Agenda<P: Program, J: Named<P>> {
+    tasks: BTreeMap<TaskName<<P::Lat as Lattice>::Event>, Asked<P, J>>,
+    handlers: BTreeSet<HandlerName<<P::Lat as Lattice>::Event>>,
+}
+
+impl<P: Program, J: Named<P>> Model for Agenda<P, J> {
+    ghost use Rattle.lvish_run.specs.Agenda.{Agenda};
+
+    ghost Value = { Agenda P.Lat.Event P.Local };
+
+    ghost view = { λ a. record { tasks = a.tasks.entries; handlers = a.handlers.keys } };
+}
+
+impl<P: Program, J: Named<P>> Agenda<P, J> {
+    /// Nothing is open.
+    pub(crate) fn new(alloc: Global) -> Agenda<P, J>
+        ensures { IsEmpty (open_in P.Lat.Event.cmp result) }
+    {
+        Agenda {
+            tasks: BTreeMap::new(alloc),
+            handlers: BTreeSet::new(alloc),
+        }
+    }
+
+    /// Takes the first open task out.
+    pub(crate) fn pop_task(&mut self) -> Option<Asked<P, J>>
+        ensures { MatchOption result (NoTask (open_in P.Lat.Event.cmp self.old) × (self.new ≡ self.old)) (λ p. IsTaskGone P.Lat.Event.cmp (open_in P.Lat.Event.cmp self.old) p (open_in P.Lat.Event.cmp self.new)) }
+    {
+        let Some((_, asked)) = self.tasks.pop_first() else {
+            return None;
+        };
+        Some(asked)
+    }
+
+    /// Takes the open task of this name out.
+    pub(crate) fn take_task(
+        &mut self,
+        name: &TaskName<<P::Lat as Lattice>::Event>,
+    ) -> Option<Asked<P, J>>
+        ensures was { result ≡ (open_in P.Lat.Event.cmp self.old).at name.now }
+        ensures without { HasAt P.Lat.Event.cmp (open_in P.Lat.Event.cmp self.old) name.now None (open_in P.Lat.Event.cmp self.new) }
+    {
+        self.tasks.remove(name)
+    }
+
+    /// Takes the first open handler out.
+    pub(crate) fn pop_handler(&mut self) -> Option<HandlerName<<P::Lat as Lattice>::Event>>
+        ensures { MatchOption result (NoHandler (open_in P.Lat.Event.cmp self.old)) (λ h. IsHandlerGone P.Lat.Event.cmp (open_in P.Lat.Event.cmp self.old) h (open_in P.Lat.Event.cmp self.new)) }
+    {
+        self.handlers.pop_first()
+    }
+
+    /// Opens the task, in place of any of its name.
+    fn open_task(&mut self, asked: Asked<P, J>) -> Result<(), AllocError>
+        ensures { IfOk result (λ _. HasAt P.Lat.Event.cmp (open_in P.Lat.Event.cmp self.old) asked.task (Some asked) (open_in P.Lat.Event.cmp self.new)) }
+    {
+        let name = asked.task().copy()?;
+        match self.tasks.insert(name, asked) {
+            Ok(_) => Ok(()),
+            Err(_) => Err(AllocError),
+        }
+    }
+
+    /// Opens the handler.
+    fn open_handler(
+        &mut self,
+        handler: HandlerName<<P::Lat as Lattice>::Event>,
+    ) -> Result<(), AllocError>
+        ensures { IfOk result (λ _. HasHandler P.Lat.Event.cmp (open_in P.Lat.Event.cmp self.old) handler true (open_in P.Lat.Event.cmp self.new)) }
+    {
+        match self.handlers.insert(handler) {
+            Ok(_) => Ok(()),
+            Err(_) => Err(AllocError),
+        }
+    }
+
+    /// Opens what one piece of work is for. A task's local statements are run.
+    pub(crate) fn open(
+        &mut self,
+        alloc: Global,
+        program: &P,
+        work: Work<P, J>,
+    ) -> Result<(), AllocError>
+        requires { program.now ≡ J.program }
+        ensures { IfOk result (λ _. Adds (work ∷ []) (open_in P.Lat.Event.cmp self.old) (open_in P.Lat.Event.cmp self.new)) }
+    {
+        match work {
+            Work::Stretch(ticket) => match stretch(alloc, program, ticket) {
+                Ok(asked) => self.open_task(asked),
+                Err(_ticket) => Err(AllocError),
+            },
+            Work::Act(asked) => self.open_task(asked),
+            Work::Hand(handler) => self.open_handler(handler),
+        }
+    }
+
+    /// Opens what the work of a step is for.
+    pub(crate) fn add(
+        &mut self,
+        alloc: Global,
+        program: &P,
+        works: Vec<Work<P, J>>,
+    ) -> Result<(), AllocError>
+        requires { program.now ≡ J.program }
+        ensures { IfOk result (λ _. Adds works.items (open_in P.Lat.Event.cmp self.old) (open_in P.Lat.Event.cmp self.new)) }
+    {
+        for work in works {
+            self.open(alloc, program, work)?;
+        }
+        Ok(())
+    }
+}

@@ -1,0 +1,131 @@
+//! What one worker does with one piece of work, and with the work that its step leaves.
+
+ghost use Rattle.std.specs.Prelude.{◌≡◌, false, None, Some, IfOk};
+ghost use Rattle.lvish_calculus.specs.declared.label.Label.TheVariants.{Hand};
+ghost use Rattle.lvish_board.specs.Standing.{IsSound, IsCurrent};
+ghost use Rattle.lvish_board.specs.Listed.{HasNext};
+ghost use Rattle.lvish_run.specs.Agenda.{open_in, IsBeside, IsFor};
+ghost use Rattle.lvish_run.specs.Walk.{IsTried, IsTriedHand, IsActed, IsHanded};
+
+use crate::agenda::Agenda;
+use lvish_board::{Act, Asked, Board, Named, Work};
+use lvish_calculus::laws::lawful;
+use lvish_calculus::{Meaning, Program};
+use lvish_core::Runs;
+use lvish_core::laws::hands_one_event;
+use lvish_lattice::Lattice;
+use lvish_names::HandlerName;
+use lvish_picture::laws::handed_next;
+use std::alloc::{AllocError, Global};
+
+/// What every board keeps.
+pub(crate) fn is_sound<P: Program, J: Named<P>>(board: &Board<'_, P, J>)
+    ensures { IsSound (⟦<P as Meaning>⟧.machine J.program) J.program J.budget board.now }
+{
+    board.over();
+}
+
+/// Does what the task asks for, and takes the work that its step leaves into the agenda. Answers
+/// whether there was a step.
+pub(crate) fn act<P: Program, J: Named<P>>(
+    alloc: Global,
+    program: &P,
+    board: &mut Board<'_, P, J>,
+    agenda: &mut Agenda<P, J>,
+    asked: Asked<P, J>,
+) -> Result<bool, AllocError>
+    requires program { program.now ≡ J.program }
+    requires running { board.old.over ≡ None }
+    requires current { IsCurrent (⟦<P as Meaning>⟧.machine J.program) board.old.core asked }
+    requires beside { IsBeside (⟦<P as Meaning>⟧.machine J.program) board.old (Some asked.task) None (open_in P.Lat.Event.cmp agenda.old) }
+    ensures acted { IfOk result (λ made. IsActed (⟦<P as Meaning>⟧.machine J.program) board.old asked.task made board.new) }
+    ensures agenda { IfOk result (λ _. IsFor P.Lat.Event.cmp (⟦<P as Meaning>⟧.machine J.program) board.new agenda.new) }
+    ensures stays { IfOk result (λ made. made ≡ false → agenda.new ≡ agenda.old) }
+{
+    lawful::<P>();
+    handed_next::<P>();
+    hands_one_event::<P>();
+    is_sound(board);
+    match take_act(alloc, board, asked)? {
+        Some(works) => {
+            is_sound(board);
+            agenda.add(alloc, program, works)?;
+            Ok(true)
+        }
+        None => Ok(false),
+    }
+}
+
+/// Takes what the task asks for to the board. Answers the work that its step leaves; `None` where
+/// there was no step.
+fn take_act<P: Program, J: Named<P>>(
+    alloc: Global,
+    board: &mut Board<'_, P, J>,
+    asked: Asked<P, J>,
+) -> Result<Option<Vec<Work<P, J>>>, AllocError>
+    requires current { IsCurrent (⟦<P as Meaning>⟧.machine J.program) board.old.core asked }
+    ensures { IfOk result (λ o. IsTried P.Lat.Event.cmp (⟦<P as Meaning>⟧.machine J.program) board.old asked o board.new) }
+{
+    is_sound(board);
+    match board.act(alloc, 0, asked) {
+        Act::Next(works) => Ok(Some(works)),
+        Act::Gone(works) => Ok(Some(works)),
+        Act::Parked => Ok(None),
+        Act::Over => Ok(None),
+        Act::Stale => unreachable!(),
+        Act::Memory(_work) => Err(AllocError),
+    }
+}
+
+/// Hands the handler what comes next for it, and takes the work that this leaves into the agenda.
+/// Answers whether there was a step.
+pub(crate) fn hand<P: Program, J: Named<P>>(
+    alloc: Global,
+    program: &P,
+    board: &mut Board<'_, P, J>,
+    agenda: &mut Agenda<P, J>,
+    handler: HandlerName<<P::Lat as Lattice>::Event>,
+) -> Result<bool, AllocError>
+    requires program { program.now ≡ J.program }
+    requires running { board.old.over ≡ None }
+    requires next { HasNext (⟦<P as Meaning>⟧.machine J.program) board.old.core handler }
+    requires beside { IsBeside (⟦<P as Meaning>⟧.machine J.program) board.old None (Some handler) (open_in P.Lat.Event.cmp agenda.old) }
+    ensures handed { IfOk result (λ made. (e : P.Lat.Event) → ⟦<P as Runs>⟧.is_next board.old.core handler e → IsHanded board.old (Hand handler e) made board.new) }
+    ensures agenda { IfOk result (λ _. IsFor P.Lat.Event.cmp (⟦<P as Meaning>⟧.machine J.program) board.new agenda.new) }
+{
+    lawful::<P>();
+    handed_next::<P>();
+    hands_one_event::<P>();
+    is_sound(board);
+    match take_hand(alloc, board, handler)? {
+        Some(works) => {
+            is_sound(board);
+            agenda.add(alloc, program, works)?;
+            Ok(true)
+        }
+        None => Ok(false),
+    }
+}
+
+/// Takes the handler to the board. Answers the work that the handing leaves; `None` where there was
+/// no handing.
+fn take_hand<P: Program, J: Named<P>>(
+    alloc: Global,
+    board: &mut Board<'_, P, J>,
+    handler: HandlerName<<P::Lat as Lattice>::Event>,
+) -> Result<Option<Vec<Work<P, J>>>, AllocError>
+    requires running { board.old.over ≡ None }
+    requires next { HasNext (⟦<P as Meaning>⟧.machine J.program) board.old.core handler }
+    ensures { IfOk result (λ o. IsTriedHand P.Lat.Event.cmp (⟦<P as Meaning>⟧.machine J.program) board.old handler o board.new) }
+{
+    hands_one_event::<P>();
+    is_sound(board);
+    match board.hand(alloc, 0, handler) {
+        Act::Next(works) => Ok(Some(works)),
+        Act::Over => Ok(None),
+        Act::Memory(_work) => Err(AllocError),
+        Act::Gone(_works) => unreachable!(),
+        Act::Parked => unreachable!(),
+        Act::Stale => unreachable!(),
+    }
+}
