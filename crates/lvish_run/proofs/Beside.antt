@@ -1,14 +1,10 @@
 -- An agenda stays beside its board.
-use Rattle.std.proofs.Common.{◌≡◌, ◌⊎◌, ◌↔◌, inl, inr, ℕ, Bool, true, false, cond, List, [], ◌∷◌, ◌++◌, map, Option, Some, None, IsSome, Ordering, refl, sym, ap, ◌∙◌, subst}
+use Rattle.std.proofs.Common.{◌≡◌, ◌⊎◌, inl, inr, ℕ, false, List, [], ◌∷◌, ◌++◌, map, Option, Some, None, Ordering, refl, sym, ap, ◌∙◌, subst}
 use Rattle.std.proofs.lemmas.List.{map-append}
-use Rattle.std.proofs.lemmas.Bool.{both_ways}
-use Rattle.std.specs.declared.cmp.Ordering.TheVariants.{Less, Equal, Greater}
-use Rattle.std.specs.Ordering.{is_eq}
-use Rattle.lvish_names.specs.NameOrder.{name_cmp, handler_cmp}
 use Rattle.lvish_calculus.specs.declared.label.Label.{Label}
 use Rattle.lvish_calculus.specs.declared.label.Label.TheVariants.{Task as Act, Hand}
 use Rattle.lvish_calculus.specs.Machine.{Machine, IsLawful}
-use Rattle.lvish_calculus.specs.Calculus.{Name, Handler, State, Configuration, Running, Error, Change, Outcome, Changes, Fails, Nothing, CanStep, IsEnabled, IsRun, after, changed, outcome, start}
+use Rattle.lvish_calculus.specs.Calculus.{Name, Handler, State, Running, Error, Change, Outcome, Changes, Fails, Nothing, CanStep, IsEnabled, IsRun, after, changed, outcome, start}
 use Rattle.lvish_calculus.specs.Laws.{Reaches}
 use Rattle.lvish_calculus.specs.Handing.{IsAmong}
 use Rattle.lvish_calculus.proofs.Runs.{reached, nothing}
@@ -22,7 +18,7 @@ use Rattle.lvish_board.specs.declared.work.Work.{Work}
 use Rattle.lvish_board.specs.declared.work.Work.TheVariants.{Stretch, Act as ActOn, Hand as HandTo}
 use Rattle.lvish_board.specs.declared.outcome.Outcome.{Outcome as Out}
 use Rattle.lvish_board.specs.Place.{Place}
-use Rattle.lvish_board.specs.Standing.{Standing, tasks_of, labels_of, IsCurrent, IsBlocked, IsSound, OverIs}
+use Rattle.lvish_board.specs.Standing.{Standing, tasks_of, labels_of, IsCurrent, IsSound, OverIs}
 use Rattle.lvish_board.specs.Listed.{IsListed, Concerns, by_handing, HasNext, tickets, stretches, acts, handings}
 use Rattle.lvish_board.specs.Woken.{IsParkedBeside}
 use Rattle.lvish_run.specs.Agenda.{Open, Adds, IsTaskOf, IsBeside, IsBesideAllBut}

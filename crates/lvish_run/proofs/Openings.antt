@@ -1,12 +1,12 @@
 -- The agenda beside a board before any step.
-use Rattle.std.proofs.Common.{◌≡◌, inl, inr, ℕ, true, false, List, [], ◌∷◌, Option, Some, None, is_some, IsSome, refl, sym, ap, ◌∙◌, subst}
+use Rattle.std.proofs.Common.{◌≡◌, inl, inr, ℕ, false, [], ◌∷◌, Option, Some, None, IsSome, refl, sym, ap, ◌∙◌, subst}
 use Rattle.std.specs.Prelude.{if◌then◌else◌}
 use Rattle.std.proofs.lemmas.Bool.{cases_Bool, false≢true}
 use Rattle.lvish_calculus.specs.Machine.{Machine, IsLawful}
 use Rattle.lvish_calculus.specs.Calculus.{Name, Handler, main, Absent, Live, State, start, same_name}
 use Rattle.lvish_calculus.specs.Handing.{IsAmong}
 use Rattle.lvish_calculus.proofs.Names.{same_name-true}
-use Rattle.lvish_core.specs.Core.{View, state}
+use Rattle.lvish_core.specs.Core.{state}
 use Rattle.lvish_core.specs.CoreLaws.{HandsWhatComes}
 use Rattle.lvish_core.specs.Changes.{local_of}
 use Rattle.lvish_core.proofs.Goes.{running_same, at_state}

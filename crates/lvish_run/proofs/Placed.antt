@@ -1,10 +1,10 @@
 -- Where tasks stand after a step.
 use Rattle.std.specs.Prelude.{option_and_then}
-use Rattle.std.proofs.Common.{◌≡◌, ◌⊎◌, ◌↔◌, inl, inr, ℕ, List, [], ◌∷◌, ◌++◌, Option, Some, None, refl, sym, ap, ◌∙◌, subst}
+use Rattle.std.proofs.Common.{◌≡◌, ◌⊎◌, inl, inr, ℕ, List, [], ◌∷◌, ◌++◌, Option, Some, None, refl, sym, ap, ◌∙◌, subst}
 use Rattle.lvish_calculus.specs.declared.label.Label.{Label}
 use Rattle.lvish_calculus.specs.declared.label.Label.TheVariants.{Task as Act, Hand}
 use Rattle.lvish_calculus.specs.Machine.{Machine, IsLawful}
-use Rattle.lvish_calculus.specs.Calculus.{Name, Task, Absent, Live, Ended, State, Configuration, Running, Error, Change, Outcome, Changes, Fails, Nothing, IsEnabled, IsRun, CanStep, after, changed, outcome, start, step, with_task}
+use Rattle.lvish_calculus.specs.Calculus.{Name, Task, Absent, Live, Ended, State, Change, Changes, IsEnabled, changed, outcome, with_task}
 use Rattle.lvish_calculus.specs.Laws.{Reaches}
 use Rattle.lvish_calculus.specs.Handing.{IsAmong}
 use Rattle.lvish_calculus.proofs.Names.{cases_name, with_task-same, with_task-other}
@@ -12,17 +12,11 @@ use Rattle.lvish_calculus.proofs.Steps.{view}
 use Rattle.lvish_calculus.proofs.Sound.{own_is, acts_live, live≢absent}
 use Rattle.lvish_calculus.proofs.Keeps.{tasks_after, made_absent}
 use Rattle.lvish_calculus.proofs.Moves.{task_stays}
-use Rattle.lvish_calculus.proofs.Runs.{reached, nothing}
-use Rattle.lvish_calculus.proofs.SameThere.{run_split}
-use Rattle.lvish_core.specs.declared.fault.Fault.{Fault}
-use Rattle.lvish_core.specs.Core.{View, IsRunTo, CanTake, state, picture, at_fault}
-use Rattle.lvish_core.specs.Changes.{local_of, made_as, moved_by, moved_in}
+use Rattle.lvish_calculus.proofs.Runs.{reached}
+use Rattle.lvish_core.specs.Changes.{local_of, made_as, moved_by}
 use Rattle.lvish_board.specs.Place.{Place}
-use Rattle.lvish_board.specs.declared.work.Work.{Work}
-use Rattle.lvish_board.specs.Standing.{Standing, tasks_of, IsCurrent, IsBlocked}
-use Rattle.lvish_board.specs.Listed.{IsListed, tickets, own_place, made_place}
-use Rattle.lvish_board.specs.Woken.{IsParkedBeside}
-use Rattle.std.specs.declared.cmp.Ordering.{Ordering}
+use Rattle.lvish_board.specs.Standing.{tasks_of}
+use Rattle.lvish_board.specs.Listed.{tickets, own_place, made_place}
 
 abbrev pub place : {E L : Type 0} → Name E → L → Place E L
 place t l = record { task = t; from = l }

@@ -1,7 +1,6 @@
 -- The turns of a run.
-use Rattle.std.proofs.Common.{◌≡◌, ◌⊎◌, ◌↔◌, inl, inr, ◌%◌, ℕ, Bool, true, false, List, [], ◌∷◌, ◌++◌, length, slice_get, Option, Some, None, is_some, IsSome, MatchOption, Result, Ok, Err, IfOk, Ordering, refl, sym, ap, ◌∙◌, subst}
+use Rattle.std.proofs.Common.{◌≡◌, ◌↔◌, inl, inr, ◌%◌, ℕ, Bool, true, false, List, [], ◌∷◌, ◌++◌, length, slice_get, Option, Some, None, MatchOption, Result, Ok, Err, IfOk, Ordering, sym, ap, ◌∙◌, subst}
 use Rattle.std.specs.declared.cmp.Ordering.TheVariants.{Equal}
-use Rattle.std.proofs.lemmas.Bool.{both_ways}
 use Rattle.lvish_names.specs.NameOrder.{name_cmp, handler_cmp}
 use Rattle.lvish_calculus.specs.declared.label.Label.{Label}
 use Rattle.lvish_calculus.specs.declared.label.Label.TheVariants.{Task as Act, Hand}
@@ -17,7 +16,7 @@ use Rattle.lvish_board.specs.Place.{Place}
 use Rattle.lvish_run.specs.Agenda.{Agenda, open_in, NoTask, IsTaskGone, IsHandlerGone, IsBeside}
 use Rattle.lvish_run.specs.Walk.{IsStuck, IsDrawn, IsLowest, IsIdle, IsActed, IsHanded, IsFirstHandler, IsTurn}
 use Rattle.lvish_run.proofs.Reports.{chosen_can}
-use Rattle.lvish_run.proofs.Firsts.{can_hand, lowest_task, lowest_handler, without_handler, drained, nothing_open}
+use Rattle.lvish_run.proofs.Firsts.{can_hand, lowest_task, lowest_handler, without_handler, drained}
 
 -- ---- labels that picks name
 

@@ -1,5 +1,5 @@
 -- What comes next for a handler that a step doesn't concern.
-use Rattle.std.proofs.Common.{◌≡◌, ◌⊎◌, ◌↔◌, inl, inr, ◌<◌, ℕ, zero, suc, Bool, true, false, not, cond, List, [], ◌∷◌, map, length, Option, Some, None, Contains, slice_get, refl, sym, ap, subst, ◌∙◌, arith}
+use Rattle.std.proofs.Common.{◌≡◌, ◌⊎◌, inl, inr, ◌<◌, ℕ, zero, suc, Bool, true, false, not, cond, List, [], ◌∷◌, map, length, Option, Some, None, Contains, slice_get, refl, sym, ap, subst, ◌∙◌, arith}
 use Rattle.std.specs.Prelude.{if◌then◌else◌, nat_eq, option_map}
 use Rattle.std.specs.List.{filter}
 use Rattle.std.specs.Set.{is_member}
@@ -7,15 +7,14 @@ use Rattle.std.proofs.lemmas.Bool.{cases_Bool, both_ways}
 use Rattle.std.proofs.lemmas.Map.Made.{is_member-Decides}
 use Rattle.lvish_lattice.specs.Lattice.{fresh_of, events_beyond}
 use Rattle.lvish_calculus.specs.declared.label.Label.{Label}
-use Rattle.lvish_calculus.specs.declared.label.Label.TheVariants.{Task as Act, Hand}
+use Rattle.lvish_calculus.specs.declared.label.Label.TheVariants.{Hand}
 use Rattle.lvish_calculus.specs.Machine.{Machine, IsLawful, IsBelow}
-use Rattle.lvish_calculus.specs.Calculus.{Name, Handler, Live, State, Change, Changes, IsOn, IsEnabled, IsToHand, changed, outcome, with_join}
+use Rattle.lvish_calculus.specs.Calculus.{Handler, State, Change, Changes, IsOn, IsEnabled, IsToHand, changed, outcome, with_join}
 use Rattle.lvish_calculus.proofs.Names.{nat_eq-true}
 use Rattle.lvish_calculus.proofs.Order.{with_join-same, with_join-other}
 use Rattle.lvish_calculus.proofs.Steps.{Makes, puts, gets, forks, adds, freezes, pauses, ends, hands, view}
 use Rattle.lvish_calculus.proofs.Sound.{IsSound}
 use Rattle.lvish_calculus.proofs.Keeps.{handlers_after, handled_stays}
-use Rattle.lvish_variable.specs.declared.entry.Entry.{Entry}
 use Rattle.lvish_variable.specs.Variable.{View as Variable, entries, logged}
 use Rattle.lvish_handlers.specs.declared.held.Held.{Held}
 use Rattle.lvish_handlers.specs.Handlers.{View as Handlers, next_of}
@@ -24,10 +23,10 @@ use Rattle.lvish_picture.specs.Laws.{IsSeated, HandsBelowTheEnd, HandsTheHeld}
 use Rattle.lvish_picture.proofs.Slots.{among, get_there}
 use Rattle.lvish_picture.proofs.Tables.{logged_len}
 use Rattle.lvish_picture.proofs.Hands.{next_is}
-use Rattle.lvish_core.specs.Core.{View, IsRunTo, IsNext, state}
-use Rattle.lvish_core.specs.Changes.{moved_in, brought, brings, put_brings}
+use Rattle.lvish_core.specs.Core.{View, IsRunTo, state}
+use Rattle.lvish_core.specs.Changes.{moved_in, brings, put_brings}
 use Rattle.lvish_core.proofs.Goes.{pictured_by}
-use Rattle.lvish_board.specs.Listed.{Concerns, by_handing, by_adding, by_putting, HasNext}
+use Rattle.lvish_board.specs.Listed.{Concerns, by_adding, by_putting, HasNext}
 
 -- ---- what a put brings
 

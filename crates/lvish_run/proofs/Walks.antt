@@ -1,5 +1,5 @@
 -- Runs that a board makes step by step, over any machine.
-use Rattle.std.proofs.Common.{◌≡◌, ◌⊎◌, ◌↔◌, inl, inr, ℕ, suc, ◌+◌, ◌≤◌, Bool, true, false, List, [], ◌∷◌, ◌++◌, length, slice_get, Option, Some, None, IsSome, Ordering, refl, sym, ap, ◌∙◌, subst, arith, length-append, append_assoc}
+use Rattle.std.proofs.Common.{◌≡◌, ◌⊎◌, ◌↔◌, inl, inr, ℕ, suc, ◌+◌, Bool, true, false, List, [], ◌∷◌, ◌++◌, length, slice_get, Option, Some, None, IsSome, Ordering, refl, sym, ap, ◌∙◌, subst, arith, length-append, append_assoc}
 use Rattle.std.proofs.lemmas.List.{map-append, append-nil}
 use Rattle.std.specs.List.{AllByRecursion}
 use Rattle.lvish_calculus.specs.declared.label.Label.{Label}
@@ -11,7 +11,7 @@ use Rattle.lvish_board.specs.declared.entry.Entry.{Entry}
 use Rattle.lvish_board.specs.Standing.{Standing, IsSound, IsOpened}
 use Rattle.lvish_run.specs.Honest.{labels_of}
 use Rattle.lvish_run.specs.Picked.{IsNamed, IsPicked}
-use Rattle.lvish_run.specs.Walk.{IsTaken, IsEntered, IsTurn, IsStuck, IsWalk, IsWalked}
+use Rattle.lvish_run.specs.Walk.{IsTaken, IsTurn, IsStuck, IsWalk, IsWalked}
 use Rattle.lvish_run.proofs.Reports.{over_stops}
 
 all_more : {X : Type 0} (P : X → Type 0) (xs : List X) (x : X) → AllByRecursion P xs → P x → AllByRecursion P (xs ++ x ∷ [])

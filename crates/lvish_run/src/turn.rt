@@ -98,9 +98,9 @@ pub(crate) fn hand<P: Program, J: Named<P>>(
     hands_one_event::<P>();
     is_sound(board);
     match take_hand(alloc, board, handler)? {
-        Some(works) => {
+        Some(left) => {
             is_sound(board);
-            agenda.add(alloc, program, works)?;
+            agenda.add(alloc, program, left)?;
             Ok(true)
         }
         None => Ok(false),

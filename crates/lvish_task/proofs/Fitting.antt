@@ -6,7 +6,7 @@ use Rattle.lvish_calculus.specs.declared.request.Request.TheVariants as ask
 use Rattle.lvish_code.specs.declared.routine.Routine.{Routine}
 use Rattle.lvish_code.specs.Sound.{takes}
 use Rattle.lvish_task.specs.declared.code.Code.{Code}
-use Rattle.lvish_task.specs.declared.local.Local.{Local}
+use Rattle.lvish_task.specs.declared.stack.Stack.{Stack}
 use Rattle.lvish_task.specs.Meaning.{turns}
 use Rattle.lvish_task.specs.Run.{is_fitting, run, asked, started, routine, resumed_top}
 use Rattle.lvish_task.specs.FitLaws.{of_local, started_fits, asked_at_fits, fork_fits, resumed_fits}
@@ -30,7 +30,7 @@ list_all-reverse p (x ∷ xs) =
 two_taken : (o : Option Routine) (r : Routine) → o ≡ Some r → r.parameters ≡ 2 → takes 2 o ≡ true
 two_taken o r e n = ap (takes 2) e ∙ (Decides-eqb r.parameters 2).1 n
 
-misfit : (c : Code) (l : Local) → is_fitting c l ≡ false → asked c.flat l ≡ record { request = ask.End; at = l }
+misfit : (c : Code) (l : Stack) → is_fitting c l ≡ false → asked c.flat l ≡ record { request = ask.End; at = l }
 misfit c l e = ap (λ (b : Bool). if b then run c.flat l.left l.top l.below else record { request = ask.End; at = l }) e
 
 pub code_keeps_fitting : (c : Code) → KeepsFitting c

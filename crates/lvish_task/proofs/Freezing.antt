@@ -31,7 +31,7 @@ use Rattle.lvish_code.specs.declared.code.Code as flat
 use Rattle.lvish_code.specs.Compile.{Names, names_of, command_code, statement_code, row_code, list_code, routine_of}
 use Rattle.lvish_task.specs.declared.code.Code.{Code}
 use Rattle.lvish_task.specs.declared.frame.Frame.{Frame}
-use Rattle.lvish_task.specs.declared.local.Local.{Local}
+use Rattle.lvish_task.specs.declared.stack.Stack.{Stack}
 use Rattle.lvish_task.specs.CodeOf.{IsCodeOf}
 use Rattle.lvish_task.specs.Run.{FlatTurn, Goes, Asks, FlatAsked, putting, getting, assigned, entered, called, callee, placed, routine, instructions_in, instruction, action_turn, instruction_turn, frame_turn, flat_turn, returned, went, run, asked, fits, operand_value, target_place, wanted_test, expression_value, functions}
 use Rattle.lvish_task.specs.States.{put_at, read_at}
@@ -101,7 +101,7 @@ none_at p (y ∷ ys) zero x e is = let same : y ≡ x = cc in subst (λ z. p z �
 none_at p (y ∷ ys) (suc k) x e is = none_at p ys k x (or_parts (p y) (list_any p ys) e).1 is
 
 -- a request to freeze
-abbrev IsFreeze : Request Any AnyRead Local → Type 0
+abbrev IsFreeze : Request Any AnyRead Stack → Type 0
 IsFreeze (ask.Freeze v pools) = Unit {0}
 IsFreeze (ask.Put v d) = ⊥
 IsFreeze (ask.Get v r) = ⊥
@@ -166,7 +166,7 @@ module _ (c : flat.Code) (none : code_freezes c ≡ false) where
   none_in top below [] h = none_turn top below (instruction c top) (none_there top.procedure (routine c top.procedure) refl top.place) h
   none_in top below (e ∷ es) h = none_called top.each (e.key ∷ e.number ∷ []) (record top { events = es }) below h
 
-  none_went : (l : Local) (go : Frame → List Frame → FlatAsked) → ((top : Frame) (below : List Frame) → IsFreeze (go top below).request → ⊥) → (t : FlatTurn) → (Freezes t → ⊥) → IsFreeze (went c l go t).request → ⊥
+  none_went : (l : Stack) (go : Frame → List Frame → FlatAsked) → ((top : Frame) (below : List Frame) → IsFreeze (go top below).request → ⊥) → (t : FlatTurn) → (Freezes t → ⊥) → IsFreeze (went c l go t).request → ⊥
   none_went l go later (Goes top below) never h = later top below h
   none_went l go later (Asks r) never h = never h
 
@@ -176,7 +176,7 @@ module _ (c : flat.Code) (none : code_freezes c ≡ false) where
       let l = returned c top below (suc n) in
       none_went l (run c n) (none_run n) (flat_turn c l) (none_in l.top l.below l.top.events) h
 
-  none_asked : (l : Local) → IsFreeze (asked c l).request → ⊥
+  none_asked : (l : Stack) → IsFreeze (asked c l).request → ⊥
   none_asked l h = by (fits c l) h
     where
       by : (b : Bool) → IsFreeze (if b then run c l.left l.top l.below else record { request = ask.End; at = l }).request → ⊥
@@ -184,7 +184,7 @@ module _ (c : flat.Code) (none : code_freezes c ≡ false) where
       by false k = k
 
 -- code without such an instruction asks for no freeze, in whatever local state
-pub asks_none : (c : Code) → code_freezes c.flat ≡ false → (l : Local) (v : ℕ) (pools : List ℕ) → (functions c).request l ≢ ask.Freeze v pools
+pub asks_none : (c : Code) → code_freezes c.flat ≡ false → (l : Stack) (v : ℕ) (pools : List ℕ) → (functions c).request l ≢ ask.Freeze v pools
 asks_none c none l v pools e = none_asked c.flat none l (subst IsFreeze (sym e) tt)
 
 -- ---- the statements' runs

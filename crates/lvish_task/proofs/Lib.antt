@@ -6,3 +6,4 @@ pub mod Places
 pub mod Alike
 pub mod Meant
 mod Freezing
+mod Standing

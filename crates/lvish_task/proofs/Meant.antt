@@ -37,7 +37,7 @@ use Rattle.lvish_code.proofs.Bools.{both}
 use Rattle.lvish_code.proofs.Names.{taking, count_kinds}
 use Rattle.lvish_code.proofs.Following.{does, does_here, place_within}
 use Rattle.lvish_task.specs.declared.frame.Frame.{Frame}
-use Rattle.lvish_task.specs.declared.local.Local.{Local}
+use Rattle.lvish_task.specs.declared.stack.Stack.{Stack}
 use Rattle.lvish_task.specs.declared.code.Code.{Code}
 use Rattle.lvish_task.specs.CodeOf.{IsCodeOf}
 use Rattle.lvish_task.specs.States.{events_below}
@@ -142,7 +142,7 @@ module _ (script : Script) (c : flat.Code) (is_code : compile.IsCodeOf script c)
       (subst (λ t. Pictures script (if t then f.returned c h below left else record { left = left; top = landed c g; below = h ∷ below }) (if done then m.returned script b acts left b.events b.following else record { top = a; below = b ∷ acts; left = left })) (sym over)
       (by done (f.returned c h below left) (record { left = left; top = landed c g; below = h ∷ below }) (m.returned script b acts left b.events b.following) (record { top = a; below = b ∷ acts; left = left }) out stay))
     where
-      by : (t : Bool) (l k : Local) (s r : State) → Pictures script l s → Pictures script k r → Pictures script (if t then l else k) (if t then s else r)
+      by : (t : Bool) (l k : Stack) (s r : State) → Pictures script l s → Pictures script k r → Pictures script (if t then l else k) (if t then s else r)
       by true l k s r p q = p
       by false l k s r p q = q
 
@@ -152,7 +152,7 @@ module _ (script : Script) (c : flat.Code) (is_code : compile.IsCodeOf script c)
     pub request : SameRequest (Pictures script) a.request b.request
     pub at : Pictures script a.at b.at
 
-  went_alike : (l : Local) (s : State) → Pictures script l s → (go : Frame → List Frame → FlatAsked) (on : Activation → List Activation → Asked) → ((g : Frame) (a : Activation) (below : List Frame) (acts : List Activation) → Frames g a → PicturesAll script below acts → length below ≤ 63 → AskedAlike (go g below) (on a acts)) → (t : FlatTurn) (u : Turn) → alike.TurnAlike script c is_code t u → AskedAlike (f.went c l go t) (m.went script s on u)
+  went_alike : (l : Stack) (s : State) → Pictures script l s → (go : Frame → List Frame → FlatAsked) (on : Activation → List Activation → Asked) → ((g : Frame) (a : Activation) (below : List Frame) (acts : List Activation) → Frames g a → PicturesAll script below acts → length below ≤ 63 → AskedAlike (go g below) (on a acts)) → (t : FlatTurn) (u : Turn) → alike.TurnAlike script c is_code t u → AskedAlike (f.went c l go t) (m.went script s on u)
   went_alike l s pic go on next (f.Goes g below) (m.Goes a acts) h = next g a below acts h.0 h.1 h.2
   went_alike l s pic go on next (f.Goes g below) (m.Asks q) h = absurd h
   went_alike l s pic go on next (f.Asks r) (m.Goes a acts) h = absurd h
@@ -193,13 +193,13 @@ module _ (script : Script) (c : flat.Code) (is_code : compile.IsCodeOf script c)
   all_fit (g ∷ fs) [] h = absurd h
   all_fit (g ∷ fs) (a ∷ acts) h = and_true _ _ (of_frame c g (frame_fits g a h.0)) (all_fit fs acts h.1)
 
-  pub pictures_fit : (l : Local) (s : State) → Pictures script l s → fits c l ≡ true
+  pub pictures_fit : (l : Stack) (s : State) → Pictures script l s → fits c l ≡ true
   pictures_fit l s pic = of_local c l (record { top = frame_fits l.top s.top pic.top; below = all_fit l.below s.below pic.below; few = pic.few_below; left = pic.few_left })
 
-  asked_is : (l : Local) (s : State) → Pictures script l s → f.asked c l ≡ f.run c l.left l.top l.below
+  asked_is : (l : Stack) (s : State) → Pictures script l s → f.asked c l ≡ f.run c l.left l.top l.below
   asked_is l s pic = ap (λ (b : Bool). if b then f.run c l.left l.top l.below else record { request = ask.End; at = l }) (pictures_fit l s pic)
 
-  pub asked_alike : (l : Local) (s : State) → Pictures script l s → AskedAlike (f.asked c l) (m.asked script s)
+  pub asked_alike : (l : Stack) (s : State) → Pictures script l s → AskedAlike (f.asked c l) (m.asked script s)
   asked_alike l s pic =
       subst (λ a. AskedAlike a (m.asked script s)) (sym (asked_is l s pic))
       (subst (λ n. AskedAlike (f.run c l.left l.top l.below) (m.run script n s.top s.below)) pic.left
@@ -211,7 +211,7 @@ module _ (script : Script) (c : flat.Code) (is_code : compile.IsCodeOf script c)
   abbrev Makes : FlatAsked → Type 0
   Makes a = (a.at.left ≡ 0) ⊎ (f.flat_turn c a.at ≡ f.Asks a.request)
 
-  went_makes : (l : Local) (go : Frame → List Frame → FlatAsked) → ((g : Frame) (below : List Frame) → Makes (go g below)) → (t : FlatTurn) → f.flat_turn c l ≡ t → Makes (f.went c l go t)
+  went_makes : (l : Stack) (go : Frame → List Frame → FlatAsked) → ((g : Frame) (below : List Frame) → Makes (go g below)) → (t : FlatTurn) → f.flat_turn c l ≡ t → Makes (f.went c l go t)
   went_makes l go on (f.Goes g below) e = on g below
   went_makes l go on (f.Asks r) e = inr e
 
@@ -220,7 +220,7 @@ module _ (script : Script) (c : flat.Code) (is_code : compile.IsCodeOf script c)
   run_makes (suc n) g below = let l = f.returned c g below (suc n) in went_makes l (f.run c n) (run_makes n) (f.flat_turn c l) refl
 
   abbrev Ask' : Type 0
-  Ask' = Request Any AnyRead Local
+  Ask' = Request Any AnyRead Stack
 
   not_replied : (q : Ask') (r : Reply Any ℤ) (k : ErrorKind) → ask.Fault k ≡ q → IsReplyTo q r → ⊥
   not_replied q r k e h = subst (λ (x : Ask'). IsReplyTo x r) (sym e) h
@@ -345,7 +345,7 @@ module _ (script : Script) (c : flat.Code) (is_code : compile.IsCodeOf script c)
   top_answered g a pic below q r fit (suc n) (inl none) = absurd (omega arith)
   top_answered g a pic below q r fit (suc n) (inr e) = frame_answered g a pic below q r fit g.events refl e
 
-  pub resumed_alike : (l : Local) (s : State) (q : Ask') (r : Reply Any ℤ) → Pictures script l s → IsReplyTo q r → (l.left ≡ 0) ⊎ (f.flat_turn c l ≡ f.Asks q) → Pictures script (f.resumed c l r) (m.resumed script s r)
+  pub resumed_alike : (l : Stack) (s : State) (q : Ask') (r : Reply Any ℤ) → Pictures script l s → IsReplyTo q r → (l.left ≡ 0) ⊎ (f.flat_turn c l ≡ f.Asks q) → Pictures script (f.resumed c l r) (m.resumed script s r)
   resumed_alike l s q r pic fit makes =
       let there : f.resumed c l r ≡ record { left = turns; top = f.resumed_top c l.top r l.left; below = l.below } =
       ap (λ (b : Bool). if b then record { left = turns; top = f.resumed_top c l.top r l.left; below = l.below } else l) (pictures_fit l s pic) in
@@ -359,7 +359,7 @@ module _ (script : Script) (c : flat.Code) (is_code : compile.IsCodeOf script c)
         few_left = omega arith;
       })
 
-  asked_makes : (l : Local) (s : State) → Pictures script l s → Makes (f.asked c l)
+  asked_makes : (l : Stack) (s : State) → Pictures script l s → Makes (f.asked c l)
   asked_makes l s pic = subst Makes (sym (asked_is l s pic)) (run_makes l.left l.top l.below)
 
   pub started_handler : (k : ℕ) (p : Procedure) (xs : List ℤ) → slice_get script.procedures k ≡ Some p → length xs ≡ length p.parameters → Pictures script (f.started c k xs) (m.alone (begins xs p))

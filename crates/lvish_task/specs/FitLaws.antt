@@ -24,7 +24,7 @@ use Rattle.lvish_code.specs.declared.routine.Routine.{Routine}
 use Rattle.lvish_code.specs.declared.code.Code as flat
 use Rattle.lvish_code.specs.Sound.{takes, lands, is_instruction_sound}
 use Rattle.lvish_task.specs.declared.frame.Frame.{Frame}
-use Rattle.lvish_task.specs.declared.local.Local.{Local}
+use Rattle.lvish_task.specs.declared.stack.Stack.{Stack}
 use Rattle.lvish_task.specs.Run.{FlatTurn, Goes, Asks, FlatAsked, operand_value, expression_value, landing, placed, stepped, begun, alone, answered, assigned, putting, getting, instructions, instructions_in, routine, landed, callee_in, callee, started, nowhere, entered, called, action_turn, instruction, instruction_turn, frame_turn, flat_turn, is_over, returned, settled, went, run, fits_in, fits_frame, fits, asked, after, resumed_top, resumed}
 use Rattle.lvish_task.specs.Meaning.{turns, taken}
 use Rattle.lvish_task.specs.States.{events_below}
@@ -68,7 +68,7 @@ module _ (c : flat.Code) where
     pub each : each_fits c f.each f.events ≡ true
 
   -- a local state that fits
-  pub record IsLocal (l : Local) : Type 0 where
+  pub record IsLocal (l : Stack) : Type 0 where
     pub top : IsFrame l.top
     pub below : list_all (fits_frame c) l.below ≡ true
     pub few : length l.below ≤ 63
@@ -89,14 +89,14 @@ module _ (c : flat.Code) where
       ap (fits_in c f) i.at
       ∙ and_true _ _ (and_true _ _ (lt-ltb f.place (length i.routine_of.instructions) i.within) ((Decides-eqb _ _).1 i.long)) i.each
 
-  pub to_local : (l : Local) → fits c l ≡ true → IsLocal l
+  pub to_local : (l : Stack) → fits c l ≡ true → IsLocal l
   to_local l e =
       let h = both (fits_frame c l.top && list_all (fits_frame c) l.below && nat_le (length l.below) 63) (nat_le l.left turns) e in
       let k = both (fits_frame c l.top && list_all (fits_frame c) l.below) (nat_le (length l.below) 63) h.0 in
       let m = both (fits_frame c l.top) (list_all (fits_frame c) l.below) k.0 in
       record { top = to_frame l.top m.0; below = m.1; few = leb-true _ _ k.1; left = leb-true _ _ h.1 }
 
-  pub of_local : (l : Local) → IsLocal l → fits c l ≡ true
+  pub of_local : (l : Stack) → IsLocal l → fits c l ≡ true
   of_local l i =
       and_true _ _ (and_true _ _ (and_true _ _ (of_frame l.top i.top) i.below) (le-leb (length l.below) 63 i.few)) (le-leb l.left 1000 i.left)
 
@@ -123,11 +123,11 @@ module _ (c : flat.Code) where
       let in' : IsLocal (record { left = left; top = landed c f; below = h ∷ below }) = record { top = frame_landed f i; below = all; few = few; left = some } in
       either (is_over c (landed c f)) (returned c h below left) (record { left = left; top = landed c f; below = h ∷ below }) out in'
     where
-      either : (b : Bool) (l m : Local) → IsLocal l → IsLocal m → IsLocal (if b then l else m)
+      either : (b : Bool) (l m : Stack) → IsLocal l → IsLocal m → IsLocal (if b then l else m)
       either true l m p q = p
       either false l m p q = q
 
-  pub settled_fits : (l : Local) → IsLocal l → IsLocal (settled c l)
+  pub settled_fits : (l : Stack) → IsLocal l → IsLocal (settled c l)
   settled_fits l i = returned_fits l.top l.below l.left i.top i.below i.few i.left
 
   -- ---- where procedures begin
@@ -179,7 +179,7 @@ module _ (c : flat.Code) where
   -- the frames after a local statement fit
   abbrev pub TurnFits : FlatTurn → Type 0
   TurnFits (Goes top below) = IsFrame top × (list_all (fits_frame c) below ≡ true) × (length below ≤ 63)
-  TurnFits (Asks r) = (m : Local) → r ≡ ask.Fork m → IsLocal m
+  TurnFits (Asks r) = (m : Stack) → r ≡ ask.Fork m → IsLocal m
 
   entered_fits : (caller : Frame) (below : List Frame) (o : Option Frame) → IsFrame caller → list_all (fits_frame c) below ≡ true → length below < 63 → ((f : Frame) → o ≡ Some f → IsFrame f) → TurnFits (entered c caller below o)
   entered_fits caller below None i all few there = λ m e. absurd cc
@@ -265,7 +265,7 @@ module _ (c : flat.Code) where
       called_fits top.each (e.key ∷ e.number ∷ []) (record top { events = es }) below
       (record { routine_of = i.routine_of; at = i.at; within = i.within; long = i.long; each = more }) all
 
-  pub turn_fits : (l : Local) → IsLocal l → TurnFits (flat_turn c l)
+  pub turn_fits : (l : Stack) → IsLocal l → TurnFits (flat_turn c l)
   turn_fits l i = events_fit l.top l.below l.top.events refl i.top i.below i.few
 
   -- ---- up to the next request
@@ -273,9 +273,9 @@ module _ (c : flat.Code) where
   -- a request, and the local state in which it is made
   pub record AskedFits (a : FlatAsked) : Type 0 where
     pub at : IsLocal a.at
-    pub fork : (m : Local) → a.request ≡ ask.Fork m → IsLocal m
+    pub fork : (m : Stack) → a.request ≡ ask.Fork m → IsLocal m
 
-  went_fits : (l : Local) → IsLocal l → (go : Frame → List Frame → FlatAsked) → ((top : Frame) (below : List Frame) → IsFrame top → list_all (fits_frame c) below ≡ true → length below ≤ 63 → AskedFits (go top below)) → (t : FlatTurn) → TurnFits t → AskedFits (went c l go t)
+  went_fits : (l : Stack) → IsLocal l → (go : Frame → List Frame → FlatAsked) → ((top : Frame) (below : List Frame) → IsFrame top → list_all (fits_frame c) below ≡ true → length below ≤ 63 → AskedFits (go top below)) → (t : FlatTurn) → TurnFits t → AskedFits (went c l go t)
   went_fits l f go on (Goes top below) t = on top below t.0 t.1 t.2
   went_fits l f go on (Asks r) t = record { at = f; fork = t }
 
@@ -286,18 +286,18 @@ module _ (c : flat.Code) where
       let f = returned_fits top below (suc n) i all few some in
       went_fits l f (run c n) (λ next more j all' few'. run_fits n next more j all' few' (omega arith)) (flat_turn c l) (turn_fits l f)
 
-  asked_fits_by : (l : Local) (b : Bool) → fits c l ≡ b → (fits c l ≡ true → AskedFits (if b then run c l.left l.top l.below else record { request = ask.End; at = l }))
+  asked_fits_by : (l : Stack) (b : Bool) → fits c l ≡ b → (fits c l ≡ true → AskedFits (if b then run c l.left l.top l.below else record { request = ask.End; at = l }))
   asked_fits_by l true e h = let i = to_local l h in run_fits l.left l.top l.below i.top i.below i.few i.left
   asked_fits_by l false e h = absurd cc
 
-  pub asked_at_fits : (l : Local) → fits c l ≡ true → fits c (asked c l).at ≡ true
+  pub asked_at_fits : (l : Stack) → fits c l ≡ true → fits c (asked c l).at ≡ true
   asked_at_fits l e = of_local (asked c l).at (asked_fits_by l (fits c l) refl e).at
 
-  fork_by : (l m : Local) (b : Bool) → fits c l ≡ b → (if b then run c l.left l.top l.below else record { request = ask.End; at = l }).request ≡ ask.Fork m → IsLocal m
+  fork_by : (l m : Stack) (b : Bool) → fits c l ≡ b → (if b then run c l.left l.top l.below else record { request = ask.End; at = l }).request ≡ ask.Fork m → IsLocal m
   fork_by l m true e h = let i = to_local l e in (run_fits l.left l.top l.below i.top i.below i.few i.left).fork m h
   fork_by l m false e h = absurd cc
 
-  pub fork_fits : (l m : Local) → (asked c l).request ≡ ask.Fork m → fits c m ≡ true
+  pub fork_fits : (l m : Stack) → (asked c l).request ≡ ask.Fork m → fits c m ≡ true
   fork_fits l m e = of_local m (fork_by l m (fits c l) refl e)
 
   -- ---- after a reply
@@ -343,11 +343,11 @@ module _ (c : flat.Code) where
   resumed_top_fits f i r (suc n) =
       subst (λ is. IsFrame (after f r (slice_get is f.place))) (sym (instructions_are f i)) (after_fits f i r (slice_get i.routine_of.instructions f.place) refl)
 
-  resumed_by : (l : Local) (r : Reply Any ℤ) (b : Bool) → fits c l ≡ b → fits c l ≡ true → fits c (if b then record { left = turns; top = resumed_top c l.top r l.left; below = l.below } else l) ≡ true
+  resumed_by : (l : Stack) (r : Reply Any ℤ) (b : Bool) → fits c l ≡ b → fits c l ≡ true → fits c (if b then record { left = turns; top = resumed_top c l.top r l.left; below = l.below } else l) ≡ true
   resumed_by l r true e h =
       let i = to_local l h in
       of_local (record { left = turns; top = resumed_top c l.top r l.left; below = l.below }) (record { top = resumed_top_fits l.top i.top r l.left; below = i.below; few = i.few; left = omega arith })
   resumed_by l r false e h = h
 
-  pub resumed_fits : (l : Local) (r : Reply Any ℤ) → fits c l ≡ true → fits c (resumed c l r) ≡ true
+  pub resumed_fits : (l : Stack) (r : Reply Any ℤ) → fits c l ≡ true → fits c (resumed c l r) ≡ true
   resumed_fits l r e = resumed_by l r (fits c l) refl e

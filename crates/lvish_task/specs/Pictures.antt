@@ -10,7 +10,7 @@ use Rattle.lvish_code.specs.Numbering.{number_of}
 use Rattle.lvish_code.specs.Compile.{names_of, local_names, routine_of}
 use Rattle.lvish_code.specs.Follows.{Follows}
 use Rattle.lvish_task.specs.declared.frame.Frame.{Frame}
-use Rattle.lvish_task.specs.declared.local.Local.{Local}
+use Rattle.lvish_task.specs.declared.stack.Stack.{Stack}
 use Rattle.lvish_task.specs.Meaning.{Activation, State, procedure}
 
 module _ (script : Script) where
@@ -44,7 +44,7 @@ module _ (script : Script) where
   PicturesAll (f ∷ fs) (a ∷ more) = PicturesFrame f a × PicturesAll fs more
 
   -- the local state stands for this state of the nested statements
-  pub record Pictures (l : Local) (s : State) : Type 0 where
+  pub record Pictures (l : Stack) (s : State) : Type 0 where
     pub top : PicturesFrame l.top s.top
     pub below : PicturesAll l.below s.below
     pub left : l.left ≡ s.left

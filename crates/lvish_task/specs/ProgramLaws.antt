@@ -41,7 +41,7 @@ use Rattle.lvish_code.specs.declared.routine.Routine.{Routine}
 use Rattle.lvish_code.specs.declared.code.Code as flat
 use Rattle.lvish_code.specs.Sound.{takes, is_target_sound, is_wanted_sound, is_action_sound, is_instruction_sound, is_on, target_kind}
 use Rattle.lvish_task.specs.declared.frame.Frame.{Frame}
-use Rattle.lvish_task.specs.declared.local.Local.{Local}
+use Rattle.lvish_task.specs.declared.stack.Stack.{Stack}
 use Rattle.lvish_task.specs.declared.code.Code.{Code}
 use Rattle.lvish_task.specs.Equality.{values_eq}
 use Rattle.lvish_task.specs.States.{read_by, read_at, put_at}
@@ -77,13 +77,13 @@ frame_identical event_eq event_is same is a b e =
     let m = both (nat_eq a.each b.each) _ k.1 in
     made_alike _ _ _ _ _ _ _ _ _ _ ((Decides-eqb _ _).0 g.0) ((Decides-eqb _ _).0 h.0) ((signed_items a.values b.values).0 k.0) ((Decides-eqb _ _).0 m.0) (lists_identical event_eq event_is a.events b.events m.1)
 
-abbrev local_of : ℕ → Frame → List Frame → Local
+abbrev local_of : ℕ → Frame → List Frame → Stack
 local_of n f fs = record { left = n; top = f; below = fs }
 
 local_alike : (n m : ℕ) (f g : Frame) (fs gs : List Frame) → n ≡ m → f ≡ g → fs ≡ gs → local_of n f fs ≡ local_of m g gs
 local_alike n m f g fs gs a b c = cc
 
-pub local_identical : (frame_eq : Frame → Frame → Bool) → IsIdentity frame_eq → (same : Local → Local → Bool) → ((a b : Local) → same a b ≡ (nat_eq a.left b.left && (frame_eq a.top b.top && pointwise frame_eq (reverse a.below) (reverse b.below)))) → IsIdentity same
+pub local_identical : (frame_eq : Frame → Frame → Bool) → IsIdentity frame_eq → (same : Stack → Stack → Bool) → ((a b : Stack) → same a b ≡ (nat_eq a.left b.left && (frame_eq a.top b.top && pointwise frame_eq (reverse a.below) (reverse b.below)))) → IsIdentity same
 local_identical frame_eq frame_is same is a b e =
     let g = both (nat_eq a.left b.left) _ (sym (is a b) ∙ e) in
     let h = both (frame_eq a.top b.top) _ g.1 in
@@ -154,7 +154,7 @@ apart_at values (target.Side Second k) n w e = apart_kind values k n w e
 -- ---- what requests name
 
 abbrev AskOf : Type 0
-AskOf = Request Any AnyRead Local
+AskOf = Request Any AnyRead Stack
 
 module _ (c : flat.Code) where
   -- a request names what there is
@@ -169,7 +169,7 @@ module _ (c : flat.Code) where
   TurnThere (Goes top below) = Unit {0}
   TurnThere (Asks r) = NamesThere r
 
-  went_there : (l : Local) (go : Frame → List Frame → FlatAsked) → ((top : Frame) (below : List Frame) → NamesThere (go top below).request) → (t : FlatTurn) → TurnThere t → NamesThere (went c l go t).request
+  went_there : (l : Stack) (go : Frame → List Frame → FlatAsked) → ((top : Frame) (below : List Frame) → NamesThere (go top below).request) → (t : FlatTurn) → TurnThere t → NamesThere (went c l go t).request
   went_there l go on (Goes top below) t = on top below
   went_there l go on (Asks r) t = t
 
@@ -247,23 +247,23 @@ module _ (c : flat.Code) where
       let l = returned c top below (suc n) in
       went_there l (run c n) (run_there n) (flat_turn c l) (frame_there l.top l.below l.top.events)
 
-  asked_by : (l : Local) (b : Bool) → NamesThere (if b then run c l.left l.top l.below else record { request = ask.End; at = l }).request
+  asked_by : (l : Stack) (b : Bool) → NamesThere (if b then run c l.left l.top l.below else record { request = ask.End; at = l }).request
   asked_by l true = run_there l.left l.top l.below
   asked_by l false = tt
 
-  pub asked_there : (l : Local) → NamesThere (asked c l).request
+  pub asked_there : (l : Stack) → NamesThere (asked c l).request
   asked_there l = asked_by l (fits c l)
 
   -- a handler that a request adds begins a procedure of two parameters
-  pub adds_two : (l : Local) (k p : ℕ) → (asked c l).request ≡ ask.Add k p → takes 2 (routine c p) ≡ true
+  pub adds_two : (l : Stack) (k p : ℕ) → (asked c l).request ≡ ask.Add k p → takes 2 (routine c p) ≡ true
   adds_two l k p e = (subst NamesThere e (asked_there l)).1
 
   -- ---- asked again
 
-  abbrev again : Local → AskOf
+  abbrev again : Stack → AskOf
   again l = (run c l.left l.top l.below).request
 
-  went_again : (l : Local) (n : ℕ) → l.left ≡ suc n → settled c l ≡ l → (go : Frame → List Frame → FlatAsked) → ((top : Frame) (below : List Frame) → again (go top below).at ≡ (go top below).request) → (t : FlatTurn) → flat_turn c l ≡ t → again (went c l go t).at ≡ (went c l go t).request
+  went_again : (l : Stack) (n : ℕ) → l.left ≡ suc n → settled c l ≡ l → (go : Frame → List Frame → FlatAsked) → ((top : Frame) (below : List Frame) → again (go top below).at ≡ (go top below).request) → (t : FlatTurn) → flat_turn c l ≡ t → again (went c l go t).at ≡ (went c l go t).request
   went_again l n left is go on (Goes top below) e = on top below
   went_again l n left is go on (Asks r) e =
       let here : returned c l.top l.below (suc n) ≡ l = ap (returned c l.top l.below) (sym left) ∙ is in
@@ -279,7 +279,7 @@ module _ (c : flat.Code) where
       let l = returned c top below (suc n) in
       went_again l n (returned_left c top below (suc n)) (settled_again c top below (suc n)) (run c n) (run_again n) (flat_turn c l) refl
 
-  pub asked_again : (l : Local) → (asked c (asked c l).at).request ≡ (asked c l).request
+  pub asked_again : (l : Stack) → (asked c (asked c l).at).request ≡ (asked c l).request
   asked_again l = by (fits c l) refl
     where
       by : (b : Bool) → fits c l ≡ b → (let a = if b then run c l.left l.top l.below else record { request = ask.End; at = l } in (asked c a.at).request ≡ a.request)

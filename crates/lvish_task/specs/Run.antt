@@ -34,7 +34,7 @@ use Rattle.lvish_compound.specs.declared.number_test.Test.TheVariants as test
 use Rattle.lvish_compound.specs.declared.any.Any.{Any}
 use Rattle.lvish_compound.specs.declared.any_read.AnyRead.{AnyRead}
 use Rattle.lvish_task.specs.declared.frame.Frame.{Frame}
-use Rattle.lvish_task.specs.declared.local.Local.{Local}
+use Rattle.lvish_task.specs.declared.stack.Stack.{Stack}
 use Rattle.lvish_task.specs.declared.code.Code.{Code}
 use Rattle.lvish_task.specs.Meaning.{turns, taken, whole_place, side_kind}
 
@@ -97,19 +97,19 @@ stepped f values = record f { place = f.place + 1; values = values }
 -- one turn: a local statement, which leads to these frames, or a request
 pub data FlatTurn : Type 0 where
   Goes : Frame → List Frame → FlatTurn
-  Asks : Request Any AnyRead Local → FlatTurn
+  Asks : Request Any AnyRead Stack → FlatTurn
 
 -- a request, and the local state in which it is made
 pub record FlatAsked : Type 0 where
-  pub request : Request Any AnyRead Local
-  pub at : Local
+  pub request : Request Any AnyRead Stack
+  pub at : Stack
 
 -- a routine at its first instruction, the other locals 0
 abbrev pub begun : ℕ → List ℤ → Routine → Frame
 begun k arguments r = record { place = 0; procedure = k; values = arguments ++ replicate (r.locals - length arguments) (pos 0); each = 0; events = [] }
 
 -- a task in one frame
-abbrev pub alone : Frame → Local
+abbrev pub alone : Frame → Stack
 alone f = record { left = turns; top = f; below = [] }
 
 abbrev pub putting : ℕ → Option Any → FlatTurn
@@ -128,12 +128,12 @@ assigned top below x (Err k) = Asks (ask.Fault k)
 -- ---- a turn, seen from the local state in which it is taken
 
 -- what it asks for, if it is a request
-abbrev pub requested : FlatTurn → Option (Request Any AnyRead Local)
+abbrev pub requested : FlatTurn → Option (Request Any AnyRead Stack)
 requested (Goes top below) = None
 requested (Asks r) = Some r
 
 -- the local state after it: the same, if it is a request
-abbrev pub moved : Local → FlatTurn → Local
+abbrev pub moved : Stack → FlatTurn → Stack
 moved l (Goes top below) = record { left = l.left - 1; top = top; below = below }
 moved l (Asks r) = l
 
@@ -181,7 +181,7 @@ module _ (c : flat.Code) where
   callee k arguments = callee_in k arguments (routine k)
 
   -- a task that begins so; nowhere, if there is no procedure that takes the arguments
-  abbrev pub started : ℕ → List ℤ → Local
+  abbrev pub started : ℕ → List ℤ → Stack
   started k arguments = alone (unwrap_or (callee k arguments) nowhere)
 
   abbrev pub entered : Frame → List Frame → Option Frame → FlatTurn
@@ -220,7 +220,7 @@ module _ (c : flat.Code) where
   frame_turn top below [] = instruction_turn top below (instruction top)
   frame_turn top below (e ∷ es) = called top.each (e.key ∷ e.number ∷ []) (record top { events = es }) below
 
-  abbrev pub flat_turn : Local → FlatTurn
+  abbrev pub flat_turn : Stack → FlatTurn
   flat_turn l = frame_turn l.top l.below l.top.events
 
   -- ---- up to the next request
@@ -230,14 +230,14 @@ module _ (c : flat.Code) where
   is_over f = (length f.events == 0) && is_end (instruction f)
 
   -- out of each frame in which nothing follows, but the first, and past jumps
-  abbrev pub returned : Frame → List Frame → ℕ → Local
+  abbrev pub returned : Frame → List Frame → ℕ → Stack
   returned top [] left = record { left = left; top = landed top; below = [] }
   returned top (f ∷ below) left = if is_over (landed top) then returned f below left else record { left = left; top = landed top; below = f ∷ below }
 
-  abbrev pub settled : Local → Local
+  abbrev pub settled : Stack → Stack
   settled l = returned l.top l.below l.left
 
-  abbrev pub went : Local → (Frame → List Frame → FlatAsked) → FlatTurn → FlatAsked
+  abbrev pub went : Stack → (Frame → List Frame → FlatAsked) → FlatTurn → FlatAsked
   went l go (Goes top below) = go top below
   went l go (Asks r) = record { request = r; at = l }
 
@@ -249,7 +249,7 @@ module _ (c : flat.Code) where
       went l (run n) (flat_turn l)
 
   -- the same from a settled local state
-  abbrev pub pending : ℕ → Local → FlatAsked
+  abbrev pub pending : ℕ → Stack → FlatAsked
   pending zero l = record { request = ask.Pause; at = l }
   pending (suc n) l = went l (run n) (flat_turn l)
 
@@ -264,11 +264,11 @@ module _ (c : flat.Code) where
   fits_frame f = fits_in f (routine f.procedure)
 
   -- at most 64 frames that fit, and at most 1,000 local statements left
-  abbrev pub fits : Local → Bool
+  abbrev pub fits : Stack → Bool
   fits l = fits_frame l.top && list_all fits_frame l.below && nat_le (length l.below) 63 && nat_le l.left turns
 
   -- the request that comes next, and the local state in which it is made; End at once where the local state doesn't fit
-  abbrev pub asked : Local → FlatAsked
+  abbrev pub asked : Stack → FlatAsked
   asked l = if fits l then run l.left l.top l.below else record { request = ask.End; at = l }
 
   -- ---- what follows a reply
@@ -279,7 +279,7 @@ module _ (c : flat.Code) where
   resumed_top f r (suc n) = after f r (instruction f)
 
   -- the local state after the reply to the request that is made in this one; the same where it doesn't fit
-  abbrev pub resumed : Local → Reply Any ℤ → Local
+  abbrev pub resumed : Stack → Reply Any ℤ → Stack
   resumed l r = if fits l then record { left = turns; top = resumed_top l.top r l.left; below = l.below } else l
 
 -- ---- code as a program
@@ -289,7 +289,7 @@ abbrev pub pool_variable : flat.Code → ℕ → Option ℕ
 pool_variable c p = slice_get c.pools p
 
 -- the functions of the code
-abbrev pub functions : Code → Functions Any Event AnyRead ℤ Local
+abbrev pub functions : Code → Functions Any Event AnyRead ℤ Stack
 functions c = record {
   variables = length c.flat.kinds;
   pool_variable = pool_variable c.flat;
@@ -301,5 +301,5 @@ functions c = record {
 }
 
 -- whether a local state is one of the code
-abbrev pub is_fitting : Code → Local → Bool
+abbrev pub is_fitting : Code → Stack → Bool
 is_fitting c l = fits c.flat l

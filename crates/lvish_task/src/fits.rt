@@ -51,9 +51,10 @@ impl Code {
     pub fn fits(&self, local: &Local) -> bool
         ensures { result ≡ is_fitting self.now local.now }
     {
-        self.fits_frame(&local.top)
-            && self.fit_all(&local.below)
-            && local.below.len() <= DEPTH
-            && local.left <= TURNS
+        let stack = local.stack();
+        self.fits_frame(&stack.top)
+            && self.fit_all(&stack.below)
+            && stack.below.len() <= DEPTH
+            && stack.left <= TURNS
     }
 }

@@ -14,6 +14,7 @@ mod program;
 mod remaining;
 mod resume;
 mod run;
+mod stack;
 mod states;
 mod step;
 mod turn;

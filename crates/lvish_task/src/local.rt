@@ -1,29 +1,70 @@
 ghost use Rattle.std.specs.Prelude.{◌≡◌, IfOk};
 
-use crate::frame::Frame;
-use crate::frames::Frames;
+use crate::stack::Stack;
 use std::alloc::{AllocError, Global};
+use std::marker::Model;
+use std::sync::Arc;
 
 /// The local state of a task: its frames, and how many local statements are left before a pause.
 ///
-/// `==` holds of identical local states alone. It compares numbers before lists, so that it is
-/// quick where they differ.
-#[derive(Debug, Drop, PartialEq, Eq)]
+/// Copies share it. `==` holds of identical local states alone.
+#[derive(Debug, Drop)]
 pub struct Local {
-    pub(crate) left: usize,
-    pub(crate) top: Frame,
-    pub(crate) below: Frames,
+    stack: Arc<Stack>,
+}
+
+impl Model for Local {
+    ghost use Rattle.std.specs.Arc.{arc_value};
+    ghost use Rattle.lvish_task.specs.declared.stack.Stack.{Stack};
+
+    ghost Value = { Stack };
+
+    ghost view = { λ l. arc_value l.stack };
+}
+
+impl PartialEq for Local {
+    ghost use Rattle.lvish_task.specs.contracts.stack.StackPartialEq.TheImpl.Laws.{laws-law};
+
+    ghost eq = { ⟦<Stack as PartialEq>⟧.eq };
+
+    ghost laws = { laws-law };
+
+    fn eq(&self, other: &Local) -> bool {
+        self.stack() == other.stack()
+    }
+}
+
+impl Eq for Local {
+    ghost use Rattle.lvish_task.specs.contracts.stack.StackEq.TheImpl.Laws.{laws-law};
+
+    ghost laws = { laws-law };
 }
 
 impl Local {
-    /// An equal local state.
-    pub fn copy(&self, alloc: Global) -> Result<Local, AllocError>
+    /// A local state that holds the stack.
+    pub(crate) fn new(alloc: Global, stack: Stack) -> Result<Local, AllocError>
+        ensures { IfOk result (λ l. l ≡ stack) }
+    {
+        let stack = Arc::new(alloc, stack)?;
+        Ok(Local { stack })
+    }
+
+    /// What it holds.
+    pub(crate) fn stack(&self) -> &Stack
+        ensures { result.now ≡ self.now }
+    {
+        &self.stack
+    }
+
+    /// The same local state, which both share.
+    ///
+    /// # Errors
+    ///
+    /// Where more share it than can be counted.
+    pub fn copy(&self) -> Result<Local, AllocError>
         ensures { IfOk result (λ l. l ≡ self.now) }
     {
-        Ok(Local {
-            left: self.left,
-            top: self.top.copy(alloc)?,
-            below: self.below.copy(alloc)?,
-        })
+        let stack = self.stack.clone()?;
+        Ok(Local { stack })
     }
 }

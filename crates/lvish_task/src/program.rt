@@ -38,8 +38,8 @@ impl Program for Code {
         self.begin(alloc, procedure, [event.key, event.number].to_vec(alloc)?)
     }
 
-    fn copy_local(&self, alloc: Global, local: &Local) -> Result<Local, AllocError> {
-        local.copy(alloc)
+    fn copy_local(&self, _alloc: Global, local: &Local) -> Result<Local, AllocError> {
+        local.copy()
     }
 
     fn ask(&self, alloc: Global, local: &Local) -> Result<Asks<Any, AnyRead, Local>, AllocError> {

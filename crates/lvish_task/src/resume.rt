@@ -1,5 +1,5 @@
 ghost use Rattle.std.specs.Prelude.{◌≡◌, ◌<◌, ◌+◌, ◌^◌, IfOk, OnOk};
-ghost use Rattle.lvish_task.specs.Run.{answered, resumed, asked};
+ghost use Rattle.lvish_task.specs.Run.{answered, asked, resumed, resumed_top};
 
 use crate::code::Code;
 use crate::frame::Frame;
@@ -46,13 +46,15 @@ impl Code {
         ensures request { IfOk result (λ a. a.0 ≡ (asked self.now.flat local.now).request) }
         ensures at { IfOk result (λ a. a.1 ≡ (asked self.now.flat local.now).at) }
     {
-        let mut at = local.copy(alloc)?;
-        if self.fits(local) {
-            let request = self.run(alloc, &mut at)?;
-            Ok((request, at))
-        } else {
-            Ok((Request::End, at))
+        if !self.fits(local) {
+            return Ok((Request::End, local.copy()?));
         }
+        if let Some(request) = self.request_here(alloc, local.stack())? {
+            return Ok((request, local.copy()?));
+        }
+        let mut at = local.stack().copy(alloc)?;
+        let request = self.run(alloc, &mut at)?;
+        Ok((request, Local::new(alloc, at)?))
     }
 
     /// The local state after the reply to the request that `at` makes.
@@ -64,16 +66,33 @@ impl Code {
     ) -> Result<Local, AllocError>
         ensures { IfOk result (λ l. l ≡ resumed self.now.flat at.now reply) }
     {
-        let mut next = at.copy(alloc)?;
         if !self.fits(at) {
-            return Ok(next);
+            return at.copy();
         }
-        if at.left > 0 {
-            if let Some(Instruction::Ask(action)) = self.instruction(&at.top) {
-                next.top.answer(alloc, action, reply)?;
-            }
-        }
+        let stack = at.stack();
+        let mut next = stack.copy(alloc)?;
+        self.go_on(alloc, &mut next.top, stack.left, reply)?;
         next.left = TURNS;
-        Ok(next)
+        Local::new(alloc, next)
+    }
+
+    /// Goes on after the reply, in the innermost frame, where so many local statements are left: the
+    /// same follows a pause, which comes where none is.
+    fn go_on(
+        &self,
+        alloc: Global,
+        frame: &mut Frame,
+        left: usize,
+        reply: Reply<Any, i64>,
+    ) -> Result<(), AllocError>
+        ensures { OnOk result (frame.new ≡ resumed_top self.now.flat frame.old reply left) }
+    {
+        if left == 0 {
+            return Ok(());
+        }
+        match self.instruction(frame) {
+            Some(Instruction::Ask(action)) => frame.answer(alloc, action, reply),
+            _ => Ok(()),
+        }
     }
 }

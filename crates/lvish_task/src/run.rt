@@ -5,7 +5,7 @@ ghost use Rattle.lvish_task.specs.Jumps.{JumpsStay, AllLand, HasRoom};
 
 use crate::code::Code;
 use crate::frame::Frame;
-use crate::local::Local;
+use crate::stack::Stack;
 use lvish_code::{Instruction, Routine};
 use std::alloc::{AllocError, Global};
 
@@ -85,7 +85,7 @@ impl Code {
     }
 
     /// Out of each frame in which nothing follows, but the first, and past jumps.
-    pub(crate) fn settle(&self, local: &mut Local)
+    pub(crate) fn settle(&self, local: &mut Stack)
         ensures { local.new ≡ settled self.now.flat local.old }
     {
         while self.lands_at_its_end(&mut local.top) {

@@ -1,17 +1,17 @@
-ghost use Rattle.std.specs.Prelude.{◌≡◌, ◌<◌, ◌+◌, ◌-◌, ◌^◌, IfOk};
+ghost use Rattle.std.specs.Prelude.{◌≡◌, ◌<◌, ◌+◌, ◌-◌, ◌^◌, IfOk, IfSome};
 ghost use Rattle.lvish_task.specs.Run.{operand_value, expression_value, assigned, placed, instruction_turn, flat_turn, requested, moved, run};
 ghost use Rattle.lvish_task.specs.Jumps.{HasRoom};
 ghost use Rattle.lvish_task.specs.Meaning.{taken};
 
 use crate::code::Code;
 use crate::evaluate::{evaluate, value_of};
-use crate::local::Local;
+use crate::stack::Stack;
 use crate::turn::Ask;
 use lvish_calculus::Request;
 use lvish_code::{Expression, Instruction, Operand};
 use std::alloc::{AllocError, Global};
 
-impl Local {
+impl Stack {
     /// A `let`, which fails or gives its local a value.
     fn assign(&mut self, local: usize, expression: Expression) -> Option<Ask>
         requires left { 0 < self.old.left }
@@ -49,7 +49,7 @@ impl Code {
     fn execute(
         &self,
         alloc: Global,
-        local: &mut Local,
+        local: &mut Stack,
         instruction: &Instruction,
     ) -> Result<Option<Ask>, AllocError>
         requires left { 0 < local.old.left }
@@ -80,7 +80,7 @@ impl Code {
     }
 
     /// One local statement, or the request that the task makes.
-    fn turn(&self, alloc: Global, local: &mut Local) -> Result<Option<Ask>, AllocError>
+    fn turn(&self, alloc: Global, local: &mut Stack) -> Result<Option<Ask>, AllocError>
         requires left { 0 < local.old.left }
         ensures asks { IfOk result (λ r. r ≡ requested (flat_turn self.now.flat local.old)) }
         ensures moves { IfOk result (λ _. local.new ≡ moved local.old (flat_turn self.now.flat local.old)) }
@@ -94,8 +94,28 @@ impl Code {
         }
     }
 
+    /// The request that a task makes right where it stands; `None` where it may be at none.
+    pub(crate) fn request_here(
+        &self,
+        alloc: Global,
+        local: &Stack,
+    ) -> Result<Option<Ask>, AllocError>
+        ensures { IfOk result (λ r. IfSome r (λ q. run self.now.flat local.now.left local.now.top local.now.below ≡ record { request = q; at = local.now })) }
+    {
+        if local.left == 0 || !local.top.events.is_empty() {
+            return Ok(None);
+        }
+        match self.instruction(&local.top) {
+            Some(Instruction::Ask(action)) => {
+                Ok(Some(self.request(alloc, &local.top.values, action)?))
+            }
+            Some(Instruction::Return) if local.below.is_empty() => Ok(Some(Request::End)),
+            _ => Ok(None),
+        }
+    }
+
     /// Runs local statements up to the next request, for as many as are left.
-    pub(crate) fn run(&self, alloc: Global, local: &mut Local) -> Result<Ask, AllocError>
+    pub(crate) fn run(&self, alloc: Global, local: &mut Stack) -> Result<Ask, AllocError>
         ensures request { IfOk result (λ r. r ≡ (run self.now.flat local.old.left local.old.top local.old.below).request) }
         ensures at { IfOk result (λ _. local.new ≡ (run self.now.flat local.old.left local.old.top local.old.below).at) }
     {

@@ -8,6 +8,7 @@ use crate::frame::Frame;
 use crate::frames::Frames;
 use crate::local::Local;
 use crate::remaining::Remaining;
+use crate::stack::Stack;
 use crate::states::{put_at, read_at};
 use crate::values::Values;
 use lvish_calculus::{ErrorKind, Pools, Request};
@@ -25,7 +26,7 @@ pub const DEPTH: usize = 63;
 /// The local statements between two pauses.
 pub const TURNS: usize = 1000;
 
-impl Local {
+impl Stack {
     /// Into a frame above the others: a local statement.
     fn enter(&mut self, callee: Frame) -> Result<(), AllocError>
         requires { 0 < self.old.left }
@@ -75,11 +76,15 @@ impl Code {
                 events: Remaining::new(),
             },
         };
-        Ok(Local {
-            left: TURNS,
-            top,
-            below: Frames::new(alloc),
-        })
+        let below = Frames::new(alloc);
+        Local::new(
+            alloc,
+            Stack {
+                left: TURNS,
+                top,
+                below,
+            },
+        )
     }
 
     /// What an action asks for.
@@ -122,7 +127,7 @@ impl Code {
     pub(crate) fn call(
         &self,
         alloc: Global,
-        local: &mut Local,
+        local: &mut Stack,
         procedure: usize,
         operands: &[Operand],
     ) -> Result<Option<Ask>, AllocError>
@@ -149,7 +154,7 @@ impl Code {
     pub(crate) fn hand(
         &self,
         alloc: Global,
-        local: &mut Local,
+        local: &mut Stack,
         event: Event,
     ) -> Result<Option<Ask>, AllocError>
         requires left { 0 < local.old.left }

@@ -1,8 +1,8 @@
-use Rattle.std.proofs.Common.{true, sym, ◌∙◌, inr, refl}
+use Rattle.std.proofs.Common.{sym, inr, refl}
 use Rattle.lvish_names.proofs.NameLaws.{name_cmp-iff}
 use Rattle.lvish_calculus.specs.declared.label.Label.TheVariants.{Task, Hand}
 use Rattle.lvish_calculus.specs.Program.{machine_of}
-use Rattle.lvish_run.specs.Agenda.{open_in, IsFor}
+use Rattle.lvish_run.specs.Agenda.{open_in}
 use Rattle.lvish_run.proofs.Agendas.{one_ok}
 use Rattle.lvish_run.proofs.Firsts.{open_task, without_task, still_open}
 use Rattle.lvish_run.proofs.Turns.{drawn_some, drawn_none, drawn_can, drawn_acted, drawn_handed}

@@ -1,4 +1,4 @@
-use Rattle.std.proofs.Common.{◌≡◌, None, inl, inr, IsSome, is_some, sym, ap, ◌∙◌}
+use Rattle.std.proofs.Common.{inl, inr, is_some, ap}
 use Rattle.std.proofs.lemmas.Bool.{both_ways}
 use Rattle.lvish_calculus.specs.declared.label.Label.TheVariants.{Task}
 use Rattle.lvish_calculus.specs.Program.{machine_of}

@@ -1,5 +1,4 @@
-use Rattle.std.proofs.Common.{refl, ap}
-use Rattle.std.specs.Prelude.{is_some}
+use Rattle.std.proofs.Common.{refl}
 use Rattle.lvish_calculus.specs.Program.{machine_of}
 use Rattle.lvish_run.proofs.Firsts.{handler_there}
 use Rattle.lvish_run.proofs.turn.take_hand.Goals as goal
