@@ -1,0 +1,122 @@
+//! Answers to questions.
+
+ghost use Rattle.std.specs.Prelude.{◌≡◌, ◌≤◌};
+
+use crate::naming::{Naming, Of};
+use crate::row::Row;
+use crate::table::{write_calls, write_run, write_steps};
+use lvish_script::read_script;
+use lvish_task::Code;
+use std::alloc::{AllocError, Global};
+use std::marker::Brand;
+
+/// What is asked of a board.
+#[derive(Clone, Copy)]
+pub enum Asks<'t> {
+    /// What it answers to the calls of these lines.
+    Calls(&'t str),
+    /// What it comes to, all of its work done in the order of this seed.
+    Run(u64),
+    /// The steps that it makes then.
+    Trace(u64),
+}
+
+/// The answer to a row's question, which is about boards of its script.
+pub fn answer_of(alloc: Global, row: Row<'_>) -> Result<String, AllocError> {
+    let code = code_of(alloc, row.script)?;
+    let mut text = String::new(alloc);
+    write_answer(alloc, &code, &mut text, row)?;
+    Ok(text)
+}
+
+/// The script's code. Where it is no script, there is none, as for want of memory.
+fn code_of(alloc: Global, script: &str) -> Result<Code, AllocError> {
+    match read_script(alloc, script.as_bytes()) {
+        Ok(script) => Code::new(alloc, &script),
+        Err(_fault) => Err(AllocError),
+    }
+}
+
+fn write_answer(
+    alloc: Global,
+    code: &Code,
+    text: &mut String,
+    row: Row<'_>,
+) -> Result<(), AllocError> {
+    let words: Vec<&str> = row.question.split_whitespace().collect(alloc)?;
+    match words.as_slice() {
+        ["calls", budget] => write_one(
+            alloc,
+            code,
+            text,
+            number(budget),
+            Asks::Calls(row.expected),
+        ),
+        ["trace", budget, seed] => {
+            write_one(alloc, code, text, number(budget), Asks::Trace(number(seed)))
+        }
+        ["runs", budgets, seeds] => write_runs(alloc, code, text, span(budgets), span(seeds)),
+        _ => text.push_str("no such question"),
+    }
+}
+
+fn number(word: &str) -> u64 {
+    word.parse::<u64>().unwrap_or(0)
+}
+
+/// The first and the last of numbers, as `0-44`; or a number alone.
+fn span(word: &str) -> (u64, u64) {
+    let (first, last) = word.split_once('-').unwrap_or((word, word));
+    (number(first), number(last))
+}
+
+/// A line for each run with one of these budgets and one of these seeds.
+fn write_runs(
+    alloc: Global,
+    code: &Code,
+    text: &mut String,
+    budgets: (u64, u64),
+    seeds: (u64, u64),
+) -> Result<(), AllocError> {
+    for budget in budgets.0..=budgets.1 {
+        for seed in seeds.0..=seeds.1 {
+            if !text.is_empty() {
+                text.push_str("\n")?;
+            }
+            write_one(alloc, code, text, budget, Asks::Run(seed))?;
+        }
+    }
+    Ok(())
+}
+
+/// What a board with this budget answers.
+fn write_one(
+    alloc: Global,
+    code: &Code,
+    text: &mut String,
+    budget: u64,
+    asks: Asks<'_>,
+) -> Result<(), AllocError> {
+    if budget > 1_000_000 {
+        return text.push_str("no such budget");
+    }
+    write_named::<Brand>(alloc, code, text, budget, asks)
+}
+
+fn write_named<N: Naming>(
+    alloc: Global,
+    code: &Code,
+    text: &mut String,
+    budget: u64,
+    asks: Asks<'_>,
+) -> Result<(), AllocError>
+    requires program { code.now ≡ N.code }
+    requires budget { budget ≡ N.budget }
+    requires bounded { N.budget ≤ 1000000 }
+{
+    match asks {
+        Asks::Calls(lines) => write_calls::<Code, Of<N>>(alloc, code, text, budget, lines),
+        Asks::Run(seed) => write_run::<Code, Of<N>>(alloc, code, text, budget, seed),
+        Asks::Trace(seed) => write_steps::<Code, Of<N>>(alloc, code, text, budget, seed),
+    }
+}
