@@ -1,6 +1,6 @@
 //! A task's step.
 
-ghost use Rattle.std.specs.Prelude.{◌≡◌, ◌≢◌, ◌++◌, ◌∷◌, ◌↔◌, ◌⊎◌, [], true, false, None, Some, IsSome};
+ghost use Rattle.std.specs.Prelude.{◌≡◌, ◌≢◌, ◌++◌, ◌∷◌, ◌↔◌, ◌⊎◌, [], true, false, None, Some, IsSome, IsTrue};
 ghost use Rattle.lvish_calculus.specs.declared.label.Label.TheVariants.{Task};
 ghost use Rattle.lvish_board.specs.declared.work.Work.TheVariants.{Act as ActOn};
 ghost use Rattle.lvish_board.specs.Acts.{entry_of, is_step, is_gone, is_over, is_stale, is_parked, GivesBack, IsDone, ListsWork, KeepsAtMemory};
@@ -36,10 +36,10 @@ impl<'p, P: Program, J: Named<P>> Board<'p, P, J> {
         if self.over.is_some() {
             return Act::Over;
         }
-        if self.core.local_of(asked.task()) != Some(asked.from()) {
+        if !self.is_current(&asked) {
             return Act::Stale;
         }
-        if !self.core.can(asked.task(), &asked.asks().request) {
+        if !self.can_go_on(&asked) {
             return self.park(alloc, asked);
         }
         if self.trace.len() as u64 >= self.budget {
@@ -47,6 +47,21 @@ impl<'p, P: Program, J: Named<P>> Board<'p, P, J> {
             return Act::Over;
         }
         self.make(alloc, worker, asked)
+    }
+
+    /// Whether the task is there, in the local state in which it asks.
+    fn is_current(&self, asked: &Asked<P, J>) -> bool
+        ensures { IsTrue result ↔ (⟦<P as Runs>⟧.local_in self.now.core asked.now.task ≡ Some asked.now.from) }
+    {
+        self.core.local_of(asked.task()) == Some(asked.from())
+    }
+
+    /// Whether the step of a task can be made.
+    fn can_go_on(&self, asked: &Asked<P, J>) -> bool
+        requires current { ⟦<P as Runs>⟧.local_in self.now.core asked.now.task ≡ Some asked.now.from }
+        ensures { IsTrue result ↔ ⟦<P as Runs>⟧.can_take self.now.core (Task asked.now.task) }
+    {
+        self.core.can(asked.task(), &asked.asks().request)
     }
 
     /// Keeps a task that can't go on.
