@@ -21,6 +21,8 @@ import math
 import random
 
 SIMPLE = ("cell", "set", "max")
+# Those that are read at a key, and those whose numbers are levels that a get can wait for.
+KEYED, LEVELS = ("map", "tally"), ("max", "tally")
 OPERATORS = "+-*/%<="
 HUGE = (9223372036854775807, -9223372036854775808, 3037000500, -4611686018427387905)
 # The most steps of a calm script, and the most local statements that a procedure executes.
@@ -28,26 +30,28 @@ MOST_COST, MOST_WORK = 300, 150
 
 
 class Part:
-    """A cell, a set, a counter or a map, and which numbers calm scripts put there."""
+    """A cell, a set, a counter, a map or a tally, and which numbers calm scripts put there."""
 
     def __init__(self, rng, kind):
         self.kind = kind
         self.value = rng.randint(-50, 50)
         self.size = rng.randint(2, 5)
-        self.top = rng.randint(1, 9)
+        self.top = rng.randint(1, 3 if kind == "tally" else 9)
         self.factor = rng.randint(-3, 3)
 
     def events(self):
         """How many events there can be at most."""
-        return {"cell": 1, "set": 2 * self.size, "max": self.top, "map": 2 * self.size}[self.kind]
+        keys = 2 * self.size
+        return {"cell": 1, "set": keys, "max": self.top, "map": keys, "tally": keys * self.top}[self.kind]
 
     def at(self, key):
         """The number that a calm script puts at the key of a map."""
         return key * self.factor + self.value
 
     def number(self, rng):
-        """A number that a calm script may put."""
-        return {"cell": self.value, "set": rng.randrange(self.size), "max": rng.randint(0, self.top)}[self.kind]
+        """A number that a calm script may put, into a tally at any key."""
+        level = rng.randint(0, self.top)
+        return {"cell": self.value, "set": rng.randrange(self.size), "max": level, "tally": level}[self.kind]
 
 
 class Variable:
@@ -89,6 +93,7 @@ class Maker:
     def __init__(self, rng, kind):
         self.rng, self.kind = rng, kind
         self.is_calm = kind in ("calm", "frozen")
+        self.has_tallies = rng.random() < 0.3
         self.variables, self.procedures = [], []
         self.seen, self.sure = [], []
         self.frozen, self.free = [], []
@@ -97,7 +102,7 @@ class Maker:
 
     def kinds(self):
         """A kind of variable."""
-        kind = self.rng.choice(("cell", "set", "set", "max", "map", "pair"))
+        kind = self.rng.choice(("cell", "set", "set", "max", "map", "pair", *["tally"] * 2 * self.has_tallies))
         return (kind, self.rng.choice(SIMPLE), self.rng.choice(SIMPLE)) if kind == "pair" else (kind,)
 
     def declare(self, count, prefix):
@@ -154,7 +159,7 @@ class Maker:
     def wild_number(self, part):
         if self.rng.random() < 0.6:
             return part.number(self.rng)
-        if part.kind == "max":
+        if part.kind in LEVELS:
             return self.rng.choice((0, 1, 999, 1000, 1000, 1001, -1))
         return self.rng.randint(-4, 9)
 
@@ -183,9 +188,12 @@ class Maker:
         return name
 
     def entry_for(self, at, part):
-        """The key and the number that are put into a map."""
+        """The key and the number that are put into a map or a tally."""
         if not self.is_calm:
-            return [self.rng.randint(0, 3) if self.rng.random() < 0.6 else self.term(at), self.term(at)]
+            number = self.number_for(at, part) if part.kind == "tally" else self.term(at)
+            return [self.rng.randint(0, 3) if self.rng.random() < 0.6 else self.term(at), number]
+        if part.kind == "tally":
+            return self.amount_for(at, part)
         if self.rng.random() < 0.5:
             key = self.rng.randrange(part.size)
             return [key, part.at(key)]
@@ -194,12 +202,20 @@ class Maker:
         at.line("let", number, number, "+", part.value)
         return [key, number]
 
+    def amount_for(self, at, part):
+        """The key and the amount that a calm script puts into a tally."""
+        if self.rng.random() < 0.5:
+            return [self.rng.randrange(part.size), part.number(self.rng)]
+        amount = self.assigned(at, "u")
+        at.line("let", amount, self.level(at, part.top))
+        return [self.remainder(at, part.size), amount]
+
     def put(self, at):
         """A put into one of the variables that the procedure may put into."""
         variable = self.rng.choice(at.targets)
         side = self.rng.randrange(len(variable.parts))
         part = variable.parts[side]
-        words = self.entry_for(at, part) if part.kind == "map" else [self.number_for(at, part)]
+        words = self.entry_for(at, part) if part.kind in KEYED else [self.number_for(at, part)]
         if variable.kinds[0] == "pair":
             words = [side + 1, *words]
         at.line("put", variable.name, *words)
@@ -220,33 +236,43 @@ class Maker:
         side = self.rng.randrange(len(variable.parts))
         part = variable.parts[side]
         number = self.rng.randint(0, 9)
-        key = [self.rng.randint(0, 3)] if part.kind == "map" else []
+        key = [self.rng.randint(0, 3)] if part.kind in KEYED else []
         if self.seen and self.rng.random() < 0.9:
             variable, side, words = self.rng.choice(self.seen)
             part, number = variable.parts[side], words[-1]
-            key = words[:1] if part.kind == "map" else []
+            key = words[:1] if part.kind in KEYED else []
+        if part.kind == "tally" and self.rng.random() < 0.4:
+            at.line("get", self.target(at), variable.name, "total", self.total(at, part, number))
+            at.acts()
+            return
         place = [side + 1] if variable.kinds[0] == "pair" else key
         passes = self.passes(at, part, number)
         at.line("get", self.target(at), variable.name, *place, *passes)
         at.acts()
 
+    def total(self, at, part, number):
+        """A total that a get waits for; where it is the number, it passes with it."""
+        if not self.is_calm:
+            return self.rng.choice((0, number, part.top, 9999, 10000, 10001, -1, self.term(at)))
+        return self.level(at, part.top) if self.rng.random() < 0.3 else self.rng.choice((number, part.top + 1))
+
     def passes(self, at, part, number):
         """What a get waits for, which passes with the number."""
-        if self.rng.random() < 0.4 or (part.kind == "max" and not 0 <= number <= 1000):
+        if self.rng.random() < 0.4 or (part.kind in LEVELS and not 0 <= number <= 1000):
             return ["in", *self.members(part, number)]
         if part.kind in ("cell", "map"):
             return ["any"]
         word = "has" if part.kind == "set" else "least"
         if at.locals and self.rng.random() < 0.3:
-            if self.is_calm and part.kind == "max":
+            if self.is_calm and part.kind in LEVELS:
                 return [word, self.level(at, part.top)]
             return [word, self.rng.choice(at.locals)]
         return [word, number]
 
     def members(self, part, number):
-        if part.kind == "max":
+        if part.kind in LEVELS:
             number = min(max(number, 0), 1000)
-        if part.kind in ("set", "max"):
+        if part.kind == "set" or part.kind in LEVELS:
             return [number] * self.rng.randint(1, 2)
         members = [number, *(self.rng.randint(-9, 9) for _ in range(self.rng.randint(0, 3)))]
         self.rng.shuffle(members)
@@ -575,7 +601,9 @@ class Maker:
         if (self.is_calm and main.cost > MOST_COST) or max(it.work for it in written) > MOST_WORK:
             return None
         self.rng.shuffle(written)
-        return dressed(self.rng, self.declarations() + [line for it in written for line in it.text()])
+        version = ["lvish 2"] if self.has_tallies else []
+        lines = [*version, *self.declarations(), *(line for it in written for line in it.text())]
+        return dressed(self.rng, lines)
 
 
 def dressed(rng, lines):
@@ -642,7 +670,7 @@ def form_of(kinds, pools, words):
     if first == "put":
         return f"put {kind_at(kinds, rest)}"
     if first == "get":
-        test = next(it for it in rest[2:] if it in ("any", "in", "has", "least"))
+        test = next(it for it in rest[2:] if it in ("any", "in", "has", "least", "total"))
         return f"get {kind_at(kinds, rest[1:])} {test}"
     if first == "handle":
         return f"handle on {kinds[pools[rest[0]]][0]}"
@@ -661,7 +689,7 @@ def forms_of(lines):
     for line in lines:
         words = line.partition("#")[0].split()
         if words:
-            if words[0] in (*SIMPLE, "map", "pair"):
+            if words[0] in (*SIMPLE, *KEYED, "pair"):
                 kinds[words[1]] = [words[0], *words[2:]]
             if words[0] == "pool":
                 pools[words[1]] = words[2]
@@ -673,8 +701,9 @@ def all_forms():
     """Every line form."""
     reads = {"cell": ("any", "in"), "map": ("any", "in"), "set": ("has", "in"), "max": ("least", "in")}
     reads.update({f"pair's {it}": reads[it] for it in SIMPLE})
-    kinds = (*SIMPLE, "map", "pair")
-    forms = [*SIMPLE, "map", *(f"pair {a} {b}" for a in SIMPLE for b in SIMPLE), "pool", "end", "else", "let"]
+    reads["tally"] = ("least", "in", "total")
+    kinds = (*SIMPLE, *KEYED, "pair")
+    forms = ["lvish", *SIMPLE, *KEYED, *(f"pair {a} {b}" for a in SIMPLE for b in SIMPLE), "pool", "end", "else", "let"]
     forms += [f"let {it}" for it in OPERATORS]
     forms += [f"put {it}" for it in reads] + [f"get {it} {test}" for it, tests in reads.items() for test in tests]
     forms += [f"handle on {it}" for it in kinds]

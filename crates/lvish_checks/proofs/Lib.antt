@@ -4,6 +4,7 @@ pub mod Tabled
 pub mod Scans
 pub mod Loops
 pub mod Lines
+pub mod Versions
 pub mod Forms
 pub mod Order
 pub mod Numbers

@@ -183,7 +183,7 @@ no_repeat_more x (y ∷ xs) r h =
     let first : has_name y (xs ++ x ∷ []) ≡ false = list_any-append (λ z. bytes_eq z y) xs (x ∷ []) ∙ or_from (has_name y xs) _ (left_fails (has_name y xs) (has_repeat xs) r) (or_from (bytes_eq x y) false apart refl) in
     or_from (has_name y (xs ++ x ∷ [])) _ first (no_repeat_more x xs (right_fails (has_name y xs) (has_repeat xs) r) (right_fails (bytes_eq y x) (has_name x xs) h))
 
-drop_at : {X : Type 0} (xs : List X) (k : ℕ) (x : X) → k < length xs → x ≡ get_or xs k x → drop k xs ≡ x ∷ drop (k + 1) xs
+pub drop_at : {X : Type 0} (xs : List X) (k : ℕ) (x : X) → k < length xs → x ≡ get_or xs k x → drop k xs ≡ x ∷ drop (k + 1) xs
 drop_at xs k x lt e = rw add-one (drop-cons xs k x lt ∙ ap (λ y. y ∷ drop (suc k) xs) (sym e))
 
 split_at : {X : Type 0} (xs : List X) (k : ℕ) (x : X) → k < length xs → x ≡ get_or xs k x → take k xs ++ x ∷ drop (k + 1) xs ≡ xs

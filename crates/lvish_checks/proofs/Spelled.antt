@@ -1,6 +1,6 @@
 -- A line that says something has the words of its form, and no others.
 use Rattle.std.proofs.Common.{◌≡◌, ◌≢◌, inl, inr, ℕ, suc, Bool, true, false, ◌&&◌, List, [], ◌∷◌, ◌++◌, length, map, drop, Option, Some, None, refl, sym, ap, subst, ◌∙◌, arith, append-nil}
-use Rattle.std.specs.Prelude.{codes, ◌==◌, take_while, unwrap_or, is_none, is_some, if◌then◌else◌, ℤ, pos}
+use Rattle.std.specs.Prelude.{codes, ◌==◌, take_while, unwrap_or, is_none, if◌then◌else◌, ℤ, pos}
 use Rattle.std.specs.Option.{option_map}
 use Rattle.std.specs.List.{list_any, list_all}
 use Rattle.std.specs.Str.{bytes_eq}
@@ -14,22 +14,22 @@ use Rattle.lvish_syntax.specs.Written.{is_within}
 use Rattle.lvish_syntax.specs.declared.kind.SimpleKind.{SimpleKind}
 use Rattle.lvish_syntax.specs.declared.kind.SimpleKind.TheVariants.{Cell, Set, Max}
 use Rattle.lvish_syntax.specs.declared.kind.VariableKind.{VariableKind}
-use Rattle.lvish_syntax.specs.declared.kind.VariableKind.TheVariants.{Simple, Map, Pair}
+use Rattle.lvish_syntax.specs.declared.kind.VariableKind.TheVariants.{Simple, Map, Pair, Tally}
 use Rattle.lvish_syntax.specs.declared.operator.Operator.{Operator}
 use Rattle.lvish_syntax.specs.declared.term.Term.{Term}
 use Rattle.lvish_syntax.specs.declared.value.Value.{Value}
 use Rattle.lvish_syntax.specs.declared.value.Value.TheVariants.{Same, Combined}
 use Rattle.lvish_syntax.specs.declared.threshold.Threshold.{Threshold}
-use Rattle.lvish_syntax.specs.declared.threshold.Threshold.TheVariants.{Any, In, Has, Least}
+use Rattle.lvish_syntax.specs.declared.threshold.Threshold.TheVariants.{Any, In, Has, Least, Total}
 use Rattle.lvish_syntax.specs.declared.declaration.Declaration.TheVariants.{Variable}
 use Rattle.lvish_syntax.specs.declared.command.Command.{Command}
 use Rattle.lvish_syntax.specs.declared.command.Command.TheVariants as command
 use Rattle.lvish_checks.specs.declared.line.Line.{Line}
-use Rattle.lvish_checks.specs.declared.line.Line.TheVariants.{Blank, Bad, Declare, Proc, Do, If, While, Else, End}
-use Rattle.lvish_checks.specs.Form.{is_number_word, number_of, is_bad_number, value_of_number, number_word, term_of, all_of, terms_of, numbers_of, only, simple_kind, operator_of, or_bad, variable_line, pair_kind, pair_line, pool_line, proc_line, value_of, let_line, put_of, put_line, threshold_after, threshold_of, get_of, get_line, run_line, handle_line, freeze_each, freeze_after, freeze_of, freeze_line, block_line, bare_line, declaration_form, command_form, block_form, begins_declaration, begins_command, line_of}
+use Rattle.lvish_checks.specs.declared.line.Line.TheVariants.{Blank, Bad, Version, Declare, Proc, Do, If, While, Else, End}
+use Rattle.lvish_checks.specs.Form.{is_number_word, number_of, is_bad_number, value_of_number, number_word, term_of, all_of, terms_of, numbers_of, only, simple_kind, operator_of, or_bad, variable_line, pair_kind, pair_line, pool_line, proc_line, value_of, let_line, put_of, put_line, threshold_after, threshold_of, get_at, get_of, get_line, run_line, handle_line, freeze_each, freeze_after, freeze_of, freeze_line, block_line, bare_line, version_line, declaration_form, command_form, block_form, begins_declaration, begins_command, line_of}
 use Rattle.lvish_checks.specs.Spelling.{term_word, kind_word, operator_word, value_words, threshold_words, pool_words, command_words, declaration_words, line_words, AgreesWith, Agree}
 use Rattle.lvish_checks.proofs.Cuts.{left_fails, right_fails, left_holds}
-use Rattle.lvish_checks.proofs.Values.{Each, each_if, each_map, each_then, each_weaker}
+use Rattle.lvish_checks.proofs.Values.{Each, each_if, each_map, each_then, each_or, each_weaker}
 use Rattle.lvish_checks.proofs.Decimals.{number_within, number_back}
 
 -- ---- words that agree
@@ -155,6 +155,7 @@ pair_spelled k h (n ∷ a ∷ b ∷ []) =
     of_pair : (p : VariableKind) → IsPair a b p → Agree (k ∷ n ∷ a ∷ b ∷ []) (declaration_words (Variable n p))
     of_pair (Simple s) f = absurd f
     of_pair Map f = absurd f
+    of_pair Tally f = absurd f
     of_pair (Pair x y) f = (h, (inl refl, (f.0, (f.1, tt))))
 pair_spelled k h (n ∷ a ∷ b ∷ c ∷ ws) = tt
 
@@ -230,7 +231,8 @@ threshold_after_spelled k ws good =
     each_if (IsThreshold (k ∷ ws)) (bytes_eq k (codes "any")) _ _ (λ e. any_spelled k (same k _ e) ws) (λ e.
     each_if (IsThreshold (k ∷ ws)) (bytes_eq k (codes "in")) _ _ (λ e. in_spelled (same k _ e)) (λ e.
     each_if (IsThreshold (k ∷ ws)) (bytes_eq k (codes "has")) _ _ (λ e. each_map (IsOnly ws) (IsThreshold (k ∷ ws)) (λ t. Has t) (only term_of ws) (only_agrees ws good) (λ t f. (same k _ e, f))) (λ e.
-    each_if (IsThreshold (k ∷ ws)) (bytes_eq k (codes "least")) _ None (λ e. each_map (IsOnly ws) (IsThreshold (k ∷ ws)) (λ t. Least t) (only term_of ws) (only_agrees ws good) (λ t f. (same k _ e, f))) (λ e. tt))))
+    each_if (IsThreshold (k ∷ ws)) (bytes_eq k (codes "least")) _ _ (λ e. each_map (IsOnly ws) (IsThreshold (k ∷ ws)) (λ t. Least t) (only term_of ws) (only_agrees ws good) (λ t f. (same k _ e, f))) (λ e.
+    each_if (IsThreshold (k ∷ ws)) (bytes_eq k (codes "total")) _ None (λ e. each_map (IsOnly ws) (IsThreshold (k ∷ ws)) (λ t. Total t) (only term_of ws) (only_agrees ws good) (λ t f. (same k _ e, f))) (λ e. tt)))))
   where
     in_spelled : AgreesWith k (codes "in") → Each (IsThreshold (k ∷ ws)) (if length ws == 0 then None else option_map (λ zs. In zs) (numbers_of ws))
     in_spelled h =
@@ -241,13 +243,17 @@ threshold_spelled : (ws : List Word) → AreGood ws → Each (IsThreshold ws) (t
 threshold_spelled [] good = tt
 threshold_spelled (k ∷ ws) good = threshold_after_spelled k ws (rest_good k ws good)
 
+get_at_spelled : (k : Word) → AgreesWith k (codes "get") → (x v : Word) (ws : List Word) → AreGood ws → Each (IsCommand (k ∷ x ∷ v ∷ ws)) (get_at x v ws)
+get_at_spelled k h x v [] good = tt
+get_at_spelled k h x v (w ∷ ws) good =
+    each_then (IsTerm w) (IsCommand (k ∷ x ∷ v ∷ w ∷ ws)) _ (term_of w) (term_agrees w (first_good w ws good)) (λ t f.
+    each_map (IsThreshold ws) (IsCommand (k ∷ x ∷ v ∷ w ∷ ws)) (λ r. command.GetAt x v t r) (threshold_of ws) (threshold_spelled ws (rest_good w ws good)) (λ r g. (h, (inl refl, (inl refl, (f, g))))))
+
 get_of_spelled : (k : Word) → AgreesWith k (codes "get") → (x v : Word) (ws : List Word) → AreGood ws → Each (IsCommand (k ∷ x ∷ v ∷ ws)) (get_of x v ws)
-get_of_spelled k h x v [] good = tt
-get_of_spelled k h x v (w ∷ ws) good =
-    each_if (IsCommand (k ∷ x ∷ v ∷ w ∷ ws)) (is_some (term_of w)) _ _
-    (λ e. each_then (IsTerm w) (IsCommand (k ∷ x ∷ v ∷ w ∷ ws)) _ (term_of w) (term_agrees w (first_good w ws good)) (λ t f.
-    each_map (IsThreshold ws) (IsCommand (k ∷ x ∷ v ∷ w ∷ ws)) (λ r. command.GetAt x v t r) (threshold_of ws) (threshold_spelled ws (rest_good w ws good)) (λ r g. (h, (inl refl, (inl refl, (f, g)))))))
-    (λ e. each_map (IsThreshold (w ∷ ws)) (IsCommand (k ∷ x ∷ v ∷ w ∷ ws)) (λ r. command.Get x v r) (threshold_of (w ∷ ws)) (threshold_spelled (w ∷ ws) good) (λ r g. (h, (inl refl, (inl refl, g)))))
+get_of_spelled k h x v ws good =
+    each_or (IsCommand (k ∷ x ∷ v ∷ ws)) _ (get_at x v ws)
+    (each_map (IsThreshold ws) (IsCommand (k ∷ x ∷ v ∷ ws)) (λ r. command.Get x v r) (threshold_of ws) (threshold_spelled ws good) (λ r g. (h, (inl refl, (inl refl, g)))))
+    (get_at_spelled k h x v ws good)
 
 get_spelled : (k : Word) → AgreesWith k (codes "get") → (ws : List Word) → AreGood ws → Spelled (k ∷ ws) (get_line ws)
 unfolding get_line
@@ -327,6 +333,14 @@ unfolding bare_line
 bare_spelled k l h [] = h
 bare_spelled k l h (w ∷ ws) = tt
 
+-- ---- the version
+
+version_spelled : (k : Word) → AgreesWith k (codes "lvish") → (ws : List Word) → Spelled (k ∷ ws) (version_line ws)
+unfolding version_line
+version_spelled k h [] = tt
+version_spelled k h (n ∷ []) = spelled_if (k ∷ n ∷ []) (bytes_eq n (codes "2")) Version Bad (λ e. (h, (same n _ e, tt))) tt
+version_spelled k h (n ∷ m ∷ ws) = tt
+
 -- ---- lines
 
 declaration_form_spelled : (k : Word) (ws : List Word) → Spelled (k ∷ ws) (declaration_form k ws)
@@ -336,8 +350,9 @@ declaration_form_spelled k ws =
     (spelled_if (k ∷ ws) (bytes_eq k (codes "max")) _ _ (λ e. variable_spelled k (codes "max") (Simple Max) (same k _ e) (λ n. refl) ws)
     (spelled_if (k ∷ ws) (bytes_eq k (codes "map")) _ _ (λ e. variable_spelled k (codes "map") Map (same k _ e) (λ n. refl) ws)
     (spelled_if (k ∷ ws) (bytes_eq k (codes "pair")) _ _ (λ e. pair_spelled k (same k _ e) ws)
+    (spelled_if (k ∷ ws) (bytes_eq k (codes "tally")) _ _ (λ e. variable_spelled k (codes "tally") Tally (same k _ e) (λ n. refl) ws)
     (spelled_if (k ∷ ws) (bytes_eq k (codes "pool")) _ _ (λ e. pool_spelled k (same k _ e) ws)
-    (spelled_if (k ∷ ws) (bytes_eq k (codes "proc")) _ Bad (λ e. proc_spelled k (same k _ e) ws) tt))))))
+    (spelled_if (k ∷ ws) (bytes_eq k (codes "proc")) _ Bad (λ e. proc_spelled k (same k _ e) ws) tt)))))))
 
 command_form_spelled : (k : Word) (ws : List Word) → AreGood ws → Spelled (k ∷ ws) (command_form k ws)
 command_form_spelled k ws good =
@@ -360,11 +375,13 @@ line_spelled : (ws : List Word) → AreGood ws → Spelled ws (line_of ws)
 line_spelled [] good = tt
 line_spelled (k ∷ ws) good =
     spelled_if (k ∷ ws) (begins_declaration k) _ _ (λ e. declaration_form_spelled k ws)
-    (spelled_if (k ∷ ws) (begins_command k) _ _ (λ e. command_form_spelled k ws (rest_good k ws good)) (block_form_spelled k ws (rest_good k ws good)))
+    (spelled_if (k ∷ ws) (begins_command k) _ _ (λ e. command_form_spelled k ws (rest_good k ws good))
+    (spelled_if (k ∷ ws) (bytes_eq k (codes "lvish")) _ _ (λ e. version_spelled k (same k _ e) ws) (block_form_spelled k ws (rest_good k ws good))))
 
 of_form : (ws : List Word) (l : Line) → Spelled ws l → l ≢ Bad → Agree ws (line_words l)
 of_form ws Blank h form = h
 of_form ws Bad h form = absurd (form refl)
+of_form ws Version h form = h
 of_form ws (Declare d) h form = h
 of_form ws (Proc n xs) h form = h
 of_form ws (Do c) h form = h

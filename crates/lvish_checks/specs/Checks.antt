@@ -5,9 +5,10 @@ use Rattle.std.specs.List.{list_any, list_all, flat_map, AllByRecursion}
 use Rattle.std.specs.Str.{bytes_eq}
 use Rattle.lvish_syntax.specs.Words.{Word}
 use Rattle.lvish_syntax.specs.Name.{has_name, has_repeat, is_known}
-use Rattle.lvish_syntax.specs.Sound.{variable_names, pool_names, kind_there, command_binds, is_put_sound, is_of_kind, is_apart, is_pool_of, is_value_known, is_threshold_known}
-use Rattle.lvish_syntax.specs.declared.term.Term.{Term}
-use Rattle.lvish_syntax.specs.declared.threshold.Threshold.{Threshold}
+use Rattle.lvish_syntax.specs.Sound.{variable_names, pool_names, command_binds, is_put_sound, is_get_of_kind, is_get_apart, is_pool_of, is_value_known, is_threshold_known}
+use Rattle.lvish_syntax.specs.Version.{is_name_in, is_term_in, is_command_in, is_declaration_in}
+use Rattle.lvish_syntax.specs.declared.version.Version.{Version}
+use Rattle.lvish_syntax.specs.declared.version.Version.TheVariants.{One, Two}
 use Rattle.lvish_syntax.specs.declared.declaration.Declaration.{Declaration}
 use Rattle.lvish_syntax.specs.declared.declaration.Declaration.TheVariants.{Variable, Pool}
 use Rattle.lvish_syntax.specs.declared.command.Command.{Command}
@@ -15,7 +16,8 @@ use Rattle.lvish_syntax.specs.declared.command.Command.TheVariants.{Let, Put, Pu
 use Rattle.lvish_checks.specs.Text.{lines_of, words_of, is_foreign}
 use Rattle.lvish_checks.specs.Form.{line_of, is_bad_number}
 use Rattle.lvish_checks.specs.declared.line.Line.{Line}
-use Rattle.lvish_checks.specs.declared.line.Line.TheVariants.{Bad, Declare, Proc, Do, If, While, Else, End}
+use Rattle.lvish_checks.specs.declared.line.Line.TheVariants.{Blank, Bad, Declare, Proc, Do, If, While, Else, End}
+use Rattle.lvish_checks.specs.declared.line.Line.TheVariants as line
 use Rattle.lvish_checks.specs.declared.open_blocks.Opener.{Opener}
 use Rattle.lvish_checks.specs.declared.open_blocks.Opener.TheVariants.{Procedure as InProcedure, If as InIf, Else as InElse, While as InWhile}
 use Rattle.lvish_checks.specs.declared.fault.Fault.{Fault}
@@ -88,12 +90,38 @@ locals_after found (l ∷ ls) = locals_after (locals_step found l) ls
 abbrev pub locals_at : List Line → ℕ → List Word
 locals_at lines k = option_map_or (λ xs. xs ++ binds_until_procedure (drop k lines)) (locals_after None (take k lines)) []
 
--- ---- a line with none of the forms, or a declaration below a procedure
+-- ---- the version of a script
 
-abbrev pub stands_badly : List Line → Line → Bool
-stands_badly before Bad = true
-stands_badly before (Declare d) = list_any is_procedure before
-stands_badly before l = false
+abbrev pub is_told : Line → Bool
+is_told Blank = false
+is_told l = true
+
+-- version 2 where the first line that isn't blank says so
+abbrev pub version_of : List Line → Version
+version_of [] = One
+version_of (Blank ∷ ls) = version_of ls
+version_of (line.Version ∷ ls) = Two
+version_of (l ∷ ls) = One
+
+-- whether what a line says stands in scripts of this version
+abbrev pub is_line_in : Version → Line → Bool
+is_line_in v (Declare d) = is_declaration_in v d
+is_line_in v (Proc n xs) = is_name_in v n && list_all (is_name_in v) xs
+is_line_in v (Do c) = is_command_in v c
+is_line_in v (If t) = is_term_in v t
+is_line_in v (While t) = is_term_in v t
+is_line_in v l = true
+
+-- ---- a line with none of the forms of its version, a declaration below a procedure, or the line of the version below another line with words
+
+abbrev pub is_out_of_place : List Line → Line → Bool
+is_out_of_place before Bad = true
+is_out_of_place before line.Version = list_any is_told before
+is_out_of_place before (Declare d) = list_any is_procedure before
+is_out_of_place before l = false
+
+abbrev pub stands_badly : Version → List Line → Line → Bool
+stands_badly v before l = is_out_of_place before l || not (is_line_in v l)
 
 -- ---- names declared again
 
@@ -126,9 +154,6 @@ names_unknown lines k (While t) = not (is_known (locals_at lines k) t)
 names_unknown lines k l = false
 
 -- ---- what doesn't fit the kind of a variable
-
-abbrev pub is_get_of_kind : List Declaration → Word → Option Term → Threshold → Bool
-is_get_of_kind ds v at r = option_map_or (λ k. is_of_kind k r) (kind_there ds v at) false
 
 abbrev pub command_misfits : List Declaration → Command → Bool
 command_misfits ds (Put v t) = not (is_put_sound ds v None)
@@ -197,9 +222,6 @@ is_misplaced opened l = false
 
 -- ---- members that aren't kept apart
 
-abbrev pub is_get_apart : List Declaration → Word → Option Term → Threshold → Bool
-is_get_apart ds v at r = option_map_or (λ k. is_apart k r) (kind_there ds v at) true
-
 abbrev pub command_mixes : List Declaration → Command → Bool
 command_mixes ds (Get x v r) = not (is_get_apart ds v None r)
 command_mixes ds (GetAt x v k r) = not (is_get_apart ds v (Some k) r)
@@ -227,7 +249,7 @@ is_past_limit before l = false
 
 -- whether a check of what the lines say fails on the line at place k, counted from 0
 abbrev pub line_fails : Fault → List Line → ℕ → Line → Bool
-line_fails BadLine lines k l = stands_badly (take k lines) l
+line_fails BadLine lines k l = stands_badly (version_of lines) (take k lines) l
 line_fails DoubleName lines k l = declares_again (take k lines) l
 line_fails UnknownName lines k l = names_unknown lines k l
 line_fails WrongKind lines k l = misfits lines l

@@ -1,6 +1,6 @@
--- What a line says.
-use Rattle.std.specs.Prelude.{ℕ, Bool, false, not, ◌||◌, ◌&&◌, ◌==◌, ◌^◌, nat_lt, nat_le, codes, List, [], ◌∷◌, length, drop, take_while, Option, Some, None, unwrap_or, option_and_then, is_some, is_none, if◌then◌else◌, ℤ, pos}
-use Rattle.std.specs.Option.{option_map}
+-- What a line says: the forms of all versions. Which of them stand in a version is said by the check of bad lines.
+use Rattle.std.specs.Prelude.{ℕ, Bool, false, not, ◌||◌, ◌&&◌, ◌==◌, ◌^◌, nat_lt, nat_le, codes, List, [], ◌∷◌, length, drop, take_while, Option, Some, None, unwrap_or, option_and_then, is_none, if◌then◌else◌, ℤ, pos}
+use Rattle.std.specs.Option.{option_map, option_or}
 use Rattle.std.specs.List.{list_any, list_all}
 use Rattle.std.specs.Str.{bytes_eq, all_ascii_digits}
 use Rattle.std.specs.Str.Parse.{digits_value}
@@ -9,7 +9,7 @@ use Rattle.lvish_syntax.specs.Words.{Word, is_digit, is_name}
 use Rattle.lvish_syntax.specs.declared.kind.SimpleKind.{SimpleKind}
 use Rattle.lvish_syntax.specs.declared.kind.SimpleKind.TheVariants.{Cell, Set, Max}
 use Rattle.lvish_syntax.specs.declared.kind.VariableKind.{VariableKind}
-use Rattle.lvish_syntax.specs.declared.kind.VariableKind.TheVariants.{Simple, Map, Pair}
+use Rattle.lvish_syntax.specs.declared.kind.VariableKind.TheVariants.{Simple, Map, Pair, Tally}
 use Rattle.lvish_syntax.specs.declared.operator.Operator.{Operator}
 use Rattle.lvish_syntax.specs.declared.operator.Operator.TheVariants.{Add, Subtract, Multiply, Divide, Remainder, Less, Equal}
 use Rattle.lvish_syntax.specs.declared.term.Term.{Term}
@@ -17,12 +17,12 @@ use Rattle.lvish_syntax.specs.declared.term.Term.TheVariants.{Local, Number}
 use Rattle.lvish_syntax.specs.declared.value.Value.{Value}
 use Rattle.lvish_syntax.specs.declared.value.Value.TheVariants.{Same, Combined}
 use Rattle.lvish_syntax.specs.declared.threshold.Threshold.{Threshold}
-use Rattle.lvish_syntax.specs.declared.threshold.Threshold.TheVariants.{Any, In, Has, Least}
+use Rattle.lvish_syntax.specs.declared.threshold.Threshold.TheVariants.{Any, In, Has, Least, Total}
 use Rattle.lvish_syntax.specs.declared.declaration.Declaration.TheVariants.{Variable, Pool}
 use Rattle.lvish_syntax.specs.declared.command.Command.{Command}
 use Rattle.lvish_syntax.specs.declared.command.Command.TheVariants as command
 use Rattle.lvish_checks.specs.declared.line.Line.{Line}
-use Rattle.lvish_checks.specs.declared.line.Line.TheVariants.{Blank, Bad, Declare, Proc, Do, If, While, Else, End}
+use Rattle.lvish_checks.specs.declared.line.Line.TheVariants.{Blank, Bad, Version, Declare, Proc, Do, If, While, Else, End}
 
 -- ---- numbers and terms
 
@@ -136,25 +136,27 @@ unfoldable pub put_line : List Word → Line
 put_line (v ∷ ws) = if is_name v then or_bad (option_map (λ c. Do c) (put_of v ws)) else Bad
 put_line [] = Bad
 
--- R: any, in and one or more numbers, has or least and a term
+-- R: any, in and one or more numbers, has, least or total and a term
 abbrev pub threshold_after : Word → List Word → Option Threshold
 threshold_after k ws =
     if bytes_eq k (codes "any") then (if length ws == 0 then Some Any else None) else
     if bytes_eq k (codes "in") then (if length ws == 0 then None else option_map (λ zs. In zs) (numbers_of ws)) else
     if bytes_eq k (codes "has") then option_map (λ t. Has t) (only term_of ws) else
-    if bytes_eq k (codes "least") then option_map (λ t. Least t) (only term_of ws) else None
+    if bytes_eq k (codes "least") then option_map (λ t. Least t) (only term_of ws) else
+    if bytes_eq k (codes "total") then option_map (λ t. Total t) (only term_of ws) else None
 
 abbrev pub threshold_of : List Word → Option Threshold
 threshold_of [] = None
 threshold_of (k ∷ ws) = threshold_after k ws
 
--- a place comes before the threshold where the next word is a term, which no word that begins a threshold is
+-- a place and a threshold
+abbrev pub get_at : Word → Word → List Word → Option Command
+get_at x v [] = None
+get_at x v (k ∷ ws) = option_and_then (λ t. option_map (λ r. command.GetAt x v t r) (threshold_of ws)) (term_of k)
+
+-- a threshold, or one with a place before it. No words are both: of the words that begin a threshold total alone is a term, and no threshold is a single term
 abbrev pub get_of : Word → Word → List Word → Option Command
-get_of x v [] = None
-get_of x v (w ∷ ws) =
-    if is_some (term_of w)
-    then option_and_then (λ t. option_map (λ r. command.GetAt x v t r) (threshold_of ws)) (term_of w)
-    else option_map (λ r. command.Get x v r) (threshold_of (w ∷ ws))
+get_of x v ws = option_or (option_map (λ r. command.Get x v r) (threshold_of ws)) (get_at x v ws)
 
 unfoldable pub get_line : List Word → Line
 get_line (x ∷ v ∷ ws) = if is_name x && is_name v then or_bad (option_map (λ c. Do c) (get_of x v ws)) else Bad
@@ -200,6 +202,12 @@ unfoldable pub bare_line : Line → List Word → Line
 bare_line l [] = l
 bare_line l ws = Bad
 
+-- ---- the version
+
+unfoldable pub version_line : List Word → Line
+version_line (n ∷ []) = if bytes_eq n (codes "2") then Version else Bad
+version_line ws = Bad
+
 -- ---- lines
 
 abbrev pub declaration_form : Word → List Word → Line
@@ -209,6 +217,7 @@ declaration_form k ws =
     if bytes_eq k (codes "max") then variable_line (Simple Max) ws else
     if bytes_eq k (codes "map") then variable_line Map ws else
     if bytes_eq k (codes "pair") then pair_line ws else
+    if bytes_eq k (codes "tally") then variable_line Tally ws else
     if bytes_eq k (codes "pool") then pool_line ws else
     if bytes_eq k (codes "proc") then proc_line ws else Bad
 
@@ -231,7 +240,7 @@ block_form k ws =
 
 -- the words that begin declarations, commands and blocks
 abbrev pub begins_declaration : Word → Bool
-begins_declaration k = list_any (bytes_eq k) (codes "cell" ∷ codes "set" ∷ codes "max" ∷ codes "map" ∷ codes "pair" ∷ codes "pool" ∷ codes "proc" ∷ [])
+begins_declaration k = list_any (bytes_eq k) (codes "cell" ∷ codes "set" ∷ codes "max" ∷ codes "map" ∷ codes "pair" ∷ codes "tally" ∷ codes "pool" ∷ codes "proc" ∷ [])
 
 abbrev pub begins_command : Word → Bool
 begins_command k = list_any (bytes_eq k) (codes "let" ∷ codes "put" ∷ codes "get" ∷ codes "fork" ∷ codes "call" ∷ codes "handle" ∷ codes "freeze" ∷ [])
@@ -241,4 +250,5 @@ abbrev pub line_of : List Word → Line
 line_of [] = Blank
 line_of (k ∷ ws) =
     if begins_declaration k then declaration_form k ws else
-    if begins_command k then command_form k ws else block_form k ws
+    if begins_command k then command_form k ws else
+    if bytes_eq k (codes "lvish") then version_line ws else block_form k ws

@@ -5,7 +5,7 @@ use Rattle.std.specs.Fmt.{signed_decimal}
 use Rattle.lvish_syntax.specs.Words.{Word}
 use Rattle.lvish_syntax.specs.declared.kind.SimpleKind.{SimpleKind}
 use Rattle.lvish_syntax.specs.declared.kind.SimpleKind.TheVariants.{Cell, Set, Max}
-use Rattle.lvish_syntax.specs.declared.kind.VariableKind.TheVariants.{Simple, Map, Pair}
+use Rattle.lvish_syntax.specs.declared.kind.VariableKind.TheVariants.{Simple, Map, Pair, Tally}
 use Rattle.lvish_syntax.specs.declared.operator.Operator.{Operator}
 use Rattle.lvish_syntax.specs.declared.operator.Operator.TheVariants.{Add, Subtract, Multiply, Divide, Remainder, Less, Equal}
 use Rattle.lvish_syntax.specs.declared.term.Term.{Term}
@@ -13,13 +13,13 @@ use Rattle.lvish_syntax.specs.declared.term.Term.TheVariants.{Local, Number}
 use Rattle.lvish_syntax.specs.declared.value.Value.{Value}
 use Rattle.lvish_syntax.specs.declared.value.Value.TheVariants.{Same, Combined}
 use Rattle.lvish_syntax.specs.declared.threshold.Threshold.{Threshold}
-use Rattle.lvish_syntax.specs.declared.threshold.Threshold.TheVariants.{Any, In, Has, Least}
+use Rattle.lvish_syntax.specs.declared.threshold.Threshold.TheVariants.{Any, In, Has, Least, Total}
 use Rattle.lvish_syntax.specs.declared.declaration.Declaration.{Declaration}
 use Rattle.lvish_syntax.specs.declared.declaration.Declaration.TheVariants.{Variable, Pool}
 use Rattle.lvish_syntax.specs.declared.command.Command.{Command}
 use Rattle.lvish_syntax.specs.declared.command.Command.TheVariants.{Let, Put, PutAt, Get, GetAt, Fork, Call, Handle, Freeze, FreezeEach}
 use Rattle.lvish_checks.specs.declared.line.Line.{Line}
-use Rattle.lvish_checks.specs.declared.line.Line.TheVariants.{Blank, Bad, Declare, Proc, Do, If, While, Else, End}
+use Rattle.lvish_checks.specs.declared.line.Line.TheVariants.{Blank, Bad, Version, Declare, Proc, Do, If, While, Else, End}
 use Rattle.lvish_checks.specs.Form.{number_of}
 
 -- a number has its shortest decimal form
@@ -50,6 +50,7 @@ threshold_words Any = codes "any" ∷ []
 threshold_words (In zs) = codes "in" ∷ map signed_decimal zs
 threshold_words (Has t) = codes "has" ∷ term_word t ∷ []
 threshold_words (Least t) = codes "least" ∷ term_word t ∷ []
+threshold_words (Total t) = codes "total" ∷ term_word t ∷ []
 
 abbrev pub pool_words : List Word → List Word
 pool_words [] = []
@@ -71,12 +72,14 @@ abbrev pub declaration_words : Declaration → List Word
 declaration_words (Variable n (Simple k)) = kind_word k ∷ n ∷ []
 declaration_words (Variable n Map) = codes "map" ∷ n ∷ []
 declaration_words (Variable n (Pair a b)) = codes "pair" ∷ n ∷ kind_word a ∷ kind_word b ∷ []
+declaration_words (Variable n Tally) = codes "tally" ∷ n ∷ []
 declaration_words (Pool p v) = codes "pool" ∷ p ∷ v ∷ []
 
 -- the words of a line; a script has no line that is blank or bad
 abbrev pub line_words : Line → List Word
 line_words Blank = []
 line_words Bad = []
+line_words Version = codes "lvish" ∷ codes "2" ∷ []
 line_words (Declare d) = declaration_words d
 line_words (Proc n xs) = codes "proc" ∷ n ∷ xs
 line_words (Do c) = command_words c

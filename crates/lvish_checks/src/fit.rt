@@ -3,7 +3,7 @@
 ghost use Rattle.std.specs.Prelude.{◌≡◌, None, Some};
 ghost use Rattle.std.specs.List.{list_all};
 ghost use Rattle.std.specs.Ordering.{int_eq};
-ghost use Rattle.lvish_syntax.specs.Sound.{kind_at, side_kind, is_level, are_of_kind, are_one, is_of_kind, is_apart};
+ghost use Rattle.lvish_syntax.specs.Sound.{kind_at, side_kind, is_level, are_of_kind, are_one, is_of_kind, is_apart, is_total, is_whole_read, is_read_of};
 
 use lvish_syntax::{SimpleKind, Term, Threshold, VariableKind};
 
@@ -13,7 +13,7 @@ pub fn kind_of_whole(kind: VariableKind) -> Option<SimpleKind>
 {
     match kind {
         VariableKind::Simple(kind) => Some(kind),
-        VariableKind::Map | VariableKind::Pair(_, _) => None,
+        VariableKind::Map | VariableKind::Pair(_, _) | VariableKind::Tally => None,
     }
 }
 
@@ -28,7 +28,8 @@ fn side_kind(first: SimpleKind, second: SimpleKind, place: &Term) -> Option<Simp
     }
 }
 
-/// The kind of what is at a map's key, or of a pair's side.
+/// The kind of what is at a map's key, of a pair's side, or of a tally's amount at a key, which
+/// grows as a counter does.
 pub fn kind_at(kind: VariableKind, place: &Term) -> Option<SimpleKind>
     ensures { result ≡ kind_at kind (Some place.now) }
 {
@@ -36,6 +37,7 @@ pub fn kind_at(kind: VariableKind, place: &Term) -> Option<SimpleKind>
         VariableKind::Simple(_) => None,
         VariableKind::Map => Some(SimpleKind::Cell),
         VariableKind::Pair(first, second) => side_kind(first, second, place),
+        VariableKind::Tally => Some(SimpleKind::Max),
     }
 }
 
@@ -70,6 +72,34 @@ pub fn is_of_kind(kind: SimpleKind, threshold: &Threshold) -> bool
         Threshold::In(numbers) => are_of_kind(kind, numbers.as_slice()),
         Threshold::Has(_) => kind == SimpleKind::Set,
         Threshold::Least(_) => kind == SimpleKind::Max,
+        Threshold::Total(_) => false,
+    }
+}
+
+fn is_total(threshold: &Threshold) -> bool
+    ensures { result ≡ is_total threshold.now }
+{
+    matches!(threshold, Threshold::Total(_))
+}
+
+/// Whether a threshold is one of a whole variable of this kind.
+pub fn is_whole_read(kind: VariableKind, threshold: &Threshold) -> bool
+    ensures { result ≡ is_read_of kind None threshold.now }
+{
+    match kind {
+        VariableKind::Simple(kind) => is_of_kind(kind, threshold),
+        VariableKind::Tally => is_total(threshold),
+        VariableKind::Map | VariableKind::Pair(_, _) => false,
+    }
+}
+
+/// Whether a threshold is one of what is at a place of a variable of this kind.
+pub fn is_read_at(kind: VariableKind, place: &Term, threshold: &Threshold) -> bool
+    ensures { result ≡ is_read_of kind (Some place.now) threshold.now }
+{
+    match kind_at(kind, place) {
+        Some(kind) => is_of_kind(kind, threshold),
+        None => false,
     }
 }
 

@@ -6,6 +6,7 @@ mod declaration;
 mod freeze;
 mod term;
 mod threshold;
+mod version;
 
 ghost use Rattle.std.specs.Prelude.{◌≡◌, IfOk, map};
 ghost use Rattle.lvish_checks.specs.Form.{begins_declaration, begins_command, line_of};
@@ -15,6 +16,7 @@ use block::block_form;
 use command::command_form;
 use declaration::declaration_form;
 use std::alloc::{AllocError, Global};
+use version::version_line;
 
 fn begins_declaration(word: &[u8]) -> bool
     ensures { result ≡ begins_declaration word.now }
@@ -24,6 +26,7 @@ fn begins_declaration(word: &[u8]) -> bool
         || word == b"max".as_slice()
         || word == b"map".as_slice()
         || word == b"pair".as_slice()
+        || word == b"tally".as_slice()
         || word == b"pool".as_slice()
         || word == b"proc".as_slice()
 }
@@ -51,6 +54,8 @@ pub fn line_of(alloc: Global, words: &[&[u8]]) -> Result<Line, AllocError>
                 declaration_form(alloc, word, rest)
             } else if begins_command(word) {
                 command_form(alloc, word, rest)
+            } else if *word == b"lvish".as_slice() {
+                Ok(version_line(rest))
             } else {
                 block_form(alloc, word, rest)
             }

@@ -1,14 +1,14 @@
 ghost use Rattle.std.specs.Prelude.{◌≡◌, ◌++◌, ◌∷◌, [], List, IfOk, OnOk, None, Some};
 ghost use Rattle.std.specs.List.{list_all};
-ghost use Rattle.lvish_syntax.specs.Sound.{kind_there, is_pool_of};
+ghost use Rattle.lvish_syntax.specs.Sound.{kind_there, is_get_of_kind, is_pool_of};
 ghost use Rattle.lvish_syntax.specs.declared.declaration.Declaration.{Declaration};
 ghost use Rattle.lvish_checks.specs.Checks.{declarations, declared_by};
 ghost use Rattle.lvish_checks.specs.Known.{AreKinds, AreOfPools};
 
-use crate::fit::{kind_at, kind_of_whole};
+use crate::fit::{is_read_at, is_whole_read, kind_at, kind_of_whole};
 use crate::line::Line;
 use crate::table::Table;
-use lvish_syntax::{Declaration, Name, SimpleKind, Term, VariableKind};
+use lvish_syntax::{Declaration, Name, SimpleKind, Term, Threshold, VariableKind};
 use std::alloc::{AllocError, Global};
 
 /// The kinds of variables, and the variables of pools, by name.
@@ -61,13 +61,33 @@ impl<'a> Kinds<'a> {
         }
     }
 
-    /// The kind of what is at a map's key, or of a pair's side.
+    /// The kind of what is at a map's or a tally's key, or of a pair's side.
     pub fn of_place(&self, variable: &Name, place: &Term) -> Option<SimpleKind>
         ensures { (ds : List Declaration) → AreKinds self.now.variables ds → result ≡ kind_there ds variable.now (Some place.now) }
     {
         match self.variables.get(variable) {
             Some(kind) => kind_at(kind, place),
             None => None,
+        }
+    }
+
+    /// Whether the threshold is one of the variable.
+    pub fn reads_whole(&self, variable: &Name, threshold: &Threshold) -> bool
+        ensures { (ds : List Declaration) → AreKinds self.now.variables ds → result ≡ is_get_of_kind ds variable.now None threshold.now }
+    {
+        match self.variables.get(variable) {
+            Some(kind) => is_whole_read(kind, threshold),
+            None => false,
+        }
+    }
+
+    /// Whether the threshold is one of what is at this place of the variable.
+    pub fn reads_at(&self, variable: &Name, place: &Term, threshold: &Threshold) -> bool
+        ensures { (ds : List Declaration) → AreKinds self.now.variables ds → result ≡ is_get_of_kind ds variable.now (Some place.now) threshold.now }
+    {
+        match self.variables.get(variable) {
+            Some(kind) => is_read_at(kind, place, threshold),
+            None => false,
         }
     }
 

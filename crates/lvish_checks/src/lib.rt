@@ -4,6 +4,7 @@
 //! let lines = lines_of(alloc, text)?;             // the pieces between line feeds
 //! let words = words_of(alloc, line)?;             // those of a line, up to its comment
 //! let said = line_of(alloc, words.as_slice())?;   // what it says: Line::Proc(name, parameters) ..
+//! let version = version_of(said);                 // that of the script: Version::One ..
 //! first_fault(alloc, lines, bad_number, said)?    // the first check that fails, with its lowest line
 //! ```
 //!
@@ -25,6 +26,7 @@ mod script_fault;
 mod table;
 mod text;
 mod verdict;
+mod version;
 mod word;
 
 pub use boxed::Boxed;
@@ -36,3 +38,4 @@ pub use line::Line;
 pub use script_fault::ScriptFault;
 pub use text::{lines_of, words_of};
 pub use verdict::first_fault;
+pub use version::version_of;

@@ -1,13 +1,15 @@
 use crate::boxed::Boxed;
 use lvish_syntax::{Command, Declaration, Name, Names, Term};
 
-/// What a line says. Small, since each line of a text has one, be it blank.
+/// What a line says, in scripts of any version. Small, since each line of a text has one, be it blank.
 #[derive(Debug, Drop)]
 pub enum Line {
     /// It has no words.
     Blank,
     /// It has none of the forms.
     Bad,
+    /// It says that the script is of version 2.
+    Version,
     /// It declares a variable or a pool.
     Declare(Boxed<Declaration>),
     /// It begins a procedure with these parameters.

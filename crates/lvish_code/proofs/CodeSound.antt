@@ -13,17 +13,17 @@ use Rattle.std.proofs.lemmas.Bool.Decides.{Decides-eqb}
 use Rattle.lvish_syntax.specs.Words.{Word}
 use Rattle.lvish_syntax.specs.Name.{has_name, has_repeat, is_known}
 use Rattle.lvish_syntax.specs.Nested.{statements, nested, row_nested, all_nested}
-use Rattle.lvish_syntax.specs.Sound.{variable_names, pool_names, procedure_names, kind_of, variable_of, locals_of, takes, side_kind, kind_at, is_of_kind, is_apart, kind_there, is_put_sound, is_get_sound, is_threshold_known, is_value_known, is_pool_of, is_pool_known, is_command_sound, is_own_sound, is_procedure_sound}
+use Rattle.lvish_syntax.specs.Sound.{variable_names, pool_names, procedure_names, kind_of, variable_of, locals_of, takes, side_kind, kind_at, is_of_kind, is_apart, is_total, is_read_of, kind_there, is_put_sound, is_get_sound, is_threshold_known, is_value_known, is_pool_of, is_pool_known, is_command_sound, is_own_sound, is_procedure_sound}
 use Rattle.lvish_syntax.specs.declared.kind.SimpleKind.{SimpleKind}
 use Rattle.lvish_syntax.specs.declared.kind.SimpleKind.TheVariants.{Cell, Set, Max}
 use Rattle.lvish_syntax.specs.declared.kind.VariableKind.{VariableKind}
-use Rattle.lvish_syntax.specs.declared.kind.VariableKind.TheVariants.{Simple, Map, Pair}
+use Rattle.lvish_syntax.specs.declared.kind.VariableKind.TheVariants.{Simple, Map, Pair, Tally}
 use Rattle.lvish_syntax.specs.declared.term.Term.{Term}
 use Rattle.lvish_syntax.specs.declared.term.Term.TheVariants.{Local, Number}
 use Rattle.lvish_syntax.specs.declared.value.Value.{Value}
 use Rattle.lvish_syntax.specs.declared.value.Value.TheVariants.{Same, Combined}
 use Rattle.lvish_syntax.specs.declared.threshold.Threshold.{Threshold}
-use Rattle.lvish_syntax.specs.declared.threshold.Threshold.TheVariants.{Any, In, Has, Least}
+use Rattle.lvish_syntax.specs.declared.threshold.Threshold.TheVariants.{Any, In, Has, Least, Total}
 use Rattle.lvish_syntax.specs.declared.declaration.Declaration.{Declaration}
 use Rattle.lvish_syntax.specs.declared.declaration.Declaration.TheVariants.{Variable, Pool}
 use Rattle.lvish_syntax.specs.declared.command.Command.{Command}
@@ -35,13 +35,14 @@ use Rattle.lvish_syntax.specs.declared.statement.Statement.TheViews.{out-Stateme
 use Rattle.lvish_code.specs.declared.target.Target.{Target}
 use Rattle.lvish_code.specs.declared.target.Target.TheVariants as t
 use Rattle.lvish_code.specs.declared.target.Side.TheVariants.{First, Second}
+use Rattle.lvish_code.specs.declared.wanted.Wanted.{Wanted}
 use Rattle.lvish_code.specs.declared.instruction.Instruction.{Instruction}
 use Rattle.lvish_code.specs.declared.instruction.Instruction.TheVariants.{BackUnlessZero, GoOn, Return}
 use Rattle.lvish_code.specs.declared.routine.Routine.{Routine}
 use Rattle.lvish_code.specs.Numbering.{number_of}
 use Rattle.lvish_code.specs.Compile.{Names, names_of, local_names, variable_kinds, pool_variables, operand_of, expression_of, wanted_of, whole_of, side_of, part_of, whole, part, command_code, statement_code, row_code, list_code, routine_of}
 use Rattle.lvish_code.specs.Sound as code
-use Rattle.lvish_code.specs.Sound.{IsRoutineSound, IsCodeSound, is_operand_sound, is_expression_sound, is_same_kind, is_target_sound, target_kind, is_wanted_sound, is_on, is_instruction_sound}
+use Rattle.lvish_code.specs.Sound.{IsRoutineSound, IsCodeSound, is_operand_sound, is_expression_sound, is_same_kind, is_target_sound, target_kind, is_wanted_of, is_wanted_sound, is_on, is_instruction_sound}
 use Rattle.lvish_code.proofs.Numbers.{place_below}
 use Rattle.lvish_code.proofs.Names.{text_is, taking, parameters_le, has_local, kind_found, count_kinds, count_pools, pool_found}
 use Rattle.lvish_code.proofs.Landing.{routine_lands}
@@ -54,32 +55,39 @@ same_itself Cell = refl
 same_itself Set = refl
 same_itself Max = refl
 
--- what a put or get without a term is about
+-- what a put or get is about, where it has this kind
 pub record Fits (n : ℕ) (kind : Option VariableKind) (k : SimpleKind) (t : Target) : Type 0 where
   pub sound : is_target_sound kind n t ≡ true
-  pub kind_is : target_kind t ≡ k
+  pub kind_is : target_kind t ≡ Some k
 
 module _ (names : Names) (n : ℕ) where
   pub whole_fits : (o : Option VariableKind) (k : SimpleKind) → option_map_or (λ j. kind_at j None) o None ≡ Some k → Fits n o k (whole_of o)
   whole_fits None k e = absurd cc
-  whole_fits (Some (Simple j)) k e = let s : j ≡ k = cc in record { sound = same_itself j; kind_is = s }
+  whole_fits (Some (Simple j)) k e = let s : j ≡ k = cc in record { sound = same_itself j; kind_is = ap Some s }
   whole_fits (Some Map) k e = absurd cc
   whole_fits (Some (Pair a b)) k e = absurd cc
+  whole_fits (Some Tally) k e = absurd cc
 
   side_fits : (a b : SimpleKind) (t : Term) (k : SimpleKind) → side_kind a b t ≡ Some k → Fits n (Some (Pair a b)) k (side_of a b t)
   side_fits a b (Local x) k e = absurd cc
   side_fits a b (Number z) k e = go (int_eq z (pos 1)) (int_eq z (pos 2)) e
     where
       go : (p q : Bool) → (if p then Some a else if q then Some b else None) ≡ Some k → Fits n (Some (Pair a b)) k (if p then t.Side First a else t.Side Second b)
-      go true q e = let s : a ≡ k = cc in record { sound = same_itself a; kind_is = s }
-      go false true e = let s : b ≡ k = cc in record { sound = same_itself b; kind_is = s }
+      go true q e = let s : a ≡ k = cc in record { sound = same_itself a; kind_is = ap Some s }
+      go false true e = let s : b ≡ k = cc in record { sound = same_itself b; kind_is = ap Some s }
       go false false e = absurd cc
 
   pub part_fits : (o : Option VariableKind) (t : Term) (k : SimpleKind) → is_operand_sound n (operand_of names t) ≡ true → option_map_or (λ j. kind_at j (Some t)) o None ≡ Some k → Fits n o k (part_of names o t)
   part_fits None t k h e = absurd cc
   part_fits (Some (Simple j)) t k h e = absurd cc
-  part_fits (Some Map) t k h e = let s : Cell ≡ k = cc in record { sound = h; kind_is = s }
+  part_fits (Some Map) t k h e = let s : Cell ≡ k = cc in record { sound = h; kind_is = ap Some s }
   part_fits (Some (Pair a b)) t k h e = side_fits a b t k e
+  part_fits (Some Tally) t k h e = let s : Max ≡ k = cc in record { sound = h; kind_is = ap Some s }
+
+-- what a get is about has what it waits for
+pub record Gets (n : ℕ) (kind : Option VariableKind) (t : Target) (w : Wanted) : Type 0 where
+  pub sound : is_target_sound kind n t ≡ true
+  pub waits : is_wanted_sound (target_kind t) n w ≡ true
 
 -- ---- options
 
@@ -168,33 +176,68 @@ module _ (script : Script) where
     expression_there (Same t) e = operand_there t e
     expression_there (Combined a o b) e = let h = both (is_known (locals_of p) a) (is_known (locals_of p) b) e in and_true _ _ (operand_there a h.0) (operand_there b h.1)
 
-    wanted_there : (k : SimpleKind) (w : Threshold) → (is_of_kind k w && is_apart k w) ≡ true → is_threshold_known (locals_of p) w ≡ true → is_wanted_sound k n (wanted_of names w) ≡ true
+    wanted_there : (k : SimpleKind) (w : Threshold) → (is_of_kind k w && is_apart k w) ≡ true → is_threshold_known (locals_of p) w ≡ true → is_wanted_of k n (wanted_of names w) ≡ true
     wanted_there Cell Any e h = refl
     wanted_there Cell (In zs) e h = refl
     wanted_there Cell (Has t) e h = absurd cc
     wanted_there Cell (Least t) e h = absurd cc
+    wanted_there Cell (Total t) e h = absurd cc
     wanted_there Set Any e h = absurd cc
     wanted_there Set (In zs) e h = e
     wanted_there Set (Has t) e h = operand_there t h
     wanted_there Set (Least t) e h = absurd cc
+    wanted_there Set (Total t) e h = absurd cc
     wanted_there Max Any e h = absurd cc
     wanted_there Max (In zs) e h = e
     wanted_there Max (Has t) e h = absurd cc
     wanted_there Max (Least t) e h = operand_there t h
+    wanted_there Max (Total t) e h = absurd cc
+
+    total_there : (w : Threshold) → is_total w ≡ true → is_threshold_known (locals_of p) w ≡ true → is_wanted_sound None n (wanted_of names w) ≡ true
+    total_there Any e h = absurd cc
+    total_there (In zs) e h = absurd cc
+    total_there (Has t) e h = absurd cc
+    total_there (Least t) e h = absurd cc
+    total_there (Total t) e h = operand_there t h
+
+    -- a get of what has a kind
+    gets_of : (o : Option VariableKind) (k : SimpleKind) (t : Target) (w : Threshold) → Fits n o k t → (is_of_kind k w && is_apart k w) ≡ true → is_threshold_known (locals_of p) w ≡ true → Gets n o t (wanted_of names w)
+    gets_of o k t w f e h = record { sound = f.sound; waits = ap (λ j. is_wanted_sound j n (wanted_of names w)) f.kind_is ∙ wanted_there k w e h }
+
+    -- whether a get on a variable of this kind fits
+    abbrev GetFits : Option VariableKind → Option Term → Threshold → Type 0
+    GetFits o at w = (option_map_or (λ k. is_read_of k at w) o false && option_map_or (λ k. is_apart k w) (option_map_or (λ k. kind_at k at) o None) true) ≡ true
+
+    whole_gets : (o : Option VariableKind) (w : Threshold) → GetFits o None w → is_threshold_known (locals_of p) w ≡ true → Gets n o (whole_of o) (wanted_of names w)
+    whole_gets None w e h = absurd cc
+    whole_gets (Some (Simple k)) w e h = gets_of (Some (Simple k)) k (whole_of (Some (Simple k))) w (whole_fits names n (Some (Simple k)) k refl) e h
+    whole_gets (Some Map) w e h = absurd cc
+    whole_gets (Some (Pair a b)) w e h = absurd cc
+    whole_gets (Some Tally) w e h = record { sound = refl; waits = total_there w (both (is_total w) true e).0 h }
+
+    part_gets : (o : Option VariableKind) (t : Term) (w : Threshold) → is_operand_sound n (operand_of names t) ≡ true → GetFits o (Some t) w → is_threshold_known (locals_of p) w ≡ true → Gets n o (part_of names o t) (wanted_of names w)
+    part_gets None t w g e h = absurd cc
+    part_gets (Some j) t w g e h = by (kind_at j (Some t)) refl e
+      where
+        by : (k : Option SimpleKind) → kind_at j (Some t) ≡ k → (option_map_or (λ s. is_of_kind s w) k false && option_map_or (λ s. is_apart s w) k true) ≡ true → Gets n (Some j) (part_of names (Some j) t) (wanted_of names w)
+        by None is f = absurd cc
+        by (Some k) is f = gets_of (Some j) k (part_of names (Some j) t) w (part_fits names n (Some j) t k g is) f h
 
     -- ---- statements
+
+    get_fits : (v : Word) (at : Option Term) (w : Threshold) → is_get_sound ds v at w ≡ true → GetFits (slice_get K (number_of V v)) at w
+    get_fits v at w e = subst (λ o. GetFits o at w) (sym (kind_found v ds)) e
 
     terms_there : (m : Word) (ts : List Term) → (list_any (takes m (length ts)) ps && list_all (is_known (locals_of p)) ts) ≡ true → (code.takes (length (map (operand_of names) ts)) (slice_get rs (number_of (procedure_names ps) m)) && list_all (is_operand_sound n) (map (operand_of names) ts)) ≡ true
     terms_there m ts e =
         let h = both (list_any (takes m (length ts)) ps) (list_all (is_known (locals_of p)) ts) e in
         and_true _ _ (ap (λ k. code.takes k (slice_get rs (number_of (procedure_names ps) m))) (length-map ts _) ∙ takes_there m (length ts) h.0) (operands_there ts h.1)
 
-    put_there : (v : Word) (a : Term) (k : SimpleKind) (t : Target) → Fits n (slice_get K (number_of V v)) k t → is_known (locals_of p) a ≡ true → (is_target_sound (slice_get K (number_of V v)) n t && is_operand_sound n (operand_of names a)) ≡ true
-    put_there v a k t f e = and_true _ _ f.sound (operand_there a e)
+    put_there : (v : Word) (a : Term) (k : SimpleKind) (t : Target) → Fits n (slice_get K (number_of V v)) k t → is_known (locals_of p) a ≡ true → (is_some (target_kind t) && is_target_sound (slice_get K (number_of V v)) n t && is_operand_sound n (operand_of names a)) ≡ true
+    put_there v a k t f e = and_true _ _ (and_true _ _ (ap is_some f.kind_is) f.sound) (operand_there a e)
 
-    get_there : (x v : Word) (w : Threshold) (k : SimpleKind) (t : Target) → Fits n (slice_get K (number_of V v)) k t → has_name x (locals_of p) ≡ true → (is_of_kind k w && is_apart k w) ≡ true → is_threshold_known (locals_of p) w ≡ true → (ltb (number_of (local_names p) x) n && is_target_sound (slice_get K (number_of V v)) n t && is_wanted_sound (target_kind t) n (wanted_of names w)) ≡ true
-    get_there x v w k t f e g h =
-        and_true _ _ (and_true _ _ (local_there x e) f.sound) (subst (λ j. is_wanted_sound j n (wanted_of names w) ≡ true) (sym f.kind_is) (wanted_there k w g h))
+    get_there : (x v : Word) (w : Threshold) (t : Target) → Gets n (slice_get K (number_of V v)) t (wanted_of names w) → has_name x (locals_of p) ≡ true → (ltb (number_of (local_names p) x) n && is_target_sound (slice_get K (number_of V v)) n t && is_wanted_sound (target_kind t) n (wanted_of names w)) ≡ true
+    get_there x v w t f e = and_true _ _ (and_true _ _ (local_there x e) f.sound) f.waits
 
     command_there : (c : Command) → is_command_sound ds ps (locals_of p) c ≡ true → is_instruction_sound K Q rs n (command_code names c) ≡ true
     command_there (c.Let x a) e = let h = both (has_name x (locals_of p)) (is_value_known (locals_of p) a) e in and_true _ _ (local_there x h.0) (expression_there a h.1)
@@ -210,14 +253,12 @@ module _ (script : Script) where
     command_there (c.Get x v w) e =
         let h = both (has_name x (locals_of p) && is_get_sound ds v None w) (is_threshold_known (locals_of p) w) e in
         let g = both (has_name x (locals_of p)) (is_get_sound ds v None w) h.0 in
-        let s = passes (λ k. is_of_kind k w && is_apart k w) (kind_there ds v None) g.1 in
-        get_there x v w s.0 (whole names v) (whole_fits names n _ s.0 (kind_there_is v None s.0 s.1)) g.0 s.2 h.1
+        get_there x v w (whole names v) (whole_gets _ w (get_fits v None w g.1) h.1) g.0
     command_there (c.GetAt x v k w) e =
         let h = both (has_name x (locals_of p) && is_get_sound ds v (Some k) w && is_known (locals_of p) k) (is_threshold_known (locals_of p) w) e in
         let g = both (has_name x (locals_of p) && is_get_sound ds v (Some k) w) (is_known (locals_of p) k) h.0 in
         let f = both (has_name x (locals_of p)) (is_get_sound ds v (Some k) w) g.0 in
-        let s = passes (λ j. is_of_kind j w && is_apart j w) (kind_there ds v (Some k)) f.1 in
-        get_there x v w s.0 (part names v k) (part_fits names n _ k s.0 (operand_there k g.1) (kind_there_is v (Some k) s.0 s.1)) f.0 s.2 h.1
+        get_there x v w (part names v k) (part_gets _ k w (operand_there k g.1) (get_fits v (Some k) w f.1) h.1) f.0
     command_there (c.Fork m ts) e = terms_there m ts e
     command_there (c.Call m ts) e = terms_there m ts e
     command_there (c.Handle q m) e =

@@ -8,7 +8,7 @@ use Rattle.lvish_syntax.specs.Sound.{variable_names, pool_names, procedure_names
 use Rattle.lvish_syntax.specs.declared.kind.SimpleKind.{SimpleKind}
 use Rattle.lvish_syntax.specs.declared.kind.SimpleKind.TheVariants.{Cell}
 use Rattle.lvish_syntax.specs.declared.kind.VariableKind.{VariableKind}
-use Rattle.lvish_syntax.specs.declared.kind.VariableKind.TheVariants.{Simple, Map, Pair}
+use Rattle.lvish_syntax.specs.declared.kind.VariableKind.TheVariants.{Simple, Map, Pair, Tally}
 use Rattle.lvish_syntax.specs.declared.term.Term.{Term}
 use Rattle.lvish_syntax.specs.declared.term.Term.TheVariants as t
 use Rattle.lvish_syntax.specs.declared.value.Value.{Value}
@@ -28,7 +28,7 @@ use Rattle.lvish_code.specs.declared.operand.Operand.TheVariants.{Local, Number}
 use Rattle.lvish_code.specs.declared.expression.Expression.{Expression}
 use Rattle.lvish_code.specs.declared.expression.Expression.TheVariants.{Same, Combined}
 use Rattle.lvish_code.specs.declared.target.Target.{Target}
-use Rattle.lvish_code.specs.declared.target.Target.TheVariants.{Whole, Entry, Side}
+use Rattle.lvish_code.specs.declared.target.Target.TheVariants.{Whole, Entry, Side, Amount, Total}
 use Rattle.lvish_code.specs.declared.target.Side.TheVariants.{First, Second}
 use Rattle.lvish_code.specs.declared.wanted.Wanted.{Wanted}
 use Rattle.lvish_code.specs.declared.wanted.Wanted.TheVariants.{Any, In, At}
@@ -90,10 +90,12 @@ wanted_of names r.Any = Any
 wanted_of names (r.In zs) = In zs
 wanted_of names (r.Has a) = At (operand_of names a)
 wanted_of names (r.Least a) = At (operand_of names a)
+wanted_of names (r.Total a) = At (operand_of names a)
 
 -- what a put or a get without a term is about, on a variable of this kind
 abbrev pub whole_of : Option VariableKind → Target
 whole_of (Some (Simple k)) = Whole k
+whole_of (Some Tally) = Total
 whole_of k = Whole Cell
 
 -- the side with the number that a term is
@@ -105,6 +107,7 @@ side_of a b (t.Local x) = Side Second b
 abbrev pub part_of : Names → Option VariableKind → Term → Target
 part_of names (Some Map) a = Entry (operand_of names a)
 part_of names (Some (Pair k j)) a = side_of k j a
+part_of names (Some Tally) a = Amount (operand_of names a)
 part_of names k a = Whole Cell
 
 abbrev pub kind_in : Names → Word → Option VariableKind

@@ -1,17 +1,17 @@
 -- What holds of all flat code.
-use Rattle.std.specs.Prelude.{◌≡◌, ℕ, ◌+◌, ◌<◌, ◌≤◌, ℤ, Bool, true, false, ◌&&◌, ◌==◌, nat_lt, nat_le, List, length, Option, Some, None}
+use Rattle.std.specs.Prelude.{◌≡◌, ℕ, ◌+◌, ◌<◌, ◌≤◌, ℤ, Bool, true, false, ◌&&◌, ◌==◌, nat_lt, nat_le, List, length, Option, Some, None, is_some}
 use Rattle.std.specs.List.{slice_get, list_all}
 use Rattle.lvish_syntax.specs.Sound.{is_level, are_one}
 use Rattle.lvish_syntax.specs.declared.kind.SimpleKind.{SimpleKind}
 use Rattle.lvish_syntax.specs.declared.kind.SimpleKind.TheVariants.{Cell, Set, Max}
 use Rattle.lvish_syntax.specs.declared.kind.VariableKind.{VariableKind}
-use Rattle.lvish_syntax.specs.declared.kind.VariableKind.TheVariants.{Simple, Map, Pair}
+use Rattle.lvish_syntax.specs.declared.kind.VariableKind.TheVariants.{Simple, Map, Pair, Tally}
 use Rattle.lvish_code.specs.declared.operand.Operand.{Operand}
 use Rattle.lvish_code.specs.declared.operand.Operand.TheVariants.{Local, Number}
 use Rattle.lvish_code.specs.declared.expression.Expression.{Expression}
 use Rattle.lvish_code.specs.declared.expression.Expression.TheVariants.{Same, Combined}
 use Rattle.lvish_code.specs.declared.target.Target.{Target}
-use Rattle.lvish_code.specs.declared.target.Target.TheVariants.{Whole, Entry, Side}
+use Rattle.lvish_code.specs.declared.target.Target.TheVariants.{Whole, Entry, Side, Amount, Total}
 use Rattle.lvish_code.specs.declared.target.Side.TheVariants.{First, Second}
 use Rattle.lvish_code.specs.declared.wanted.Wanted.{Wanted}
 use Rattle.lvish_code.specs.declared.wanted.Wanted.TheVariants.{Any, In, At}
@@ -48,13 +48,17 @@ is_target_sound (Some (Simple k)) n (Whole j) = is_same_kind k j
 is_target_sound (Some Map) n (Entry a) = is_operand_sound n a
 is_target_sound (Some (Pair a b)) n (Side First j) = is_same_kind a j
 is_target_sound (Some (Pair a b)) n (Side Second j) = is_same_kind b j
+is_target_sound (Some Tally) n (Amount a) = is_operand_sound n a
+is_target_sound (Some Tally) n Total = true
 is_target_sound kind n t = false
 
--- the kind of what is put or got
-abbrev pub target_kind : Target → SimpleKind
-target_kind (Whole k) = k
-target_kind (Entry a) = Cell
-target_kind (Side s k) = k
+-- the kind of what is put or got, where it can be put: an amount grows as a counter does, and a total is only read
+abbrev pub target_kind : Target → Option SimpleKind
+target_kind (Whole k) = Some k
+target_kind (Entry a) = Some Cell
+target_kind (Side s k) = Some k
+target_kind (Amount a) = Some Max
+target_kind Total = None
 
 -- whether numbers are states of this kind, of which any two that differ are incompatible
 abbrev pub are_apart : SimpleKind → List ℤ → Bool
@@ -63,12 +67,18 @@ are_apart Set zs = are_one zs
 are_apart Max zs = list_all is_level zs && are_one zs
 
 -- whether a get on this kind can wait for it
-abbrev pub is_wanted_sound : SimpleKind → ℕ → Wanted → Bool
-is_wanted_sound Cell n Any = true
-is_wanted_sound k n (In zs) = are_apart k zs
-is_wanted_sound Set n (At a) = is_operand_sound n a
-is_wanted_sound Max n (At a) = is_operand_sound n a
-is_wanted_sound k n w = false
+abbrev pub is_wanted_of : SimpleKind → ℕ → Wanted → Bool
+is_wanted_of Cell n Any = true
+is_wanted_of k n (In zs) = are_apart k zs
+is_wanted_of Set n (At a) = is_operand_sound n a
+is_wanted_of Max n (At a) = is_operand_sound n a
+is_wanted_of k n w = false
+
+-- whether a get can wait for it: of a total, which has no kind, for one number
+abbrev pub is_wanted_sound : Option SimpleKind → ℕ → Wanted → Bool
+is_wanted_sound (Some k) n w = is_wanted_of k n w
+is_wanted_sound None n (At a) = is_operand_sound n a
+is_wanted_sound None n w = false
 
 -- ---- in code with variables of these kinds, pools on these variables, and these routines
 
@@ -83,7 +93,7 @@ is_each_sound rs (Some k) = takes 2 (slice_get rs k)
 
 -- whether an action names what there is, and fits it
 abbrev pub is_action_sound : List VariableKind → List ℕ → List Routine → ℕ → Action → Bool
-is_action_sound kinds pools rs n (Put v t a) = is_target_sound (slice_get kinds v) n t && is_operand_sound n a
+is_action_sound kinds pools rs n (Put v t a) = is_some (target_kind t) && is_target_sound (slice_get kinds v) n t && is_operand_sound n a
 is_action_sound kinds pools rs n (Get x v t w) = nat_lt x n && is_target_sound (slice_get kinds v) n t && is_wanted_sound (target_kind t) n w
 is_action_sound kinds pools rs n (Fork k os) = takes (length os) (slice_get rs k) && list_all (is_operand_sound n) os
 is_action_sound kinds pools rs n (Handle p k) = nat_lt p (length pools) && takes 2 (slice_get rs k)

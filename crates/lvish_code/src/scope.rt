@@ -97,6 +97,7 @@ impl Scope<'_, '_> {
             Threshold::In(numbers) => Ok(Wanted::In(numbers.copy(alloc)?)),
             Threshold::Has(term) => Ok(Wanted::At(self.operand(term))),
             Threshold::Least(term) => Ok(Wanted::At(self.operand(term))),
+            Threshold::Total(term) => Ok(Wanted::At(self.operand(term))),
         }
     }
 
@@ -115,6 +116,7 @@ impl Scope<'_, '_> {
     {
         match self.kind(variable) {
             Some(VariableKind::Simple(kind)) => Target::Whole(kind),
+            Some(VariableKind::Tally) => Target::Total,
             _ => Target::Whole(SimpleKind::Cell),
         }
     }
@@ -124,6 +126,7 @@ impl Scope<'_, '_> {
     {
         match self.kind(variable) {
             Some(VariableKind::Map) => Target::Entry(self.operand(place)),
+            Some(VariableKind::Tally) => Target::Amount(self.operand(place)),
             Some(VariableKind::Pair(first, second)) => match place {
                 Term::Number(1) => Target::Side(Side::First, first),
                 _ => Target::Side(Side::Second, second),

@@ -19,4 +19,8 @@ pub enum Target {
     Entry(Operand),
     /// A pair's side, which is of this kind.
     Side(Side, SimpleKind),
+    /// A tally's amount at the operand's value as key.
+    Amount(Operand),
+    /// A tally's total, which is only got.
+    Total,
 }

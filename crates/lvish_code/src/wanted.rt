@@ -8,6 +8,7 @@ pub enum Wanted {
     Any,
     /// One of the numbers, each as a state of the target's kind.
     In(Numbers),
-    /// The operand's value: as an element of a set, or as what a counter has reached.
+    /// The operand's value: as an element of a set, or as what a counter, an amount or a total has
+    /// reached.
     At(Operand),
 }

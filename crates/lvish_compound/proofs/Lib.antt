@@ -3,6 +3,7 @@ pub mod EventSteps
 pub mod Maps
 pub mod Brought
 pub mod Values
+pub mod Tallies
 pub mod Answered
 pub mod Clashes
 pub mod StatesClash

@@ -9,9 +9,9 @@ use Rattle.lvish_compound.specs.declared.number_test.Test.TheVariants.{Any, In, 
 use Rattle.lvish_compound.specs.declared.place.Place.{Place}
 use Rattle.lvish_compound.specs.declared.place.Place.TheVariants as place
 use Rattle.lvish_compound.specs.Counters.{max_by}
-use Rattle.lvish_compound.specs.Numbers.{is_level, are_levels}
+use Rattle.lvish_compound.specs.Numbers.{is_level, are_levels, is_total, are_totals}
 use Rattle.lvish_compound.specs.Places.{fits, fits_kind, is_side}
-use Rattle.lvish_compound.specs.Refusals.{IsBeyond, IsNoSide, IsBeyondCounters, IsRefused}
+use Rattle.lvish_compound.specs.Refusals.{Mentions, IsBeyond, IsNoSide, IsBeyondCounters, IsBeyondTotal, IsBeyondTotals, IsRefused}
 
 held_by : (n : ℕ) (t : Bool) (h : nat_le n 1000 ≡ t) → is_some (max_by n t h) ≡ t
 held_by n true h = refl
@@ -25,39 +25,62 @@ beyond (negsuc n) = (λ _. inl (omega arith), λ _. refl)
 not_true : (b : Bool) → b ≡ true → b ≡ false → ⊥
 not_true b t f = true≢false (sym t ∙ f)
 
-list_beyond : (xs : List ℤ) → list_all is_level xs ≡ false → IsBeyondCounters (In xs)
-list_beyond [] h = absurd cc
-list_beyond (x ∷ xs) h = by_test (is_level x) refl (list_beyond xs)
-  where
-    by_test : (t : Bool) → is_level x ≡ t → (list_all is_level xs ≡ false → IsBeyondCounters (In xs)) → IsBeyondCounters (In (x ∷ xs))
-    by_test false e rest = (x, (0, omega arith, refl), (beyond x).0 e)
-    by_test true e rest = let w = rest (sym (ap (λ b. b && list_all is_level xs) e) ∙ h) in (w.0, (suc w.1.0, omega (arith, w.1.1), w.1.2), w.2)
+-- a list of numbers by a test that some don't pass
+module _ (test : ℤ → Bool) (Beyond : ℤ → Type 0) (where_beyond : (n : ℤ) → (test n ≡ false) ↔ Beyond n) where
+  abbrev SomeBeyond : Test → Type 0
+  SomeBeyond t = (n : ℤ) × Mentions t n × Beyond n
 
-list_within : (xs : List ℤ) (n : ℤ) → Contains xs n → is_level n ≡ false → list_all is_level xs ≡ false
-list_within xs n p h = Rattle.std.proofs.lemmas.List.Folds.list_all_at is_level xs p.0 n p.1 (ap is_level p.2 ∙ h)
+  list_beyond : (xs : List ℤ) → list_all test xs ≡ false → SomeBeyond (In xs)
+  list_beyond [] h = absurd cc
+  list_beyond (x ∷ xs) h = by_test (test x) refl (list_beyond xs)
+    where
+      by_test : (t : Bool) → test x ≡ t → (list_all test xs ≡ false → SomeBeyond (In xs)) → SomeBeyond (In (x ∷ xs))
+      by_test false e rest = (x, (0, omega arith, refl), (where_beyond x).0 e)
+      by_test true e rest = let w = rest (sym (ap (λ b. b && list_all test xs) e) ∙ h) in (w.0, (suc w.1.0, omega (arith, w.1.1), w.1.2), w.2)
+
+  list_within : (xs : List ℤ) (n : ℤ) → Contains xs n → test n ≡ false → list_all test xs ≡ false
+  list_within xs n p h = Rattle.std.proofs.lemmas.List.Folds.list_all_at test xs p.0 n p.1 (ap test p.2 ∙ h)
+
+  by_list : (xs : List ℤ) → (list_all test xs ≡ false) ↔ SomeBeyond (In xs)
+  by_list xs = (list_beyond xs, λ w. list_within xs w.0 w.1 ((where_beyond w.0).1 w.2))
+
+  by_one : (m : ℤ) → (test m ≡ false) ↔ SomeBeyond (At m)
+  by_one m = (λ h. (m, refl, (where_beyond m).0 h), λ w. ap test w.1 ∙ (where_beyond w.0).1 w.2)
 
 pub tests_beyond : (t : Test) → (are_levels t ≡ false) ↔ IsBeyondCounters t
 tests_beyond Any = (λ h. absurd cc, λ w. absurd w.1)
-tests_beyond (In xs) = (list_beyond xs, λ w. list_within xs w.0 w.1 ((beyond w.0).1 w.2))
-tests_beyond (At m) = (λ h. (m, refl, (beyond m).0 h), λ w. ap is_level w.1 ∙ (beyond w.0).1 w.2)
+tests_beyond (In xs) = by_list is_level IsBeyond beyond xs
+tests_beyond (At m) = by_one is_level IsBeyond beyond m
+
+past_total : (n : ℤ) → (is_total n ≡ false) ↔ IsBeyondTotal n
+past_total (pos n) = (λ h. let few : nat_le n 10000 ≡ false = h in inr (grind (arith, few)), λ w. ⊎_elim (λ e. grind (arith, e)) (λ e. grind (arith, e)) w)
+past_total (negsuc n) = (λ _. inl (omega arith), λ _. refl)
+
+totals_beyond : (t : Test) → (are_totals t ≡ false) ↔ IsBeyondTotals t
+totals_beyond Any = (λ h. absurd cc, λ w. absurd w.1)
+totals_beyond (In xs) = by_list is_total IsBeyondTotal past_total xs
+totals_beyond (At m) = by_one is_total IsBeyondTotal past_total m
 
 no_side : (i : ℕ) → (is_side i ≡ false) ↔ IsNoSide i
 no_side i = (λ h. (λ e. not_true (is_side i) (grind (arith, e)) h, λ e. not_true (is_side i) (grind (arith, e)) h), λ w. grind (arith, w.0, w.1))
 
 abbrev IsRefusedKind : Kind → Test → Type 0
-IsRefusedKind l t = (l ≡ kind.Map) ⊎ ((l ≡ kind.Max) × IsBeyondCounters t)
+IsRefusedKind l t = (l ≡ kind.Map) ⊎ (l ≡ kind.Tally) ⊎ ((l ≡ kind.Max) × IsBeyondCounters t)
 
 kinds_refused : (l : Kind) (t : Test) → (fits_kind l t ≡ false) ↔ IsRefusedKind l t
-kinds_refused kind.Cell t = (λ h. absurd cc, ⊎_elim (λ e. absurd cc) (λ e. absurd (cc e.0)))
-kinds_refused kind.Set t = (λ h. absurd cc, ⊎_elim (λ e. absurd cc) (λ e. absurd (cc e.0)))
-kinds_refused kind.Max t = (λ h. inr (refl, (tests_beyond t).0 h), ⊎_elim (λ e. absurd cc) (λ e. (tests_beyond t).1 e.1))
+kinds_refused kind.Cell t = (λ h. absurd cc, ⊎_elim (λ e. absurd cc) (⊎_elim (λ e. absurd cc) (λ e. absurd (cc e.0))))
+kinds_refused kind.Set t = (λ h. absurd cc, ⊎_elim (λ e. absurd cc) (⊎_elim (λ e. absurd cc) (λ e. absurd (cc e.0))))
+kinds_refused kind.Max t = (λ h. inr (inr (refl, (tests_beyond t).0 h)), ⊎_elim (λ e. absurd cc) (⊎_elim (λ e. absurd cc) (λ e. (tests_beyond t).1 e.1)))
 kinds_refused kind.Map t = (λ _. inl refl, λ _. refl)
+kinds_refused kind.Tally t = (λ _. inr (inl refl), λ _. refl)
 
 pub refused_where : (p : Place) (t : Test) → (fits p t ≡ false) ↔ IsRefused p t
 refused_where place.Cell t = (λ h. absurd cc, λ w. absurd w)
 refused_where place.Set t = (λ h. absurd cc, λ w. absurd w)
 refused_where place.Max t = tests_beyond t
 refused_where (place.Key k) t = (λ h. absurd cc, λ w. absurd w)
+refused_where (place.Amount k) t = tests_beyond t
+refused_where place.Total t = totals_beyond t
 refused_where (place.Side i l) t = by_side (is_side i) refl
   where
     by_side : (b : Bool) → is_side i ≡ b → ((b && fits_kind l t) ≡ false) ↔ (IsNoSide i ⊎ IsRefusedKind l t)

@@ -9,14 +9,15 @@ use Rattle.lvish_lattice.specs.Plain.{int_identical}
 use Rattle.lvish_lattice.specs.Top.{IsTopWhere, TwoValues}
 use Rattle.lvish_lattice.specs.declared.flat.Flat.TheVariants.{Value}
 use Rattle.lvish_compound.specs.declared.any.Any.{Any}
-use Rattle.lvish_compound.specs.declared.any.Any.TheVariants.{Part, Map, Sides}
+use Rattle.lvish_compound.specs.declared.any.Any.TheVariants.{Part, Map, Sides, Tally}
 use Rattle.lvish_compound.specs.declared.part.Part as part
 use Rattle.lvish_compound.specs.declared.part.Part.TheVariants.{Empty, Cell, Set, Max}
 use Rattle.lvish_compound.specs.Clashes.{AtSomeKey, PartsClash, Clash}
 use Rattle.lvish_compound.specs.Held.{Held, held}
 use Rattle.lvish_compound.specs.MapOf as map_of
 use Rattle.lvish_compound.specs.Parts as parts
-use Rattle.lvish_compound.specs.States.{nothing, of_map, of_pair, unless_part, joined}
+use Rattle.lvish_compound.specs.States.{nothing, of_map, of_pair, of_tally, unless_part, joined}
+use Rattle.lvish_compound.specs.TallyLaws.{tallies_top}
 use Rattle.lvish_compound.proofs.Clashes.{pairs_clash}
 
 mapped_top : {A B : Type 0} (f : A → B) (r : Option A) → (option_map f r ≡ None) ↔ (r ≡ None)
@@ -64,14 +65,24 @@ map_there x e = absurd cc
 sides_there : (z : _) → Sides z ≢ nothing
 sides_there z e = absurd cc
 
+tally_there : (x : _) → Tally x ≢ nothing
+tally_there x e = absurd cc
+
 module _ (maps : (x y : Held Map) → (map_of.joined x y ≡ None) ↔ AtSomeKey TwoValues x y) where
   pub states_top : IsTopWhere joined Clash
   states_top (Part s) (Part t) = let p = parts_top s t in (λ h. p.0 ((mapped_top Part _).0 h), λ w. (mapped_top Part _).1 (p.1 w))
   states_top (Part s) (Map y) = part_first s (Map y) (map_there y)
   states_top (Part s) (Sides z) = part_first s (Sides z) (sides_there z)
+  states_top (Part s) (Tally y) = part_first s (Tally y) (tally_there y)
   states_top (Map x) (Part t) = part_second t (Map x) (map_there x)
   states_top (Map x) (Map y) = let p = maps x.state y.state in (λ h. p.0 ((mapped_top of_map _).0 h), λ w. (mapped_top of_map _).1 (p.1 w))
   states_top (Map x) (Sides z) = (λ _. (map_there x, sides_there z), λ _. refl)
+  states_top (Map x) (Tally y) = (λ _. (map_there x, tally_there y), λ _. refl)
   states_top (Sides x) (Part t) = part_second t (Sides x) (sides_there x)
   states_top (Sides x) (Map y) = (λ _. (sides_there x, map_there y), λ _. refl)
+  states_top (Sides x) (Tally y) = (λ _. (sides_there x, tally_there y), λ _. refl)
+  states_top (Tally x) (Part t) = part_second t (Tally x) (tally_there x)
+  states_top (Tally x) (Map y) = (λ _. (tally_there x, map_there y), λ _. refl)
+  states_top (Tally x) (Sides z) = (λ _. (tally_there x, sides_there z), λ _. refl)
+  states_top (Tally x) (Tally y) = let p = tallies_top x.state y.state in (λ h. p.0 ((mapped_top of_tally _).0 h), λ w. (mapped_top of_tally _).1 (p.1 w))
   states_top (Sides x) (Sides z) = let p = pairs_clash parts_top parts_top x.pair z.pair in (λ h. p.0 ((mapped_top of_pair _).0 h), λ w. (mapped_top of_pair _).1 (p.1 w))

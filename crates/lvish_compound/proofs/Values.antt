@@ -8,7 +8,7 @@ use borrow.Author.Tests.{le-leb}
 use Rattle.lvish_lattice.specs.declared.flat.Flat.TheVariants.{Value}
 use Rattle.lvish_lattice.specs.declared.max_counter.MaxCounter.{MaxCounter}
 use Rattle.lvish_lattice.specs.GrowSet as grow_set
-use Rattle.lvish_lattice.specs.MaxCounter.{number_of}
+use Rattle.lvish_lattice.specs.MaxCounter.{number_of, zero as no_amount}
 use Rattle.lvish_lattice.specs.MaxCounterLaws.{same_counter}
 use Rattle.lvish_compound.specs.declared.any.Any.{Any}
 use Rattle.lvish_compound.specs.declared.any.Any.TheVariants.{Part, Map}
@@ -20,7 +20,11 @@ use Rattle.lvish_compound.specs.Held.{Held, held, held_above, state_in}
 use Rattle.lvish_compound.specs.MapOf as map_of
 use Rattle.lvish_compound.specs.MapReads.{holding}
 use Rattle.lvish_compound.specs.PairLaws.{same_pair}
-use Rattle.lvish_compound.specs.States.{of_map, of_pair, singleton, counter, entry, side}
+use Rattle.lvish_compound.specs.States.{of_map, of_pair, of_tally, singleton, counter, counted, entry, amount, side}
+use Rattle.lvish_compound.specs.Keyed.{alone}
+use Rattle.lvish_compound.specs.Tally.{single, entries_of, amounts_of, amount_test}
+use Rattle.lvish_compound.specs.TallyLaws.{same_tally}
+use Rattle.lvish_compound.specs.declared.tally.Tally.{Tally}
 
 first_of : (x : ℤ) (xs : List ℤ) → Contains (x ∷ xs) x
 first_of x xs = (0, omega arith, refl)
@@ -62,6 +66,12 @@ one_entry k v = holding k (Value v)
 -- the map of one entry
 pub entry_is : (m : Held Map) (k v l w : ℤ) → l ≡ k → w ≡ v → map_of.entries_of m ≡ map_of.entries_of (one_entry l w) → of_map m ≡ entry k v
 entry_is m k v l w e f h = ap of_map (map_of.same_map m (one_entry l w) h ∙ (λ i. one_entry (e i) (f i)))
+
+-- the tally of one key and its amount
+pub amount_is : (t : Tally) (k l n : ℤ) (c : MaxCounter) → number_of c ≡ n → l ≡ k → entries_of t ≡ alone amount_test no_amount l c → amount k n ≡ Some (of_tally t)
+amount_is t k l n c e f h =
+    let same : t ≡ single k c = same_tally t (single k c) (map_of.same_map (amounts_of t) (amounts_of (single k c)) (h ∙ ap (λ q. alone amount_test no_amount q c) f)) in
+    ap (amount k) (sym e) ∙ ap (option_map (counted k)) (max_of_number c) ∙ ap (λ (s : Tally). Some (of_tally s)) (sym same)
 
 -- a part as one of two sides
 pub first_side : (i : ℕ) (s : Any) (p : part.Part) (q : Pair part.Part part.Part) → s ≡ Part p → i ≡ 1 → q.one ≡ p → q.two ≡ Empty → side i s ≡ Some (of_pair q)

@@ -31,7 +31,7 @@ use Rattle.lvish_compound.specs.declared.side_of.SideOf.{SideOf}
 use Rattle.lvish_compound.specs.declared.side_of.SideOf.TheVariants.{One, Two}
 use Rattle.lvish_compound.specs.Held.{Held}
 use Rattle.lvish_compound.specs.AnyReads.{answer_of}
-use Rattle.lvish_compound.specs.EventNames.{PartEvent, RawEvent, part_event, name_of, apart, sides_eq}
+use Rattle.lvish_compound.specs.EventNames.{PartEvent, RawEvent, WholeEvent, part_event, name_of, whole_name, whole_apart, sides_eq}
 use Rattle.lvish_compound.specs.MapOf as map_of
 use Rattle.lvish_compound.specs.Numbers.{cell_answer, first_that, is_reached}
 use Rattle.lvish_compound.specs.Pair as pair
@@ -39,10 +39,12 @@ use Rattle.lvish_compound.specs.PartLaws as part_laws
 use Rattle.lvish_compound.specs.Parts as parts
 use Rattle.lvish_compound.specs.Renamed.{has_name}
 use Rattle.lvish_compound.specs.SideEvents.{has_one, has_two}
-use Rattle.lvish_compound.specs.StateEvents.{IsByName, part_eq, entry_eq, side_eq, raw_eq, raw_events, raw_same, raw_itself, names_there}
-use Rattle.lvish_compound.specs.StateLaws.{view, cells, value_itself, same_value}
+use Rattle.lvish_compound.specs.StateEvents.{IsByName, part_eq, entry_eq, side_eq, raw_eq, whole_eq, raw_events, whole_events, whole_same, whole_itself, names_there}
+use Rattle.lvish_compound.specs.StateLaws.{three_in, tally_in, view, cells, value_itself, same_value}
 use Rattle.lvish_compound.specs.StateReads.{cell_in, set_in, max_in, part_answer, part_in, map_in, side_in, answer_at}
 use Rattle.lvish_compound.specs.States.{events_of}
+use Rattle.lvish_compound.specs.Tally as tally
+use Rattle.lvish_compound.specs.TallyLaws.{amount_has}
 use Rattle.lvish_compound.specs.Watching.{brings_there, was_there}
 
 -- the numbers of a cell and of an entry are alike to who waits there
@@ -51,6 +53,7 @@ spot_by kind.Cell n = pos 0
 spot_by kind.Set n = n
 spot_by kind.Max n = n
 spot_by kind.Map n = pos 0
+spot_by kind.Tally n = n
 
 abbrev pub spot_of : Event → Event
 spot_of e = record { key = e.key; kind = e.kind; number = spot_by e.kind e.number }
@@ -66,6 +69,7 @@ number_by kind.Cell t = Some (pos 0)
 number_by kind.Set t = one_in t
 number_by kind.Max t = one_in t
 number_by kind.Map t = None
+number_by kind.Tally t = one_in t
 
 abbrev pub at_spot : ℤ → Kind → ℤ → Event
 at_spot k l n = record { key = k; kind = l; number = n }
@@ -79,6 +83,8 @@ watched_at place.Cell t = option_map (at_spot (pos 0) kind.Cell) (number_by kind
 watched_at place.Set t = option_map (at_spot (pos 0) kind.Set) (number_by kind.Set t)
 watched_at place.Max t = option_map (at_spot (pos 0) kind.Max) (number_by kind.Max t)
 watched_at (place.Key k) t = Some (at_spot k kind.Map (pos 0))
+watched_at (place.Amount k) t = option_map (at_spot k kind.Tally) (number_by kind.Tally t)
+watched_at place.Total t = None
 watched_at (place.Side i l) t = option_map (at_spot (side_key i) l) (number_by l t)
 
 abbrev pub watched : AnyRead → Option Event
@@ -169,6 +175,7 @@ part_waits kind.Cell t w is old new a none some = subst (λ w. BringsAt part_eq 
 part_waits kind.Set t w is old new a none some = brings_there set_in (λ n. Two (One n)) (λ v. (kind.Set, v)) has_set (λ n. refl) old new w (set_waits t w is (set_in old) (set_in new) a none some)
 part_waits kind.Max t w is old new a none some = brings_there max_in (λ n. Two (Two n)) (λ v. (kind.Max, v)) has_max (λ n. refl) old new w (max_waits t w is (max_in old) (max_in new) a none some)
 part_waits kind.Map t w is old new a none some = absurd cc
+part_waits kind.Tally t w is old new a none some = absurd cc
 
 -- a part's event under a key
 abbrev spot_there : ℤ → Kind × ℤ → Event
@@ -180,8 +187,14 @@ part_spots k (Two (One n)) = refl
 part_spots k (Two (Two n)) = refl
 
 module _ (en : Event → Event → Bool) (by : IsByName en) where
-  has_raw : (s : Any) (r : RawEvent) → is_member en (events_of s) (name_of r) ≡ is_member raw_eq (raw_events (view s)) r
-  has_raw s r = ap (λ es. is_member en es (name_of r)) (names_there s) ∙ has_name raw_same raw_itself by.same_name by.its_name name_of apart (raw_events (view s)) r
+  has_whole : (s : Any) (r : WholeEvent) → is_member en (events_of s) (whole_name r) ≡ is_member whole_eq (whole_events (view s)) r
+  has_whole s r = ap (λ es. is_member en es (whole_name r)) (names_there s) ∙ has_name whole_same whole_itself by.same_name by.its_name whole_name whole_apart (whole_events (view s)) r
+
+  has_raw : (s : Any) (r : RawEvent) → is_member en (events_of s) (name_of r) ≡ is_member raw_eq (raw_events (three_in s)) r
+  has_raw s r = has_whole s (One r) ∙ has_one raw_eq entry_eq whole_eq (λ x z. refl) (λ y w. refl) (λ x y. refl) (λ x y. refl) (raw_events (three_in s)) (tally.events_of (tally_in s)) r
+
+  has_amount : (s : Any) (k n : ℤ) → is_member en (events_of s) (whole_name (Two (k, n))) ≡ is_member int_eq (max.events_of (tally.amount (tally_in s) k)) n
+  has_amount s k n = has_whole s (Two (k, n)) ∙ has_two raw_eq entry_eq whole_eq (λ x z. refl) (λ y w. refl) (λ x y. refl) (λ x y. refl) (raw_events (three_in s)) (tally.events_of (tally_in s)) (k, n) ∙ amount_has (tally_in s) k n
 
   abbrev late_eq : SideOf (ℤ × ℤ) (SideOf PartEvent PartEvent) → SideOf (ℤ × ℤ) (SideOf PartEvent PartEvent) → Bool
   late_eq = sides_eq entry_eq side_eq
@@ -189,21 +202,21 @@ module _ (en : Event → Event → Bool) (by : IsByName en) where
   has_part : (s : Any) (e : PartEvent) → is_member en (events_of s) (name_of (One e)) ≡ is_member part_eq (parts.events_of (part_in s)) e
   has_part s e = has_raw s (One e) ∙ has_one part_eq late_eq raw_eq (λ x z. refl) (λ y w. refl) (λ x y. refl) (λ x y. refl) (parts.events_of (part_in s)) _ e
 
-  has_late : (s : Any) (e : SideOf (ℤ × ℤ) (SideOf PartEvent PartEvent)) → is_member en (events_of s) (name_of (Two e)) ≡ is_member late_eq (pair.events_of map_of.map_events_of (pair.events_of parts.events_of parts.events_of) (view s).two) e
+  has_late : (s : Any) (e : SideOf (ℤ × ℤ) (SideOf PartEvent PartEvent)) → is_member en (events_of s) (name_of (Two e)) ≡ is_member late_eq (pair.events_of map_of.map_events_of (pair.events_of parts.events_of parts.events_of) (three_in s).two) e
   has_late s e = has_raw s (Two e) ∙ has_two part_eq late_eq raw_eq (λ x z. refl) (λ y w. refl) (λ x y. refl) (λ x y. refl) (parts.events_of (part_in s)) _ e
 
   has_entry : (s : Any) (k n : ℤ) → is_member en (events_of s) (name_of (Two (One (k, n)))) ≡ is_member int_eq (flat.events_of (map_of.at (map_in s) k)) n
   has_entry s k n = has_late s (One (k, n)) ∙ has_one entry_eq side_eq late_eq (λ x z. refl) (λ y w. refl) (λ x y. refl) (λ x y. refl) (map_of.map_events_of (map_in s)) _ (k, n)
       ∙ map_of.map_has int_cmp_total part_laws.ties cells value_itself same_value int_cmp int_cmp_total part_laws.ties (flat_has_events int_eq int_identical int_eq_equiv int_cmp) int_eq int_eq (λ x y. refl) (λ x y. refl) (map_in s) k n
 
-  has_side : (s : Any) (e : SideOf PartEvent PartEvent) → is_member en (events_of s) (name_of (Two (Two e))) ≡ is_member side_eq (pair.events_of parts.events_of parts.events_of (view s).two.two) e
+  has_side : (s : Any) (e : SideOf PartEvent PartEvent) → is_member en (events_of s) (name_of (Two (Two e))) ≡ is_member side_eq (pair.events_of parts.events_of parts.events_of (three_in s).two.two) e
   has_side s e = has_late s (Two e) ∙ has_two entry_eq side_eq late_eq (λ x z. refl) (λ y w. refl) (λ x y. refl) (λ x y. refl) (map_of.map_events_of (map_in s)) _ e
 
   has_first : (s : Any) (e : PartEvent) → is_member en (events_of s) (name_of (Two (Two (One e)))) ≡ is_member part_eq (parts.events_of (side_in 1 s)) e
-  has_first s e = has_side s (One e) ∙ has_one part_eq part_eq side_eq (λ x z. refl) (λ y w. refl) (λ x y. refl) (λ x y. refl) (parts.events_of (view s).two.two.one) (parts.events_of (view s).two.two.two) e
+  has_first s e = has_side s (One e) ∙ has_one part_eq part_eq side_eq (λ x z. refl) (λ y w. refl) (λ x y. refl) (λ x y. refl) (parts.events_of (three_in s).two.two.one) (parts.events_of (three_in s).two.two.two) e
 
   has_second : (s : Any) (e : PartEvent) → is_member en (events_of s) (name_of (Two (Two (Two e)))) ≡ is_member part_eq (parts.events_of (side_in 2 s)) e
-  has_second s e = has_side s (Two e) ∙ has_two part_eq part_eq side_eq (λ x z. refl) (λ y w. refl) (λ x y. refl) (λ x y. refl) (parts.events_of (view s).two.two.one) (parts.events_of (view s).two.two.two) e
+  has_second s e = has_side s (Two e) ∙ has_two part_eq part_eq side_eq (λ x z. refl) (λ y w. refl) (λ x y. refl) (λ x y. refl) (parts.events_of (three_in s).two.two.one) (parts.events_of (three_in s).two.two.two) e
 
   abbrev Brings : Any → Any → Event → Type 0
   Brings old new w = BringsAt en events_of spot_of old new w
@@ -214,7 +227,7 @@ module _ (en : Event → Event → Bool) (by : IsByName en) where
       subst (Brings old new) v.2 (brings_there part_in (λ e. name_of (One e)) (spot_there (pos 0)) has_part (part_spots (pos 0)) old new (l, v.0) (part_waits l t v.0 v.1 (part_in old) (part_in new) a none some))
 
   side_waits : (first : Bool) (l : Kind) (t : Test) (w : Event) → option_map (at_spot (cond first (pos 1) (pos 2)) l) (number_by l t) ≡ Some w → (old new : Any) (a : ℤ)
-      → part_answer l t (cond first (view old).two.two.one (view old).two.two.two) ≡ None → part_answer l t (cond first (view new).two.two.one (view new).two.two.two) ≡ Some a → Brings old new w
+      → part_answer l t (cond first (three_in old).two.two.one (three_in old).two.two.two) ≡ None → part_answer l t (cond first (three_in new).two.two.one (three_in new).two.two.two) ≡ Some a → Brings old new w
   side_waits true l t w is old new a none some =
       let v = was_there (at_spot (pos 1) l) (number_by l t) w is in
       subst (Brings old new) v.2 (brings_there (side_in 1) (λ e. name_of (Two (Two (One e)))) (spot_there (pos 1)) has_first (part_spots (pos 1)) old new (l, v.0) (part_waits l t v.0 v.1 (side_in 1 old) (side_in 1 new) a none some))
@@ -232,6 +245,11 @@ module _ (en : Event → Event → Bool) (by : IsByName en) where
   waits_at (place.Key k) t w is old new a none some =
       subst (Brings old new) (event_same (at_spot k kind.Map (pos 0)) w is)
       (brings_there (λ s. map_of.at (map_in s) k) (λ n. name_of (Two (One (k, n)))) (at_spot k kind.Map) (λ s n. has_entry s k n) (λ n. refl) old new (pos 0) (cell_waits t (map_of.at (map_in old) k) (map_of.at (map_in new) k) a none some))
+  waits_at (place.Amount k) t w is old new a none some =
+      let v = was_there (at_spot k kind.Tally) (number_by kind.Tally t) w is in
+      subst (Brings old new) v.2
+      (brings_there (λ s. tally.amount (tally_in s) k) (λ n. whole_name (Two (k, n))) (at_spot k kind.Tally) (λ s n. has_amount s k n) (λ n. refl) old new v.0 (max_waits t v.0 v.1 (tally.amount (tally_in old) k) (tally.amount (tally_in new) k) a none some))
+  waits_at place.Total t w is old new a none some = absurd cc
   waits_at (place.Side i l) t w is old new a none some = side_waits (nat_eq i 1) l t w is old new a none some
 
   pub any_waits : IsWatched en events_of spot_of watched answer_of

@@ -7,13 +7,14 @@ use Rattle.std.specs.declared.cmp.PartialOrd as partial_ord
 use Rattle.std.specs.declared.hash.Hash as hash
 use Rattle.lvish_lattice.specs.declared.lattice.Lattice as lattice
 use Rattle.lvish_compound.specs.declared.any.Any.{Any}
-use Rattle.lvish_compound.specs.declared.any.Any.TheVariants.{Part, Map, Sides}
+use Rattle.lvish_compound.specs.declared.any.Any.TheVariants.{Part, Map, Sides, Tally}
 use Rattle.lvish_compound.specs.declared.map_of.MapOf.{MapOf}
 use Rattle.lvish_compound.specs.declared.pair.Pair.{Pair}
 use Rattle.lvish_compound.specs.declared.part.Part as part
 use Rattle.lvish_compound.specs.declared.part.Part.TheVariants.{Empty, Cell, Set, Max}
 use Rattle.lvish_compound.specs.MapOf.{at}
 use Rattle.lvish_compound.specs.States.{nothing}
+use Rattle.lvish_compound.specs.Tally.{IsPastTotal}
 
 -- two states join to top
 abbrev pub JoinToTop : {S : Type 0} → (S → S → Option S) → S → S → Type 0
@@ -35,9 +36,10 @@ PartsClash (Set x) (Set y) = ⊥
 PartsClash (Max x) (Max y) = ⊥
 PartsClash s t = (s ≢ Empty) × (t ≢ Empty)
 
--- Two states clash: two parts that do, two maps with values that differ at some key, two pairs of parts that clash at some side, and any two of different kinds that aren't bottom.
+-- Two states clash: two parts that do, two maps with values that differ at some key, two pairs of parts that clash at some side, two tallies whose greater amounts add up to more than 10,000, and any two of different kinds that aren't bottom.
 abbrev pub Clash : Any → Any → Type 0
 Clash (Part s) (Part t) = PartsClash s t
 Clash (Map x) (Map y) = AtSomeKey TwoValues x.state y.state
 Clash (Sides x) (Sides y) = AtSomeSide PartsClash PartsClash x.pair y.pair
+Clash (Tally x) (Tally y) = IsPastTotal x.state y.state
 Clash s t = (s ≢ nothing) × (t ≢ nothing)

@@ -4,7 +4,7 @@ use Rattle.std.proofs.Common.{sym, ◌∙◌, ap, subst, inl, inr}
 use Rattle.lvish_lattice.specs.Lattice.{IsJoin, IsBelow, Answers, IsChecked, IsAnswered}
 use Rattle.lvish_compound.specs.declared.number_test.Test.{Test}
 use Rattle.lvish_compound.specs.declared.pair.Pair.{Pair}
-use Rattle.lvish_compound.specs.Numbers.{ByNumber}
+use Rattle.lvish_compound.specs.Numbers.{StandsFor, ByNumber}
 use Rattle.lvish_compound.specs.Pair as pair
 use Rattle.lvish_compound.specs.Pair.{both}
 use Rattle.lvish_compound.specs.PairLaws.{both_there, both_from}
@@ -77,44 +77,50 @@ module _ {S P : Type 0} {least : P} {join : P → P → Option P} (j : IsJoin le
     );
   }
 
+-- what a number stands for in the whole are the images of what it stands for in the part
+pub record IsImage {L S : Type 0} (put : L → S) (inner : ℤ → L → Type 0) (outer : ℤ → S → Type 0) : Type 0 where
+  pub source : (n : ℤ) (s : S) → outer n s → (x : L) × inner n x × (put x ≡ s)
+  pub image : (n : ℤ) (x : L) → inner n x → outer n (put x)
+
+-- so it is where a number stands for one state at most, and for the image of that one
+pub image_of_one : {L S : Type 0} {put : L → S} (inner : ℤ → Option L) (outer : ℤ → Option S) → ((n : ℤ) → outer n ≡ option_map put (inner n)) → IsImage put (StandsFor inner) (StandsFor outer)
+image_of_one {put = put} inner outer same = record {
+  source = λ n s h. mapped put (inner n) s (sym (same n) ∙ h);
+  image = λ n x h. same n ∙ ap (option_map put) h;
+}
+
 -- a read of the part, as a read of the whole
-module _ {L S : Type 0} {join : L → L → Option L} {joined : S → S → Option S} {put : L → S} {part : S → L} (e : IsEmbedded join joined put part) (t : Test) (state : ℤ → Option L) where
-  abbrev Inner : L → ℤ → Type 0
-  Inner = ByNumber t state
-
-  abbrev Outer : S → ℤ → Type 0
-  Outer = ByNumber t (λ n. option_map put (state n))
-
-  checked_outer : IsChecked join Inner → IsChecked joined Outer
+module _ {L S : Type 0} {join : L → L → Option L} {joined : S → S → Option S} {put : L → S} {part : S → L} (e : IsEmbedded join joined put part) (t : Test) {inner : ℤ → L → Type 0} {outer : ℤ → S → Type 0} (image : IsImage put inner outer) where
+  checked_outer : IsChecked join (ByNumber t inner) → IsChecked joined (ByNumber t outer)
   checked_outer h p q m n a b =
-      let x : (x : L) × (state m ≡ Some x) × (put x ≡ p) = mapped put (state m) p a.1 in
-      let y : (y : L) × (state n ≡ Some y) × (put y ≡ q) = mapped put (state n) q b.1 in
+      let x : (x : L) × inner m x × (put x ≡ p) = image.source m p a.1 in
+      let y : (y : L) × inner n y × (put y ≡ q) = image.source n q b.1 in
       by_case x.0 y.0 x.2 y.2 (h x.0 y.0 m n (a.0, x.1) (b.0, y.1))
     where
-      by_case : (x y : L) → put x ≡ p → put y ≡ q → ((x ≡ y) × (m ≡ n)) ⊎ (join x y ≡ None) → ((p ≡ q) × (m ≡ n)) ⊎ (joined p q ≡ None)
-      by_case x y f g (inl s) = inl (sym f ∙ ap put s.0 ∙ g, s.1)
+      by_case : (x y : L) → put x ≡ p → put y ≡ q → (m ≡ n) ⊎ (join x y ≡ None) → (m ≡ n) ⊎ (joined p q ≡ None)
+      by_case x y f g (inl s) = inl s
       by_case x y f g (inr s) = inr ((λ i. joined (sym f i) (sym g i)) ∙ e.joins x y ∙ ap (option_map put) s)
 
   none_inside : (u : Option L) → option_map put u ≡ None → u ≡ None
   none_inside (Some a) h = absurd cc
   none_inside None h = refl
 
-  checked_inner : IsChecked joined Outer → IsChecked join Inner
-  checked_inner h x y m n a b = by_case (h (put x) (put y) m n (a.0, ap (option_map put) a.1) (b.0, ap (option_map put) b.1))
+  checked_inner : IsChecked joined (ByNumber t outer) → IsChecked join (ByNumber t inner)
+  checked_inner h x y m n a b = by_case (h (put x) (put y) m n (a.0, image.image m x a.1) (b.0, image.image n y b.1))
     where
-      by_case : ((put x ≡ put y) × (m ≡ n)) ⊎ (joined (put x) (put y) ≡ None) → ((x ≡ y) × (m ≡ n)) ⊎ (join x y ≡ None)
-      by_case (inl s) = inl (sym (e.back x) ∙ ap part s.0 ∙ e.back y, s.1)
+      by_case : (m ≡ n) ⊎ (joined (put x) (put y) ≡ None) → (m ≡ n) ⊎ (join x y ≡ None)
+      by_case (inl s) = inl s
       by_case (inr s) = inr (none_inside (join x y) (sym (e.joins x y) ∙ s))
 
-  pub checked_there : IsChecked join Inner ↔ IsChecked joined Outer
+  pub checked_there : IsChecked join (ByNumber t inner) ↔ IsChecked joined (ByNumber t outer)
   checked_there = (checked_outer, checked_inner)
 
-  pub answered_there : (answer : L → Option ℤ) → (IsChecked join Inner → IsAnswered join Inner answer) → IsChecked joined Outer → IsAnswered joined Outer (λ s. answer (part s))
+  pub answered_there : (answer : L → Option ℤ) → (IsChecked join (ByNumber t inner) → IsAnswered join (ByNumber t inner) answer) → IsChecked joined (ByNumber t outer) → IsAnswered joined (ByNumber t outer) (λ s. answer (part s))
   answered_there answer law checked s n =
       let by_part = law (checked_inner checked) (part s) n in (
-        λ h. let m : Answers join Inner (part s) n = by_part.0 h in (put m.0, (m.1.0, ap (option_map put) m.1.1), (e.below m.0 s).1 m.2),
+        λ h. let m : Answers join (ByNumber t inner) (part s) n = by_part.0 h in (put m.0, (m.1.0, image.image n m.0 m.1.1), (e.below m.0 s).1 m.2),
         λ m.
-            let x : (x : L) × (state n ≡ Some x) × (put x ≡ m.0) = mapped put (state n) m.0 m.1.1 in
+            let x : (x : L) × inner n x × (put x ≡ m.0) = image.source n m.0 m.1.1 in
             by_part.1 (x.0, (m.1.0, x.1), (e.below x.0 s).0 (subst (λ p. IsBelow joined p s) (sym x.2) m.2)),
       )
 

@@ -10,7 +10,7 @@ use Rattle.std.specs.List.Sorted.{IsStrictlySortedBy}
 use Rattle.std.specs.Ordering.{int_cmp, int_eq, ordering_then}
 use Rattle.lvish_compound.specs.declared.event.Event.{Event}
 use Rattle.lvish_compound.specs.declared.kind.Kind.{Kind}
-use Rattle.lvish_compound.specs.declared.kind.Kind.TheVariants.{Cell, Set, Max, Map}
+use Rattle.lvish_compound.specs.declared.kind.Kind.TheVariants.{Cell, Set, Max, Map, Tally}
 use Rattle.lvish_compound.specs.declared.side_of.SideOf.{SideOf}
 use Rattle.lvish_compound.specs.declared.side_of.SideOf.TheVariants.{One, Two}
 use Rattle.lvish_compound.specs.Events.{event_order}
@@ -24,6 +24,10 @@ PartEvent = SideOf ℤ (SideOf ℤ ℤ)
 abbrev pub RawEvent : Type 0
 RawEvent = SideOf PartEvent (SideOf (ℤ × ℤ) (SideOf PartEvent PartEvent))
 
+-- one of these, or a tally
+abbrev pub WholeEvent : Type 0
+WholeEvent = SideOf RawEvent (ℤ × ℤ)
+
 -- an event of a part, under a key
 abbrev pub part_event : ℤ → PartEvent → Event
 part_event k (One n) = record { key = k; kind = Cell; number = n }
@@ -33,6 +37,10 @@ part_event k (Two (Two n)) = record { key = k; kind = Max; number = n }
 -- a key of a map and its value
 abbrev pub entry_event : ℤ × ℤ → Event
 entry_event e = record { key = e.0; kind = Map; number = e.1 }
+
+-- a key of a tally and one of the numbers up to its amount
+abbrev pub tally_event : ℤ × ℤ → Event
+tally_event e = record { key = e.0; kind = Tally; number = e.1 }
 
 -- an event of a side, under the number of the side
 abbrev pub side_event : SideOf PartEvent PartEvent → Event
@@ -44,20 +52,25 @@ name_of (One e) = part_event (pos 0) e
 name_of (Two (One e)) = entry_event e
 name_of (Two (Two e)) = side_event e
 
+abbrev pub whole_name : WholeEvent → Event
+whole_name (One e) = name_of e
+whole_name (Two e) = tally_event e
+
 -- the key of a part's event tells the side
 abbrev place : ℤ → PartEvent → RawEvent
 place k e = cond (int_eq k (pos 0)) (One e) (cond (int_eq k (pos 1)) (Two (Two (One e))) (Two (Two (Two e))))
 
-abbrev by_kind : Kind → ℤ → ℤ → RawEvent
-by_kind Cell k n = place k (One n)
-by_kind Set k n = place k (Two (One n))
-by_kind Max k n = place k (Two (Two n))
-by_kind Map k n = Two (One (k, n))
+abbrev by_kind : Kind → ℤ → ℤ → WholeEvent
+by_kind Cell k n = One (place k (One n))
+by_kind Set k n = One (place k (Two (One n)))
+by_kind Max k n = One (place k (Two (Two n)))
+by_kind Map k n = One (Two (One (k, n)))
+by_kind Tally k n = Two (k, n)
 
-abbrev raw_of : Event → RawEvent
+abbrev raw_of : Event → WholeEvent
 raw_of e = by_kind e.kind e.key e.number
 
-raw_back : (e : RawEvent) → raw_of (name_of e) ≡ e
+raw_back : (e : RawEvent) → raw_of (name_of e) ≡ One e
 raw_back (One (One n)) = refl
 raw_back (One (Two (One n))) = refl
 raw_back (One (Two (Two n))) = refl
@@ -69,9 +82,28 @@ raw_back (Two (Two (Two (One n)))) = refl
 raw_back (Two (Two (Two (Two (One n))))) = refl
 raw_back (Two (Two (Two (Two (Two n))))) = refl
 
+whole_back : (e : WholeEvent) → raw_of (whole_name e) ≡ e
+whole_back (One e) = raw_back e
+whole_back (Two e) = refl
+
 -- different events have different names
+pub whole_apart : (d e : WholeEvent) → whole_name d ≡ whole_name e → d ≡ e
+whole_apart d e h = sym (whole_back d) ∙ ap raw_of h ∙ whole_back e
+
+first_raw : (d e : RawEvent) → ◌≡◌ {A = WholeEvent} (One d) (One e) → d ≡ e
+first_raw d e h = cc
+
 pub apart : (d e : RawEvent) → name_of d ≡ name_of e → d ≡ e
-apart d e h = sym (raw_back d) ∙ ap raw_of h ∙ raw_back e
+apart d e h = first_raw d e (whole_apart (One d) (One e) h)
+
+-- the names of events of the first kinds alone, and of tallies alone
+pub names_of_first : (xs : List RawEvent) → map name_of xs ≡ map whole_name (sides xs [])
+names_of_first [] = refl
+names_of_first (x ∷ xs) = ap (λ l. name_of x ∷ l) (names_of_first xs)
+
+pub names_of_last : (xs : List (ℤ × ℤ)) → map tally_event xs ≡ map whole_name (sides [] xs)
+names_of_last [] = refl
+names_of_last (x ∷ xs) = ap (λ l. tally_event x ∷ l) (names_of_last xs)
 
 -- the names of events of one kind alone
 pub names_of_ones : (xs : List PartEvent) → map (part_event (pos 0)) xs ≡ map name_of (sides xs [])
@@ -130,6 +162,9 @@ parts_keep k (Two (Two m)) (Two (Two n)) h = same_key k (int_cmp m n) ∙ h
 
 pub entries_keep : (d e : ℤ × ℤ) → by_both int_cmp int_cmp d e ≡ Less → event_order (entry_event d) (entry_event e) ≡ Less
 entries_keep d e h = h
+
+pub tallies_keep : (d e : ℤ × ℤ) → by_both int_cmp int_cmp d e ≡ Less → event_order (tally_event d) (tally_event e) ≡ Less
+tallies_keep d e h = h
 
 first_below : (d e : PartEvent) → event_order (part_event (pos 1) d) (part_event (pos 2) e) ≡ Less
 first_below (One m) (One n) = refl

@@ -9,6 +9,10 @@ pub mod SideEvents
 pub mod PairLaws
 pub mod PairFresh
 pub mod Within
+pub mod Amounts
+pub mod AmountLaws
+pub mod Tally
+pub mod TallyLaws
 pub mod Identity
 pub mod Above
 pub mod AboveLaws
@@ -16,6 +20,7 @@ pub mod Kinds
 pub mod Events
 pub mod Held
 pub mod OfThree
+pub mod OneMore
 pub mod Parts
 pub mod PartLaws
 pub mod Carried
@@ -35,6 +40,7 @@ pub mod Embedded
 pub mod NumberLaws
 pub mod StateReads
 pub mod PartReads
+pub mod TallyReads
 pub mod AnyReads
 pub mod AnyReadLaws
 pub mod AnyWatch

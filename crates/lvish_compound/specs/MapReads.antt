@@ -11,7 +11,7 @@ use Rattle.lvish_compound.specs.Watching.{brings_there, was_there}
 use Rattle.lvish_lattice.specs.Ascending.{and_both}
 use Rattle.lvish_compound.specs.Keyed as keyed
 use Rattle.lvish_compound.specs.Keyed.{key, has_no, alone}
-use Rattle.lvish_compound.specs.MapOf.{same_map, joined, at, joined_by_places, joins_places, joins_exist, map_has, map_events_of}
+use Rattle.lvish_compound.specs.MapOf.{joined, at, joined_by_places, joins_places, joins_exist, map_has, map_events_of}
 use Rattle.std.specs.declared.cmp.Ord as ord
 use Rattle.std.specs.declared.cmp.PartialEq as partial_eq
 use Rattle.std.specs.declared.cmp.PartialOrd as partial_ord
@@ -63,10 +63,10 @@ module _ {K L E : Type 0} {ko : ord.Ghosts K} {ke : partial_eq.Ghosts K} {kp : p
   holding k v = record { entries = alone le.eq l.least k v; ascending = alone_rises ko.cmp le.eq l.least k v; above = alone_above le.eq l.least k v }
 
   module _ (o : IsTotalOrder ko.cmp) (same_key : (x y : K) → ko.cmp x y ≡ Equal → x ≡ y) (j : IsJoin l.least l.joined) (itself : (x : L) → le.eq x x ≡ true) (same : IsIdentity le.eq) where
-    at_any : (m : MapOf K L E ko ke kp l le eo ee ep eh) (k : K) (v : L) → m.entries ≡ alone le.eq l.least k v → (q : K) → at m q ≡ cond (eq_by_cmp ko.cmp q k) v l.least
+    pub at_any : (m : MapOf K L E ko ke kp l le eo ee ep eh) (k : K) (v : L) → m.entries ≡ alone le.eq l.least k v → (q : K) → at m q ≡ cond (eq_by_cmp ko.cmp q k) v l.least
     at_any m k v h q = ap (λ es. keyed.at ko.cmp l.least l.joined es q) h ∙ at_alone ko.cmp le.eq l.least l.joined same k v q
 
-    at_key : (m : MapOf K L E ko ke kp l le eo ee ep eh) (k : K) (v : L) → m.entries ≡ alone le.eq l.least k v → at m k ≡ v
+    pub at_key : (m : MapOf K L E ko ke kp l le eo ee ep eh) (k : K) (v : L) → m.entries ≡ alone le.eq l.least k v → at m k ≡ v
     at_key m k v h = at_any m k v h k ∙ ap (λ c. cond (is_eq c) v l.least) (tied_itself o k)
 
     tops : (m n : MapOf K L E ko ke kp l le eo ee ep eh) (k : K) (x y : L) → at m k ≡ x → at n k ≡ y → l.joined x y ≡ None → joined m n ≡ None
@@ -86,21 +86,21 @@ module _ {K L E : Type 0} {ko : ord.Ghosts K} {ke : partial_eq.Ghosts K} {kp : p
       pub checked_map : IsChecked l.joined (member r.read) → IsChecked {S = MapOf K L E ko ke kp l le eo ee ep eh} joined (Member member r)
       checked_map h m n a b p q = by_case (h p.0 q.0 a b p.1 q.1)
         where
-          by_case : ((p.0 ≡ q.0) × (a ≡ b)) ⊎ (l.joined p.0 q.0 ≡ None) → ((m ≡ n) × (a ≡ b)) ⊎ (joined m n ≡ None)
-          by_case (inl e) = inl (same_map m n (p.2 ∙ ap (alone le.eq l.least r.key) e.0 ∙ sym q.2), e.1)
+          by_case : (a ≡ b) ⊎ (l.joined p.0 q.0 ≡ None) → (a ≡ b) ⊎ (joined m n ≡ None)
+          by_case (inl e) = inl e
           by_case (inr e) = inr (tops m n r.key p.0 q.0 (at_key m r.key p.0 p.2) (at_key n r.key q.0 q.2) e)
 
       pub checked_part : IsChecked {S = MapOf K L E ko ke kp l le eo ee ep eh} joined (Member member r) → IsChecked l.joined (member r.read)
       checked_part h x y a b p q = by_case (h (holding r.key x) (holding r.key y) a b (x, p, refl) (y, q, refl))
         where
-          by_case : ((holding r.key x ≡ holding r.key y) × (a ≡ b)) ⊎ (joined (holding r.key x) (holding r.key y) ≡ None) → ((x ≡ y) × (a ≡ b)) ⊎ (l.joined x y ≡ None)
-          by_case (inl e) = inl (sym (at_key (holding r.key x) r.key x refl) ∙ ap (λ (m : MapOf K L E ko ke kp l le eo ee ep eh). at m r.key) e.0 ∙ at_key (holding r.key y) r.key y refl, e.1)
+          by_case : (a ≡ b) ⊎ (joined (holding r.key x) (holding r.key y) ≡ None) → (a ≡ b) ⊎ (l.joined x y ≡ None)
+          by_case (inl e) = inl e
           by_case (inr e) = inr (elim (l.joined x y) as (λ z. l.joined x y ≡ z → z ≡ None) [
             | None ↦ λ _. refl
             | Some w ↦ λ is. let c : (c : MapOf K L E ko ke kp l le eo ee ep eh) × (joined (holding r.key x) (holding r.key y) ≡ Some c) = join_there r.key x y w is in absurd (cc (sym e ∙ c.1))
           ] refl)
 
-    below_map : (m s : MapOf K L E ko ke kp l le eo ee ep eh) (k : K) (v : L) → m.entries ≡ alone le.eq l.least k v → IsBelow l.joined v (at s k) → IsBelow joined m s
+    pub below_map : (m s : MapOf K L E ko ke kp l le eo ee ep eh) (k : K) (v : L) → m.entries ≡ alone le.eq l.least k v → IsBelow l.joined v (at s k) → IsBelow joined m s
     below_map m s k v h b = joined_by_places o same_key j itself same m s s (λ q.
         ap (λ x. l.joined x (at s q)) (at_any m k v h q)
         ∙ elim (eq_by_cmp ko.cmp q k) as (λ t. eq_by_cmp ko.cmp q k ≡ t → l.joined (cond t v l.least) (at s q) ≡ Some (at s q)) [
@@ -108,7 +108,7 @@ module _ {K L E : Type 0} {ko : ord.Ghosts K} {ke : partial_eq.Ghosts K} {kp : p
           | false ↦ λ _. j.unit (at s q)
         ] refl)
 
-    below_part : (m s : MapOf K L E ko ke kp l le eo ee ep eh) (k : K) (v : L) → m.entries ≡ alone le.eq l.least k v → IsBelow joined m s → IsBelow l.joined v (at s k)
+    pub below_part : (m s : MapOf K L E ko ke kp l le eo ee ep eh) (k : K) (v : L) → m.entries ≡ alone le.eq l.least k v → IsBelow joined m s → IsBelow l.joined v (at s k)
     below_part m s k v h b = ap (λ x. l.joined x (at s k)) (sym (at_key m k v h)) ∙ joins_places o same_key j itself same m s s b k
 
     pub map_answers : {Q A : Type 0} (member : Q → L → A → Type 0) (answer : Q → L → Option A) → ((r : Q) → IsChecked l.joined (member r) → IsAnswered l.joined (member r) (answer r))

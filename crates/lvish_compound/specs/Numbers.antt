@@ -1,5 +1,5 @@
 -- Which numbers a read waits for, and which of them a cell, a set or a counter answers.
-use Rattle.std.specs.Prelude.{◌≡◌, ℤ, Bool, true, cond, int_le, Option, Some, None, Contains, find, is_some}
+use Rattle.std.specs.Prelude.{◌≡◌, ℤ, pos, negsuc, Bool, true, false, cond, int_le, nat_le, Option, Some, None, Contains, find, is_some}
 use Rattle.std.specs.List.{list_any, list_all}
 use Rattle.std.specs.Ordering.{int_eq}
 use Rattle.lvish_lattice.specs.declared.flat.Flat.{Flat}
@@ -22,6 +22,17 @@ abbrev pub are_levels : Test → Bool
 are_levels Any = true
 are_levels (In xs) = list_all is_level xs
 are_levels (At n) = is_level n
+
+-- whether a tally can have this total
+abbrev pub is_total : ℤ → Bool
+is_total (pos n) = nat_le n 10000
+is_total (negsuc n) = false
+
+-- and each of these
+abbrev pub are_totals : Test → Bool
+are_totals Any = true
+are_totals (In xs) = list_all is_total xs
+are_totals (At n) = is_total n
 
 -- the value of a cell, where it is waited for
 abbrev pub cell_answer : Test → Flat ℤ → Option ℤ
@@ -46,6 +57,10 @@ HasOne Any = ⊥
 HasOne (In xs) = (m n : ℤ) → Contains xs m → Contains xs n → m ≡ n
 HasOne (At n) = Unit {0}
 
--- the members are the states of the numbers that are waited for, each of which answers its number
-abbrev pub ByNumber : {S : Type 0} → Test → (ℤ → Option S) → S → ℤ → Type 0
-ByNumber t state s n = Waits t n × (state n ≡ Some s)
+-- a number stands for one state alone, or for none
+abbrev pub StandsFor : {S : Type 0} → (ℤ → Option S) → ℤ → S → Type 0
+StandsFor state n s = state n ≡ Some s
+
+-- the members are the states that the numbers that are waited for stand for, each of which answers its number
+abbrev pub ByNumber : {S : Type 0} → Test → (ℤ → S → Type 0) → S → ℤ → Type 0
+ByNumber t at s n = Waits t n × at n s

@@ -32,6 +32,18 @@ module _ {A B C S : Type 0} (of_a : A → S) (of_b : B → S) (of_c : C → S) w
     abbrev pub make : Pair A (Pair B C) → Option S
     make p = make_by p (eb p.two.one) (ec p.two.two) (ea p.one)
 
+    made_by : (p : Pair A (Pair B C)) (s : S) (b c a : Bool) → make_by p b c a ≡ Some s → IsOne s
+    made_by p s true true a e = inl (p.one, sym (same_some _ _ e))
+    made_by p s true false true e = inr (inr (p.two.two, sym (same_some _ _ e)))
+    made_by p s true false false e = absurd cc
+    made_by p s false true true e = inr (inl (p.two.one, sym (same_some _ _ e)))
+    made_by p s false true false e = absurd cc
+    made_by p s false false a e = absurd cc
+
+    -- what is made is of one of the three
+    pub made_one : (p : Pair A (Pair B C)) (s : S) → make p ≡ Some s → IsOne s
+    made_one p s e = made_by p s (eb p.two.one) (ec p.two.two) (ea p.one) e
+
     make_at : (p : Pair A (Pair B C)) (a b c : Bool) → ea p.one ≡ a → eb p.two.one ≡ b → ec p.two.two ≡ c → make p ≡ make_by p b c a
     make_at p a b c e f g = λ i. make_by p (f i) (g i) (e i)
 
@@ -47,8 +59,17 @@ pub record JoinsOfThree {A B C S : Type 0} (la : A) (f : A → A → Option A) (
   pub a_and_c : (x : A) (z : C) → ea x ≡ false → ec z ≡ false → join (of_a x) (of_c z) ≡ None
   pub b_and_c : (y : B) (z : C) → eb y ≡ false → ec z ≡ false → join (of_b y) (of_c z) ≡ None
 
+-- the same without nothing, for states of which some are of none of the three
+pub record JoinsApart {A B C S : Type 0} (f : A → A → Option A) (g : B → B → Option B) (h : C → C → Option C) (ea : A → Bool) (eb : B → Bool) (ec : C → Bool) (of_a : A → S) (of_b : B → S) (of_c : C → S) (join : S → S → Option S) : Type 0 where
+  pub in_a : (x z : A) → join (of_a x) (of_a z) ≡ option_map of_a (f x z)
+  pub in_b : (x z : B) → join (of_b x) (of_b z) ≡ option_map of_b (g x z)
+  pub in_c : (x z : C) → join (of_c x) (of_c z) ≡ option_map of_c (h x z)
+  pub a_and_b : (x : A) (y : B) → ea x ≡ false → eb y ≡ false → join (of_a x) (of_b y) ≡ None
+  pub a_and_c : (x : A) (z : C) → ea x ≡ false → ec z ≡ false → join (of_a x) (of_c z) ≡ None
+  pub b_and_c : (y : B) (z : C) → eb y ≡ false → ec z ≡ false → join (of_b y) (of_c z) ≡ None
+
 -- at or below bottom is bottom alone
-least_below : {L : Type 0} {least : L} {join : L → L → Option L} → IsJoin least join → (is_least : L → Bool) → ((x : L) → is_least x ≡ true → x ≡ least) → is_least least ≡ true → (x y : L) → join x y ≡ Some y → is_least y ≡ true → is_least x ≡ true
+pub least_below : {L : Type 0} {least : L} {join : L → L → Option L} → IsJoin least join → (is_least : L → Bool) → ((x : L) → is_least x ≡ true → x ≡ least) → is_least least ≡ true → (x y : L) → join x y ≡ Some y → is_least y ≡ true → is_least x ≡ true
 least_below {least = least} {join = join} j is_least only itself x y below e =
     let bottom : y ≡ least = only y e in
     let w : x ≡ least = same_some x least (sym (right_unit j x) ∙ ap (join x) (sym bottom) ∙ below ∙ ap (λ v. Some v) bottom) in
@@ -82,7 +103,7 @@ module _ {A B C S : Type 0} {la : A} {lb : B} {lc : C} {f : A → A → Option A
   made_c : (z : C) → make_it (triple la lb z) ≡ Some (of_c z)
   made_c z = made_c_by z (ec z) refl
 
-  back_by : (s : S) → IsOne of_a of_b of_c s → make_it (view s) ≡ Some s
+  pub back_by : (s : S) → IsOne of_a of_b of_c s → make_it (view s) ≡ Some s
   back_by s (inl w) = ap (λ t. make_it (view t)) w.1 ∙ ap make_it (va w.0) ∙ made_a w.0 ∙ ap (λ t. Some t) (sym w.1)
   back_by s (inr (inl w)) = ap (λ t. make_it (view t)) w.1 ∙ ap make_it (vb w.0) ∙ made_b w.0 ∙ ap (λ t. Some t) (sym w.1)
   back_by s (inr (inr w)) = ap (λ t. make_it (view t)) w.1 ∙ ap make_it (vc w.0) ∙ made_c w.0 ∙ ap (λ t. Some t) (sym w.1)
@@ -121,59 +142,68 @@ module _ {A B C S : Type 0} {la : A} {lb : B} {lc : C} {f : A → A → Option A
   lower_by p q s below false true false e k l w = absurd (cc (sym (make_at of_a of_b of_c ea eb ec p false false true e k l) ∙ w))
   lower_by p q s below false false a e k l w = absurd (cc (sym (make_at of_a of_b of_c ea eb ec p a false false e k l) ∙ w))
 
+  pub forth : (p : Pair A (Pair B C)) (s : S) → make_it p ≡ Some s → view s ≡ p
+  forth p s w = forth_by p s (eb p.two.one) (ec p.two.two) (ea p.one) refl refl refl w
+
+  pub lower : (p q : Pair A (Pair B C)) (s : S) → IsBelow J q p → make_it p ≡ Some s → (t : S) × (make_it q ≡ Some t)
+  lower p q s below w = lower_by p q s below (eb p.two.one) (ec p.two.two) (ea p.one) refl refl refl w
+
+  -- joined in triples, and taken back
+  abbrev pub through : S → S → Option S
+  through s t = option_and_then make_it (J (view s) (view t))
+
+  triples : IsJoin (triple la lb lc) J
+  triples = pair_is_join ja (pair_is_join jb jc)
+
+  from_a : (u : Option A) → option_and_then make_it (both u (Some (record { one = lb; two = lc }))) ≡ option_map of_a u
+  from_a (Some x) = made_a x
+  from_a None = refl
+
+  from_b : (u : Option B) → option_and_then make_it (both (Some la) (both u (Some lc))) ≡ option_map of_b u
+  from_b (Some x) = made_b x
+  from_b None = refl
+
+  from_c : (u : Option C) → option_and_then make_it (both (Some la) (both (Some lb) u)) ≡ option_map of_c u
+  from_c (Some x) = made_c x
+  from_c None = refl
+
+  both_a : (x z : A) → through (of_a x) (of_a z) ≡ option_map of_a (f x z)
+  both_a x z = (λ i. option_and_then make_it (J (va x i) (va z i))) ∙ (λ i. option_and_then make_it (both (f x z) (both (jb.unit lb i) (jc.unit lc i)))) ∙ from_a (f x z)
+
+  both_b : (x z : B) → through (of_b x) (of_b z) ≡ option_map of_b (g x z)
+  both_b x z = (λ i. option_and_then make_it (J (vb x i) (vb z i))) ∙ (λ i. option_and_then make_it (both (ja.unit la i) (both (g x z) (jc.unit lc i)))) ∙ from_b (g x z)
+
+  both_c : (x z : C) → through (of_c x) (of_c z) ≡ option_map of_c (h x z)
+  both_c x z = (λ i. option_and_then make_it (J (vc x i) (vc z i))) ∙ (λ i. option_and_then make_it (both (ja.unit la i) (both (jb.unit lb i) (h x z)))) ∙ from_c (h x z)
+
+  swaps : (s t : S) → through s t ≡ through t s
+  swaps s t = ap (option_and_then make_it) (triples.commutative (view s) (view t))
+
+  apart_ab : (x : A) (y : B) → ea x ≡ false → eb y ≡ false → through (of_a x) (of_b y) ≡ None
+  apart_ab x y e k = (λ i. option_and_then make_it (J (va x i) (vb y i))) ∙ (λ i. option_and_then make_it (both (right_unit ja x i) (both (jb.unit y i) (jc.unit lc i)))) ∙ make_at of_a of_b of_c ea eb ec (triple x y lc) false false true e k rc
+
+  apart_ac : (x : A) (z : C) → ea x ≡ false → ec z ≡ false → through (of_a x) (of_c z) ≡ None
+  apart_ac x z e l = (λ i. option_and_then make_it (J (va x i) (vc z i))) ∙ (λ i. option_and_then make_it (both (right_unit ja x i) (both (jb.unit lb i) (jc.unit z i)))) ∙ make_at of_a of_b of_c ea eb ec (triple x lb z) false true false e rb l
+
+  apart_bc : (y : B) (z : C) → eb y ≡ false → ec z ≡ false → through (of_b y) (of_c z) ≡ None
+  apart_bc y z k l = (λ i. option_and_then make_it (J (vb y i) (vc z i))) ∙ (λ i. option_and_then make_it (both (ja.unit la i) (both (right_unit jb y i) (jc.unit z i)))) ∙ make_at of_a of_b of_c ea eb ec (triple la y z) true false false ra k l
+
+  pub joins_apart : JoinsApart f g h ea eb ec of_a of_b of_c through
+  joins_apart = record { in_a = both_a; in_b = both_b; in_c = both_c; a_and_b = apart_ab; a_and_c = apart_ac; b_and_c = apart_bc }
+
   module _ (cover : (s : S) → IsOne of_a of_b of_c s) where
     pub of_three_within : IsWithin J view make_it
     of_three_within = record {
       back = λ s. back_by s (cover s);
-      forth = λ p s w. forth_by p s (eb p.two.one) (ec p.two.two) (ea p.one) refl refl refl w;
-      lower = λ p q s below w. lower_by p q s below (eb p.two.one) (ec p.two.two) (ea p.one) refl refl refl w;
+      forth = forth;
+      lower = lower;
     }
-
-    -- joined in triples, and taken back
-    abbrev pub through : S → S → Option S
-    through s t = option_and_then make_it (J (view s) (view t))
-
-    triples : IsJoin (triple la lb lc) J
-    triples = pair_is_join ja (pair_is_join jb jc)
 
     at_left : (t : S) → through (of_a la) t ≡ Some t
     at_left t = ap (option_and_then make_it) (ap (λ p. J p (view t)) (va la) ∙ triples.unit (view t)) ∙ back_by t (cover t)
 
     at_right : (t : S) → through t (of_a la) ≡ Some t
     at_right t = ap (option_and_then make_it) (triples.commutative (view t) (view (of_a la))) ∙ at_left t
-
-    from_a : (u : Option A) → option_and_then make_it (both u (Some (record { one = lb; two = lc }))) ≡ option_map of_a u
-    from_a (Some x) = made_a x
-    from_a None = refl
-
-    from_b : (u : Option B) → option_and_then make_it (both (Some la) (both u (Some lc))) ≡ option_map of_b u
-    from_b (Some x) = made_b x
-    from_b None = refl
-
-    from_c : (u : Option C) → option_and_then make_it (both (Some la) (both (Some lb) u)) ≡ option_map of_c u
-    from_c (Some x) = made_c x
-    from_c None = refl
-
-    both_a : (x z : A) → through (of_a x) (of_a z) ≡ option_map of_a (f x z)
-    both_a x z = (λ i. option_and_then make_it (J (va x i) (va z i))) ∙ (λ i. option_and_then make_it (both (f x z) (both (jb.unit lb i) (jc.unit lc i)))) ∙ from_a (f x z)
-
-    both_b : (x z : B) → through (of_b x) (of_b z) ≡ option_map of_b (g x z)
-    both_b x z = (λ i. option_and_then make_it (J (vb x i) (vb z i))) ∙ (λ i. option_and_then make_it (both (ja.unit la i) (both (g x z) (jc.unit lc i)))) ∙ from_b (g x z)
-
-    both_c : (x z : C) → through (of_c x) (of_c z) ≡ option_map of_c (h x z)
-    both_c x z = (λ i. option_and_then make_it (J (vc x i) (vc z i))) ∙ (λ i. option_and_then make_it (both (ja.unit la i) (both (jb.unit lb i) (h x z)))) ∙ from_c (h x z)
-
-    swaps : (s t : S) → through s t ≡ through t s
-    swaps s t = ap (option_and_then make_it) (triples.commutative (view s) (view t))
-
-    apart_ab : (x : A) (y : B) → ea x ≡ false → eb y ≡ false → through (of_a x) (of_b y) ≡ None
-    apart_ab x y e k = (λ i. option_and_then make_it (J (va x i) (vb y i))) ∙ (λ i. option_and_then make_it (both (right_unit ja x i) (both (jb.unit y i) (jc.unit lc i)))) ∙ make_at of_a of_b of_c ea eb ec (triple x y lc) false false true e k rc
-
-    apart_ac : (x : A) (z : C) → ea x ≡ false → ec z ≡ false → through (of_a x) (of_c z) ≡ None
-    apart_ac x z e l = (λ i. option_and_then make_it (J (va x i) (vc z i))) ∙ (λ i. option_and_then make_it (both (right_unit ja x i) (both (jb.unit lb i) (jc.unit z i)))) ∙ make_at of_a of_b of_c ea eb ec (triple x lb z) false true false e rb l
-
-    apart_bc : (y : B) (z : C) → eb y ≡ false → ec z ≡ false → through (of_b y) (of_c z) ≡ None
-    apart_bc y z k l = (λ i. option_and_then make_it (J (vb y i) (vc z i))) ∙ (λ i. option_and_then make_it (both (ja.unit la i) (both (right_unit jb y i) (jc.unit z i)))) ∙ make_at of_a of_b of_c ea eb ec (triple la y z) true false false ra k l
 
     pub joins_of_three : JoinsOfThree la f g h ea eb ec of_a of_b of_c through
     joins_of_three = record { left_nothing = at_left; right_nothing = at_right; in_a = both_a; in_b = both_b; in_c = both_c; swapped = swaps; a_and_b = apart_ab; a_and_c = apart_ac; b_and_c = apart_bc }

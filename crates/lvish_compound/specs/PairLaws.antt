@@ -86,22 +86,22 @@ module _ {A B : Type 0} where
     pub one_there : (r : R) → IsChecked (joined f g) (Members (One r)) → IsChecked f (ma r)
     one_there r checked m n x y p q = by_cases (checked (record { one = m; two = lb }) (record { one = n; two = lb }) (One x) (One y) (refl, p) (refl, q))
       where
-        by_cases : ((◌≡◌ {A = Pair A B} (record { one = m; two = lb }) (record { one = n; two = lb })) × (◌≡◌ {A = SideOf X Y} (One x) (One y))) ⊎ (both (f m n) (g lb lb) ≡ None) → ((m ≡ n) × (x ≡ y)) ⊎ (f m n ≡ None)
-        by_cases (inl h) = inl (ap (λ (p : Pair A B). p.one) h.0, cc (h.1))
+        by_cases : (◌≡◌ {A = SideOf X Y} (One x) (One y)) ⊎ (both (f m n) (g lb lb) ≡ None) → (x ≡ y) ⊎ (f m n ≡ None)
+        by_cases (inl h) = inl (cc h)
         by_cases (inr h) = inr (both_first (f m n) (g lb lb) lb (jb.unit lb) h)
 
     pub two_there : (r : T) → IsChecked (joined f g) (Members (Two r)) → IsChecked g (mb r)
     two_there r checked m n x y p q = by_cases (checked (record { one = la; two = m }) (record { one = la; two = n }) (Two x) (Two y) (refl, p) (refl, q))
       where
-        by_cases : ((◌≡◌ {A = Pair A B} (record { one = la; two = m }) (record { one = la; two = n })) × (◌≡◌ {A = SideOf X Y} (Two x) (Two y))) ⊎ (both (f la la) (g m n) ≡ None) → ((m ≡ n) × (x ≡ y)) ⊎ (g m n ≡ None)
-        by_cases (inl h) = inl (ap (λ (p : Pair A B). p.two) h.0, cc (h.1))
+        by_cases : (◌≡◌ {A = SideOf X Y} (Two x) (Two y)) ⊎ (both (f la la) (g m n) ≡ None) → (x ≡ y) ⊎ (g m n ≡ None)
+        by_cases (inl h) = inl (cc h)
         by_cases (inr h) = inr (both_second (f la la) (g m n) la (ja.unit la) h)
 
     pub one_checked : (r : R) → IsChecked f (ma r) → IsChecked (joined f g) (Members (One r))
     one_checked r checked p q (One x) (One y) h k = by_cases (checked p.one q.one x y h.1 k.1)
       where
-        by_cases : ((p.one ≡ q.one) × (x ≡ y)) ⊎ (f p.one q.one ≡ None) → ((p ≡ q) × (◌≡◌ {A = SideOf X Y} (One x) (One y))) ⊎ (joined f g p q ≡ None)
-        by_cases (inl e) = inl (same_pair p q e.0 (h.0 ∙ sym k.0), ap of_one e.1)
+        by_cases : (x ≡ y) ⊎ (f p.one q.one ≡ None) → (◌≡◌ {A = SideOf X Y} (One x) (One y)) ⊎ (joined f g p q ≡ None)
+        by_cases (inl e) = inl (ap of_one e)
         by_cases (inr e) = inr (ap (λ (u : Option A). both u (g p.two q.two)) e)
     one_checked r checked p q (One x) (Two y) h k = absurd k
     one_checked r checked p q (Two x) b h k = absurd h
@@ -109,8 +109,8 @@ module _ {A B : Type 0} where
     pub two_checked : (r : T) → IsChecked g (mb r) → IsChecked (joined f g) (Members (Two r))
     two_checked r checked p q (Two x) (Two y) h k = by_cases (checked p.two q.two x y h.1 k.1)
       where
-        by_cases : ((p.two ≡ q.two) × (x ≡ y)) ⊎ (g p.two q.two ≡ None) → ((p ≡ q) × (◌≡◌ {A = SideOf X Y} (Two x) (Two y))) ⊎ (joined f g p q ≡ None)
-        by_cases (inl e) = inl (same_pair p q (h.0 ∙ sym k.0) e.0, ap of_two e.1)
+        by_cases : (x ≡ y) ⊎ (g p.two q.two ≡ None) → (◌≡◌ {A = SideOf X Y} (Two x) (Two y)) ⊎ (joined f g p q ≡ None)
+        by_cases (inl e) = inl (ap of_two e)
         by_cases (inr e) = inr (ap (both (f p.one q.one)) e ∙ both_none (f p.one q.one))
     two_checked r checked p q (Two x) (One y) h k = absurd k
     two_checked r checked p q (One x) b h k = absurd h

@@ -16,11 +16,12 @@ IsBeyond n = (n <ℤ pos 0) ⊎ (pos 1000 <ℤ n)
 abbrev pub IsNoSide : ℕ → Type 0
 IsNoSide i = (i ≢ 1) × (i ≢ 2)
 
--- a state that is no part: a map, or two sides
+-- a state that is no part: a map, two sides, or a tally
 abbrev pub IsNoPart : Any → Type 0
 IsNoPart (any.Part s) = ⊥
 IsNoPart (any.Map x) = Unit {0}
 IsNoPart (any.Sides z) = Unit {0}
+IsNoPart (any.Tally x) = Unit {0}
 
 -- a number that a test mentions
 abbrev pub Mentions : Test → ℤ → Type 0
@@ -32,8 +33,18 @@ Mentions (test.At m) n = m ≡ n
 abbrev pub IsBeyondCounters : Test → Type 0
 IsBeyondCounters t = (n : ℤ) × Mentions t n × IsBeyond n
 
--- A read is refused: of a counter by a number that no counter holds, and of a side that there isn't, as a map, or as a counter by such a number.
+-- a number that is the total of no tally
+abbrev pub IsBeyondTotal : ℤ → Type 0
+IsBeyondTotal n = (n <ℤ pos 0) ⊎ (pos 10000 <ℤ n)
+
+-- a test that mentions such a number
+abbrev pub IsBeyondTotals : Test → Type 0
+IsBeyondTotals t = (n : ℤ) × Mentions t n × IsBeyondTotal n
+
+-- A read is refused: of a counter or of one amount of a tally by a number that no counter holds, of a tally's total by a number that is none, and of a side that there isn't, as a map or a tally, or as a counter by a number that no counter holds.
 abbrev pub IsRefused : Place → Test → Type 0
 IsRefused place.Max t = IsBeyondCounters t
-IsRefused (place.Side i l) t = IsNoSide i ⊎ (l ≡ kind.Map) ⊎ ((l ≡ kind.Max) × IsBeyondCounters t)
+IsRefused (place.Amount k) t = IsBeyondCounters t
+IsRefused place.Total t = IsBeyondTotals t
+IsRefused (place.Side i l) t = IsNoSide i ⊎ (l ≡ kind.Map) ⊎ (l ≡ kind.Tally) ⊎ ((l ≡ kind.Max) × IsBeyondCounters t)
 IsRefused p t = ⊥

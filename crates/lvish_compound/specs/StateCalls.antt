@@ -4,7 +4,7 @@ use Rattle.std.proofs.Common.{sym, ◌∙◌, ap}
 use Rattle.std.specs.Set.{is_member}
 use Rattle.lvish_lattice.specs.Lattice.{IsBelow, events_beyond, fresh_of}
 use Rattle.lvish_compound.specs.declared.any.Any.{Any}
-use Rattle.lvish_compound.specs.declared.any.Any.TheVariants.{Part, Map, Sides}
+use Rattle.lvish_compound.specs.declared.any.Any.TheVariants.{Part, Map, Sides, Tally}
 use Rattle.lvish_compound.specs.declared.event.Event.{Event}
 use Rattle.lvish_compound.specs.declared.pair.Pair.{Pair}
 use Rattle.lvish_compound.specs.declared.part.Part as part
@@ -13,7 +13,7 @@ use Rattle.lvish_compound.specs.declared.sides.Sides as sides
 use Rattle.lvish_compound.specs.declared.side_of.SideOf.{SideOf}
 use Rattle.lvish_compound.specs.declared.side_of.SideOf.TheVariants.{One, Two}
 use Rattle.lvish_compound.specs.Carried.{IsCarried, carried_leq, carried_fresh}
-use Rattle.lvish_compound.specs.EventNames.{PartEvent, part_event, entry_event, side_event, apart}
+use Rattle.lvish_compound.specs.EventNames.{PartEvent, WholeEvent, part_event, entry_event, tally_event, side_event, apart, whole_apart}
 use Rattle.lvish_compound.specs.Held.{Held, held_by, state_in}
 use Rattle.lvish_compound.specs.HeldCalls.{held_carried, none_beyond, all_beyond}
 use Rattle.lvish_compound.specs.MapOf as map_of
@@ -23,8 +23,10 @@ use Rattle.lvish_compound.specs.PartCalls.{IsByKind}
 use Rattle.lvish_compound.specs.Renamed.{names_beyond}
 use Rattle.lvish_compound.specs.Sides.{same_sides, same_none}
 use Rattle.lvish_compound.specs.StateEvents.{IsByName, part_eq, part_same, part_itself, entry_eq, entry_same, entry_itself, side_eq, side_same, side_itself}
-use Rattle.lvish_compound.specs.StateLaws.{view, view_map, view_pair, pair_by, same_map, of_sides_above, any_is_join}
-use Rattle.lvish_compound.specs.States.{nothing, of_part, of_map, of_pair, unless_part, joined, events_of}
+use Rattle.lvish_compound.specs.StateLaws.{three_in, tally_in, three_of_map, three_of_pair, tally_of_tally, pair_by, same_map, same_empty_tally, of_sides_above, any_is_join}
+use Rattle.lvish_compound.specs.States.{nothing, of_part, of_map, of_pair, of_tally, unless_part, joined, events_of}
+use Rattle.lvish_compound.specs.Tally as tally
+use Rattle.lvish_compound.specs.declared.tally.Tally as tallies
 
 abbrev pub pair_of : sides.Sides → Pair part.Part part.Part
 pair_of z = z.pair
@@ -42,10 +44,16 @@ pub pairs_carried : IsCarried Sides pair_of of_pair joined parts.pairs_joined
 pairs_carried = record { back = of_sides_above; same = same_sides; inside = λ x z. refl }
 
 pub maps_leq : (t : Bool) (s r : Any) (x z : _) (p q : Held Map) → s ≡ Map x → r ≡ Map z → p ≡ x.state → q ≡ z.state → IsTrue t ↔ IsBelow map_of.joined p q → IsTrue t ↔ IsBelow joined s r
-maps_leq = carried_leq maps_carried (λ s. (view s).two.one) (λ m. ap (λ v. v.two.one) (view_map m))
+maps_leq = carried_leq maps_carried (λ s. (three_in s).two.one) (λ m. ap (λ v. v.two.one) (three_of_map m))
 
 pub pairs_leq : (t : Bool) (s r : Any) (x z : sides.Sides) (p q : Pair part.Part part.Part) → s ≡ Sides x → r ≡ Sides z → p ≡ x.pair → q ≡ z.pair → IsTrue t ↔ IsBelow parts.pairs_joined p q → IsTrue t ↔ IsBelow joined s r
-pairs_leq = carried_leq pairs_carried (λ s. (view s).two.two) (λ p. ap (λ v. v.two.two) (view_pair p))
+pairs_leq = carried_leq pairs_carried (λ s. (three_in s).two.two) (λ p. ap (λ v. v.two.two) (three_of_pair p))
+
+pub tallies_carried : IsCarried Tally (state_in Tally) of_tally joined tally.joined
+tallies_carried = held_carried Tally nothing joined (λ x z. refl)
+
+pub tallies_leq : (t : Bool) (s r : Any) (x z : _) (p q : tallies.Tally) → s ≡ Tally x → r ≡ Tally z → p ≡ x.state → q ≡ z.state → IsTrue t ↔ IsBelow tally.joined p q → IsTrue t ↔ IsBelow joined s r
+tallies_leq = carried_leq tallies_carried tally_in tally_of_tally
 
 module _ (en : Event → Event → Bool) (by : IsByName en) where
   parts_beyond : (os zs : List PartEvent) → filter (λ n. not (is_member en (map (part_event (pos 0)) os) n)) (map (part_event (pos 0)) zs) ≡ map (part_event (pos 0)) (filter (λ e. not (is_member part_eq os e)) zs)
@@ -66,6 +74,12 @@ module _ (en : Event → Event → Bool) (by : IsByName en) where
       third_side : (d e : SideOf PartEvent PartEvent) → ◌≡◌ {A = SideOf PartEvent (SideOf (ℤ × ℤ) (SideOf PartEvent PartEvent))} (Two (Two d)) (Two (Two e)) → d ≡ e
       third_side d e h = cc
 
+  tallies_beyond : (os zs : List (ℤ × ℤ)) → filter (λ n. not (is_member en (map tally_event os) n)) (map tally_event zs) ≡ map tally_event (filter (λ e. not (is_member entry_eq os e)) zs)
+  tallies_beyond = names_beyond entry_same entry_itself by.same_name by.its_name tally_event (λ d e h. last d e (whole_apart (Two d) (Two e) h))
+    where
+      last : (d e : ℤ × ℤ) → ◌≡◌ {A = WholeEvent} (Two d) (Two e) → d ≡ e
+      last d e h = cc
+
   map_wraps : (m : Held Map) → events_of (of_map m) ≡ map entry_event (map_of.map_events_of m)
   map_wraps m = held_by Map nothing (λ s. events_of s ≡ map entry_event (map_of.map_events_of m)) m (λ e. ap (λ (v : Held Map). map entry_event (map_of.map_events_of v)) (sym (same_map m e))) (λ x e. ap (λ (v : Held Map). map entry_event (map_of.map_events_of v)) e)
 
@@ -83,6 +97,12 @@ module _ (en : Event → Event → Bool) (by : IsByName en) where
 
   pairs_fresh : (xs : List (SideOf PartEvent PartEvent)) (s r : Any) (x z : sides.Sides) (p q : Pair part.Part part.Part) → s ≡ Sides x → r ≡ Sides z → p ≡ x.pair → q ≡ z.pair → xs ≡ fresh_of parts.pairs_joined side_eq pair_events p q → map side_event xs ≡ fresh_of joined en events_of s r
   pairs_fresh = carried_fresh pairs_carried side_eq pair_events en events_of (map side_event) refl sides_beyond pair_wraps
+
+  tally_wraps : (t : tallies.Tally) → events_of (of_tally t) ≡ map tally_event (tally.events_of t)
+  tally_wraps t = held_by Tally nothing (λ s. events_of s ≡ map tally_event (tally.events_of t)) t (λ e. ap (λ (v : tallies.Tally). map tally_event (tally.events_of v)) (sym (same_empty_tally t e))) (λ x e. ap (λ (v : tallies.Tally). map tally_event (tally.events_of v)) e)
+
+  pub tallies_fresh : (xs : List (ℤ × ℤ)) (s r : Any) (x z : _) (p q : tallies.Tally) → s ≡ Tally x → r ≡ Tally z → p ≡ x.state → q ≡ z.state → xs ≡ fresh_of tally.joined entry_eq tally.events_of p q → map tally_event xs ≡ fresh_of joined en events_of s r
+  tallies_fresh = carried_fresh tallies_carried entry_eq tally.events_of en events_of (map tally_event) refl tallies_beyond tally_wraps
 
   -- to nothing a put brings all its events
   pub all_fresh : (s r : Any) → s ≡ Part Empty → events_of r ≡ fresh_of joined en events_of s r
@@ -104,6 +124,9 @@ module _ (en : Event → Event → Bool) (by : IsByName en) where
   pub part_to_pair : (s r : Any) (z : sides.Sides) (q : part.Part) → s ≡ Sides z → r ≡ Part q → [] ≡ fresh_of joined en events_of s r
   part_to_pair s r z q es er = unless_fresh (Sides z) (Part q) q refl ∙ (λ i. fresh_of joined en events_of (sym es i) (sym er i))
 
+  pub part_to_tally : (s r : Any) (x : _) (q : part.Part) → s ≡ Tally x → r ≡ Part q → [] ≡ fresh_of joined en events_of s r
+  part_to_tally s r x q es er = unless_fresh (Tally x) (Part q) q refl ∙ (λ i. fresh_of joined en events_of (sym es i) (sym er i))
+
   to_part : (p : part.Part) (t : Any) → joined (Part p) t ≡ unless_part p t → cond (parts.is_empty p) (events_of t) [] ≡ fresh_of joined en events_of (Part p) t
   to_part Empty t e = all_fresh (Part Empty) t refl
   to_part (Cell n) t e = top_fresh (Part (Cell n)) t e
@@ -118,6 +141,9 @@ module _ (en : Event → Event → Bool) (by : IsByName en) where
 
   pub pair_to_part : (s r : Any) (p : part.Part) (z : sides.Sides) → s ≡ Part p → r ≡ Sides z → cond (parts.is_empty p) (events_of r) [] ≡ fresh_of joined en events_of s r
   pair_to_part s r p z es er = along_fresh _ (Part p) (Sides z) s r es er (ap (λ (v : Any). cond (parts.is_empty p) (events_of v) []) er ∙ to_part p (Sides z) refl)
+
+  pub tally_to_part : (s r : Any) (p : part.Part) (x : _) → s ≡ Part p → r ≡ Tally x → cond (parts.is_empty p) (events_of r) [] ≡ fresh_of joined en events_of s r
+  tally_to_part s r p x es er = along_fresh _ (Part p) (Tally x) s r es er (ap (λ (v : Any). cond (parts.is_empty p) (events_of v) []) er ∙ to_part p (Tally x) refl)
 
 same_part_test : (pe : PartEvent → PartEvent → Bool) → IsByKind pe → (d e : PartEvent) → pe d e ≡ part_eq d e
 same_part_test pe k (One m) (One n) = k.cells m n

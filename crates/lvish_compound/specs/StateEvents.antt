@@ -3,22 +3,20 @@ use Rattle.std.specs.Prelude.{◌≡◌, ℤ, pos, Bool, true, ◌&&◌, List, m
 use Rattle.std.proofs.Common.{sym, ◌∙◌, ap, subst}
 use Rattle.std.proofs.lemmas.Cmp.{int_cmp_total, int_eq_equiv}
 use Rattle.std.specs.List.Sorted.{IsStrictlySortedBy}
-use Rattle.std.specs.Ordering.{int_eq, int_cmp, nat_cmp, ordering_then}
+use Rattle.std.specs.Ordering.{int_eq, int_cmp, ordering_then}
 use Rattle.std.specs.declared.cmp.Ordering.{Ordering}
-use Rattle.std.specs.declared.cmp.Ordering.TheVariants.{Less, Equal, Greater}
 use Rattle.lvish_lattice.specs.Ascending.{and_both}
 use Rattle.lvish_lattice.specs.FlatLaws.{flat_has_events}
 use Rattle.lvish_lattice.specs.Lattice.{IsIdentity, HasEvents}
 use Rattle.lvish_lattice.specs.Plain.{int_identical, pairs_identical}
 use Rattle.lvish_compound.specs.declared.any.Any.{Any}
-use Rattle.lvish_compound.specs.declared.any.Any.TheVariants.{Part, Map, Sides}
+use Rattle.lvish_compound.specs.declared.any.Any.TheVariants.{Part, Map, Sides, Tally}
 use Rattle.lvish_compound.specs.declared.event.Event.{Event}
-use Rattle.lvish_compound.specs.declared.kind.Kind.{Kind}
-use Rattle.lvish_compound.specs.declared.kind.Kind.TheVariants as kind
 use Rattle.lvish_compound.specs.declared.part.Part.TheVariants.{Empty}
-use Rattle.lvish_compound.specs.EventNames.{PartEvent, RawEvent, part_event, entry_event, side_event, name_of, apart, sides_eq, sides_cmp, parts_cmp, names_of_ones, names_of_twos, names_of_threes, rises_by, parts_keep, entries_keep, sides_keep}
-use Rattle.lvish_compound.specs.Events.{event_order, rank, events_identical}
+use Rattle.lvish_compound.specs.EventNames.{PartEvent, RawEvent, WholeEvent, part_event, entry_event, tally_event, side_event, whole_name, whole_apart, sides_eq, sides_cmp, parts_cmp, names_of_ones, names_of_twos, names_of_threes, names_of_first, names_of_last, rises_by, parts_keep, entries_keep, tallies_keep, sides_keep}
+use Rattle.lvish_compound.specs.Events.{event_order, events_identical}
 use Rattle.lvish_compound.specs.Held.{bottom_of}
+use Rattle.lvish_compound.specs.Kinds.{same_kind, kind_itself, kind_cmp, kinds_rank}
 use Rattle.lvish_compound.specs.MapOf as map_of
 use Rattle.lvish_compound.specs.OfThree.{triple}
 use Rattle.lvish_compound.specs.Pair as pair
@@ -32,8 +30,10 @@ use Rattle.lvish_compound.specs.KeyedEvents.{by_both}
 use Rattle.lvish_compound.specs.SideEvents.{sides_identical}
 use Rattle.lvish_compound.specs.Sides.{none as no_pair}
 use Rattle.lvish_compound.specs.States.{nothing, joined, events_of}
+use Rattle.lvish_compound.specs.Tally as tally
+use Rattle.lvish_compound.specs.TallyLaws.{tally_has_events}
 use Rattle.lvish_compound.specs.Within.{within_has_events}
-use Rattle.lvish_compound.specs.StateLaws.{value_itself, same_value, cells, Kinds, view, join_kinds, within, joins, kinds_are_join}
+use Rattle.lvish_compound.specs.StateLaws.{value_itself, same_value, cells, Three, Kinds, three_in, view, join_three, join_kinds, within, joins, kinds_are_join}
 
 -- tests and orders of events before they are named
 abbrev pub part_eq : PartEvent → PartEvent → Bool
@@ -59,6 +59,12 @@ raw_eq = sides_eq part_eq late_eq
 
 abbrev raw_cmp : RawEvent → RawEvent → Ordering
 raw_cmp = sides_cmp parts_cmp late_cmp
+
+abbrev pub whole_eq : WholeEvent → WholeEvent → Bool
+whole_eq = sides_eq raw_eq entry_eq
+
+abbrev whole_cmp : WholeEvent → WholeEvent → Ordering
+whole_cmp = sides_cmp raw_cmp (by_both int_cmp int_cmp)
 
 sides_same : {X Y : Type 0} (ex : X → X → Bool) (ey : Y → Y → Bool) → IsIdentity ex → IsIdentity ey → IsIdentity (sides_eq ex ey)
 sides_same ex ey same_x same_y = sides_identical ex ey same_x same_y (sides_eq ex ey) (λ x z. refl) (λ y w. refl) (λ x y. refl) (λ x y. refl)
@@ -91,6 +97,12 @@ raw_same = sides_same part_eq late_eq part_same (sides_same entry_eq side_eq ent
 pub raw_itself : (e : RawEvent) → raw_eq e e ≡ true
 raw_itself = sides_itself part_eq late_eq part_itself (sides_itself entry_eq side_eq entry_itself side_itself)
 
+pub whole_same : IsIdentity whole_eq
+whole_same = sides_same raw_eq entry_eq raw_same entry_same
+
+pub whole_itself : (e : WholeEvent) → whole_eq e e ≡ true
+whole_itself = sides_itself raw_eq entry_eq raw_itself entry_itself
+
 parts_have : HasEvents Empty parts.joined part_eq parts_cmp parts.events_of
 parts_have = part_laws.part_has_events part_eq (λ x z. refl) (λ x z. refl) (λ x z. refl) (λ x y. refl) (λ x y. refl) (λ x y. refl) (λ x y. refl) parts_cmp (λ x z. refl) (λ x z. refl) (λ x z. refl) (λ x y. refl) (λ x y. refl)
 
@@ -100,30 +112,39 @@ maps_have = map_of.map_has_events int_cmp_total part_laws.ties cells value_itsel
 pairs_have : HasEvents no_pair parts.pairs_joined side_eq side_cmp (pair.events_of parts.events_of parts.events_of)
 pairs_have = pair_has_events parts_have parts_have side_eq (λ x z. refl) (λ y w. refl) (λ x y. refl) (λ x y. refl) side_cmp (λ x z. refl) (λ y w. refl) (λ x y. refl)
 
--- the events of the three kinds
-abbrev pub raw_events : Kinds → List RawEvent
+-- the events of the first three kinds
+abbrev pub raw_events : Three → List RawEvent
 raw_events = pair.events_of parts.events_of (pair.events_of map_of.map_events_of (pair.events_of parts.events_of parts.events_of))
 
-kinds_have : HasEvents (triple Empty (bottom_of Map) no_pair) join_kinds raw_eq raw_cmp raw_events
-kinds_have = pair_has_events parts_have (pair_has_events maps_have pairs_have late_eq (λ x z. refl) (λ y w. refl) (λ x y. refl) (λ x y. refl) late_cmp (λ x z. refl) (λ y w. refl) (λ x y. refl))
+three_have : HasEvents (triple Empty (bottom_of Map) no_pair) join_three raw_eq raw_cmp raw_events
+three_have = pair_has_events parts_have (pair_has_events maps_have pairs_have late_eq (λ x z. refl) (λ y w. refl) (λ x y. refl) (λ x y. refl) late_cmp (λ x z. refl) (λ y w. refl) (λ x y. refl))
     raw_eq (λ x z. refl) (λ y w. refl) (λ x y. refl) (λ x y. refl) raw_cmp (λ x z. refl) (λ y w. refl) (λ x y. refl)
 
-abbrev raw_of : Any → List RawEvent
-raw_of s = raw_events (view s)
+-- the events of all kinds
+abbrev pub whole_events : Kinds → List WholeEvent
+whole_events = pair.events_of raw_events tally.events_of
 
-raws_have : HasEvents nothing joined raw_eq raw_cmp raw_of
-raws_have = within_has_events kinds_are_join within nothing joined refl joins kinds_have raw_of (λ s. refl)
+kinds_have : HasEvents (record { one = triple Empty (bottom_of Map) no_pair; two = bottom_of Tally }) join_kinds whole_eq whole_cmp whole_events
+kinds_have = pair_has_events three_have tally_has_events whole_eq (λ x z. refl) (λ y w. refl) (λ x y. refl) (λ x y. refl) whole_cmp (λ x z. refl) (λ y w. refl) (λ x y. refl)
+
+abbrev whole_of : Any → List WholeEvent
+whole_of s = whole_events (view s)
+
+wholes_have : HasEvents nothing joined whole_eq whole_cmp whole_of
+wholes_have = within_has_events kinds_are_join within nothing joined refl joins kinds_have whole_of (λ s. refl)
 
 -- the events of each kind have the names of that kind
-pub names_there : (s : Any) → events_of s ≡ map name_of (raw_of s)
-names_there (Part s) = names_of_ones (parts.events_of s)
-names_there (Map x) = names_of_twos (map_of.map_events_of x.state)
-names_there (Sides z) = names_of_threes (pair.events_of parts.events_of parts.events_of z.pair)
+pub names_there : (s : Any) → events_of s ≡ map whole_name (whole_of s)
+names_there (Part s) = names_of_ones (parts.events_of s) ∙ names_of_first (raw_events (three_in (Part s)))
+names_there (Map x) = names_of_twos (map_of.map_events_of x.state) ∙ names_of_first (raw_events (three_in (Map x)))
+names_there (Sides z) = names_of_threes (pair.events_of parts.events_of parts.events_of z.pair) ∙ names_of_first (raw_events (three_in (Sides z)))
+names_there (Tally x) = names_of_last (tally.events_of x.state)
 
 names_rise : (s : Any) → IsStrictlySortedBy event_order (events_of s)
 names_rise (Part s) = rises_by parts_cmp event_order (part_event (pos 0)) (parts_keep (pos 0)) (parts.events_of s) (parts_have.ascending s)
 names_rise (Map x) = rises_by (by_both int_cmp int_cmp) event_order entry_event entries_keep (map_of.map_events_of x.state) (maps_have.ascending x.state)
 names_rise (Sides z) = rises_by side_cmp event_order side_event sides_keep (pair.events_of parts.events_of parts.events_of z.pair) (pairs_have.ascending z.pair)
+names_rise (Tally x) = rises_by (by_both int_cmp int_cmp) event_order tally_event tallies_keep (tally.events_of x.state) (tally_has_events.ascending x.state)
 
 -- a test of names by key, kind and number
 pub record IsByName (en : Event → Event → Bool) : Type 0 where
@@ -133,41 +154,15 @@ pub record IsByName (en : Event → Event → Bool) : Type 0 where
 pub any_has_events : (en : Event → Event → Bool) → IsByName en → (cn : Event → Event → Ordering) → ((d e : Event) → cn d e ≡ event_order d e) → HasEvents nothing joined en cn events_of
 any_has_events en by cn is = subst (λ (c : Event → Event → Ordering). HasEvents nothing joined en c events_of) (λ i d e. sym (is d e) i)
     (subst (λ (ev : Any → List Event). HasEvents nothing joined en event_order ev) (λ i s. sym (names_there s) i)
-    (renamed raw_same raw_itself by.same_name by.its_name name_of apart raws_have (λ s. subst (IsStrictlySortedBy event_order) (names_there s) (names_rise s))))
-
-kind_itself : (same_kind : Kind → Kind → Bool) → same_kind kind.Cell kind.Cell ≡ true → same_kind kind.Set kind.Set ≡ true → same_kind kind.Max kind.Max ≡ true → same_kind kind.Map kind.Map ≡ true → (l : Kind) → same_kind l l ≡ true
-kind_itself same_kind cell set max map kind.Cell = cell
-kind_itself same_kind cell set max map kind.Set = set
-kind_itself same_kind cell set max map kind.Max = max
-kind_itself same_kind cell set max map kind.Map = map
+    (renamed whole_same whole_itself by.same_name by.its_name whole_name whole_apart wholes_have (λ s. subst (IsStrictlySortedBy event_order) (names_there s) (names_rise s))))
 
 -- events by their key, kind and number
-pub by_name : (same_kind : Kind → Kind → Bool) → IsIdentity same_kind → same_kind kind.Cell kind.Cell ≡ true → same_kind kind.Set kind.Set ≡ true → same_kind kind.Max kind.Max ≡ true → same_kind kind.Map kind.Map ≡ true
-    → (en : Event → Event → Bool) → ((d e : Event) → en d e ≡ (int_eq d.key e.key && (same_kind d.kind e.kind && int_eq d.number e.number))) → IsByName en
-by_name same_kind same cell set max map en is = record {
-  same_name = events_identical same_kind same en is;
-  its_name = λ e. is e e ∙ and_both (int_eq_equiv.refl e.key) (and_both (kind_itself same_kind cell set max map e.kind) (int_eq_equiv.refl e.number));
+pub by_name : (en : Event → Event → Bool) → ((d e : Event) → en d e ≡ (int_eq d.key e.key && (same_kind d.kind e.kind && int_eq d.number e.number))) → IsByName en
+by_name en is = record {
+  same_name = events_identical en is;
+  its_name = λ e. is e e ∙ and_both (int_eq_equiv.refl e.key) (and_both (kind_itself e.kind) (int_eq_equiv.refl e.number));
 }
 
--- an order of kinds, each before the next
-pub kinds_rank : (kc : Kind → Kind → Ordering) → kc kind.Cell kind.Cell ≡ Equal → kc kind.Cell kind.Set ≡ Less → kc kind.Cell kind.Max ≡ Less → kc kind.Cell kind.Map ≡ Less → kc kind.Set kind.Cell ≡ Greater → kc kind.Set kind.Set ≡ Equal → kc kind.Set kind.Max ≡ Less → kc kind.Set kind.Map ≡ Less → kc kind.Max kind.Cell ≡ Greater → kc kind.Max kind.Set ≡ Greater → kc kind.Max kind.Max ≡ Equal → kc kind.Max kind.Map ≡ Less → kc kind.Map kind.Cell ≡ Greater → kc kind.Map kind.Set ≡ Greater → kc kind.Map kind.Max ≡ Greater → kc kind.Map kind.Map ≡ Equal → (l m : Kind) → kc l m ≡ nat_cmp (rank l) (rank m)
-kinds_rank kc cell_cell cell_set cell_max cell_map set_cell set_set set_max set_map max_cell max_set max_max max_map map_cell map_set map_max map_map kind.Cell kind.Cell = cell_cell
-kinds_rank kc cell_cell cell_set cell_max cell_map set_cell set_set set_max set_map max_cell max_set max_max max_map map_cell map_set map_max map_map kind.Cell kind.Set = cell_set
-kinds_rank kc cell_cell cell_set cell_max cell_map set_cell set_set set_max set_map max_cell max_set max_max max_map map_cell map_set map_max map_map kind.Cell kind.Max = cell_max
-kinds_rank kc cell_cell cell_set cell_max cell_map set_cell set_set set_max set_map max_cell max_set max_max max_map map_cell map_set map_max map_map kind.Cell kind.Map = cell_map
-kinds_rank kc cell_cell cell_set cell_max cell_map set_cell set_set set_max set_map max_cell max_set max_max max_map map_cell map_set map_max map_map kind.Set kind.Cell = set_cell
-kinds_rank kc cell_cell cell_set cell_max cell_map set_cell set_set set_max set_map max_cell max_set max_max max_map map_cell map_set map_max map_map kind.Set kind.Set = set_set
-kinds_rank kc cell_cell cell_set cell_max cell_map set_cell set_set set_max set_map max_cell max_set max_max max_map map_cell map_set map_max map_map kind.Set kind.Max = set_max
-kinds_rank kc cell_cell cell_set cell_max cell_map set_cell set_set set_max set_map max_cell max_set max_max max_map map_cell map_set map_max map_map kind.Set kind.Map = set_map
-kinds_rank kc cell_cell cell_set cell_max cell_map set_cell set_set set_max set_map max_cell max_set max_max max_map map_cell map_set map_max map_map kind.Max kind.Cell = max_cell
-kinds_rank kc cell_cell cell_set cell_max cell_map set_cell set_set set_max set_map max_cell max_set max_max max_map map_cell map_set map_max map_map kind.Max kind.Set = max_set
-kinds_rank kc cell_cell cell_set cell_max cell_map set_cell set_set set_max set_map max_cell max_set max_max max_map map_cell map_set map_max map_map kind.Max kind.Max = max_max
-kinds_rank kc cell_cell cell_set cell_max cell_map set_cell set_set set_max set_map max_cell max_set max_max max_map map_cell map_set map_max map_map kind.Max kind.Map = max_map
-kinds_rank kc cell_cell cell_set cell_max cell_map set_cell set_set set_max set_map max_cell max_set max_max max_map map_cell map_set map_max map_map kind.Map kind.Cell = map_cell
-kinds_rank kc cell_cell cell_set cell_max cell_map set_cell set_set set_max set_map max_cell max_set max_max max_map map_cell map_set map_max map_map kind.Map kind.Set = map_set
-kinds_rank kc cell_cell cell_set cell_max cell_map set_cell set_set set_max set_map max_cell max_set max_max max_map map_cell map_set map_max map_map kind.Map kind.Max = map_max
-kinds_rank kc cell_cell cell_set cell_max cell_map set_cell set_set set_max set_map max_cell max_set max_max max_map map_cell map_set map_max map_map kind.Map kind.Map = map_map
-
 -- events by key, then kind, then number
-pub by_rank : (kc : Kind → Kind → Ordering) → ((l m : Kind) → kc l m ≡ nat_cmp (rank l) (rank m)) → (cn : Event → Event → Ordering) → ((d e : Event) → cn d e ≡ ordering_then (int_cmp d.key e.key) (ordering_then (kc d.kind e.kind) (int_cmp d.number e.number))) → (d e : Event) → cn d e ≡ event_order d e
-by_rank kc ranks cn is d e = is d e ∙ ap (λ c. ordering_then (int_cmp d.key e.key) (ordering_then c (int_cmp d.number e.number))) (ranks d.kind e.kind)
+pub by_rank : (cn : Event → Event → Ordering) → ((d e : Event) → cn d e ≡ ordering_then (int_cmp d.key e.key) (ordering_then (kind_cmp d.kind e.kind) (int_cmp d.number e.number))) → (d e : Event) → cn d e ≡ event_order d e
+by_rank cn is d e = is d e ∙ ap (λ c. ordering_then (int_cmp d.key e.key) (ordering_then c (int_cmp d.number e.number))) (kinds_rank d.kind e.kind)

@@ -1,5 +1,5 @@
 -- Reads of a script's variables: the members and the answers.
-use Rattle.std.specs.Prelude.{ℕ, ℤ, cond, nat_eq, Option, Some, None, option_and_then}
+use Rattle.std.specs.Prelude.{◌≡◌, ℕ, ℤ, pos, cond, nat_eq, Option, Some, None, option_and_then}
 use Rattle.std.specs.Set.{is_member}
 use Rattle.std.specs.Ordering.{int_eq}
 use Rattle.lvish_lattice.specs.declared.flat.Flat.{Flat}
@@ -19,8 +19,10 @@ use Rattle.lvish_compound.specs.Held.{Held}
 use Rattle.lvish_compound.specs.MapOf as map_of
 use Rattle.lvish_compound.specs.Numbers.{ByNumber, cell_answer, first_that, is_reached}
 use Rattle.lvish_compound.specs.PartLaws as part_laws
-use Rattle.lvish_compound.specs.StateLaws.{view}
-use Rattle.lvish_compound.specs.States.{cell, set, counter, entry, side}
+use Rattle.lvish_compound.specs.StateLaws.{three_in, tally_in}
+use Rattle.lvish_compound.specs.States.{cell, set, counter, entry, amount, of_tally, side}
+use Rattle.lvish_compound.specs.Tally as tally
+use Rattle.lvish_compound.specs.declared.tally.Tally as tallies
 
 -- the state that a number stands for, of a kind that a side can have
 abbrev pub state_of : Kind → ℤ → Option Any
@@ -28,18 +30,25 @@ state_of kind.Cell n = Some (cell n)
 state_of kind.Set n = Some (set n)
 state_of kind.Max n = counter n
 state_of kind.Map n = None
+state_of kind.Tally n = None
 
--- the state that a number stands for at a place
-abbrev pub state_at : Place → ℤ → Option Any
-state_at place.Cell n = state_of kind.Cell n
-state_at place.Set n = state_of kind.Set n
-state_at place.Max n = state_of kind.Max n
-state_at (place.Key k) n = Some (entry k n)
-state_at (place.Side i l) n = option_and_then (side i) (state_of l n)
+-- s is a tally of this total
+abbrev pub HasTotal : ℤ → Any → Type 0
+HasTotal n s = (t : tallies.Tally) × (pos (tally.total t) ≡ n) × (of_tally t ≡ s)
 
--- the members are the states of the numbers that are waited for, each of which answers its number
+-- s is one of the states that a number stands for at a place
+abbrev pub StateAt : Place → ℤ → Any → Type 0
+StateAt place.Cell n s = state_of kind.Cell n ≡ Some s
+StateAt place.Set n s = state_of kind.Set n ≡ Some s
+StateAt place.Max n s = state_of kind.Max n ≡ Some s
+StateAt (place.Key k) n s = entry k n ≡ s
+StateAt (place.Amount k) n s = amount k n ≡ Some s
+StateAt place.Total n s = HasTotal n s
+StateAt (place.Side i l) n s = option_and_then (side i) (state_of l n) ≡ Some s
+
+-- the members are the states that the numbers that are waited for stand for, each of which answers its number
 abbrev pub MemberAt : Place → Test → Any → ℤ → Type 0
-MemberAt p t s n = ByNumber t (state_at p) s n
+MemberAt p t s n = ByNumber t (StateAt p) s n
 
 -- the cell, the set and the counter of a part, bottom where it is of another kind
 abbrev pub cell_in : Part → Flat ℤ
@@ -57,16 +66,17 @@ part_answer kind.Cell t s = cell_answer t (cell_in s)
 part_answer kind.Set t s = first_that (is_member int_eq (grow_set.items_of (set_in s))) t
 part_answer kind.Max t s = first_that (is_reached (number_of (max_in s))) t
 part_answer kind.Map t s = None
+part_answer kind.Tally t s = None
 
 -- the part, the map and the two sides of a state, bottom where it is of another kind
 abbrev pub part_in : Any → Part
-part_in s = (view s).one
+part_in s = (three_in s).one
 
 abbrev pub map_in : Any → Held variant.Map
-map_in s = (view s).two.one
+map_in s = (three_in s).two.one
 
 abbrev pub side_in : ℕ → Any → Part
-side_in i s = cond (nat_eq i 1) (view s).two.two.one (view s).two.two.two
+side_in i s = cond (nat_eq i 1) (three_in s).two.two.one (three_in s).two.two.two
 
 -- the answer at a place
 abbrev pub answer_at : Place → Test → Any → Option ℤ
@@ -74,4 +84,6 @@ answer_at place.Cell t s = part_answer kind.Cell t (part_in s)
 answer_at place.Set t s = part_answer kind.Set t (part_in s)
 answer_at place.Max t s = part_answer kind.Max t (part_in s)
 answer_at (place.Key k) t s = cell_answer t (map_of.at (map_in s) k)
+answer_at (place.Amount k) t s = first_that (is_reached (number_of (tally.amount (tally_in s) k))) t
+answer_at place.Total t s = first_that (is_reached (pos (tally.total (tally_in s)))) t
 answer_at (place.Side i l) t s = part_answer l t (side_in i s)

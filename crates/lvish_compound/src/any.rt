@@ -1,21 +1,23 @@
 ghost use Rattle.std.specs.Prelude.{◌≡◌, ◌⊎◌, ◌↔◌, Some, None, IfOk, IfErr, IsErr, [], cond, pos, ◌<ℤ◌};
 ghost use Rattle.lvish_compound.specs.Parts.{is_empty};
-ghost use Rattle.lvish_compound.specs.Refusals.{IsNoSide, IsNoPart};
+ghost use Rattle.lvish_compound.specs.Refusals.{IsNoSide, IsNoPart, IsBeyond};
+ghost use Rattle.lvish_compound.specs.declared.amount_fault.AmountFault.TheVariants as fault;
 
 use crate::above::Above;
-use crate::any_events::{entry_events, part_events, side_events};
+use crate::amount_fault::AmountFault;
+use crate::any_events::{entry_events, part_events, side_events, tally_events};
 use crate::event::Event;
-use crate::kind::Kind;
 use crate::map_of::MapOf;
 use crate::pair::Pair;
 use crate::part::Part;
 use crate::sides::Sides;
+use crate::tally::Tally;
 use lvish_lattice::{Flat, GrowSet, Lattice, MaxCounter, Range};
 use std::alloc::{AllocError, Global};
 use thiserror::Error;
 
-/// A state of a script's variable: a part, a map above its bottom, or a pair of parts that aren't
-/// both empty.
+/// A state of a script's variable: a part, a map above its bottom, a pair of parts that aren't
+/// both empty, or a tally above its bottom.
 ///
 /// Bottom is the empty part. Different kinds join to top.
 #[derive(Debug, Drop)]
@@ -23,15 +25,17 @@ pub enum Any {
     Part(Part),
     Map(Above<MapOf<i64, Flat<i64>>>),
     Sides(Sides),
+    Tally(Above<Tally>),
 }
 
-/// The refusal of what isn't a side of a pair: a map, a pair, or a number other than 1 and 2.
+/// The refusal of what isn't a side of a pair: a map, a pair, a tally, or a number other than 1
+/// and 2.
 #[derive(Clone, Copy, Debug, PartialEq, Eq, Error)]
 #[error("a side is a cell, a set or a counter, and its number 1 or 2")]
 pub struct Wrong;
 
 impl Any {
-    ghost use Rattle.lvish_compound.specs.States.{cell, set, counter, entry, side, of_map, of_pair, unless_part, events_of};
+    ghost use Rattle.lvish_compound.specs.States.{cell, set, counter, entry, amount, side, of_map, of_pair, of_tally, unless_part, events_of};
 
     /// A cell with a value.
     pub fn cell(value: i64) -> Any
@@ -69,6 +73,16 @@ impl Any {
         Ok(Any::of_map(alloc, map))
     }
 
+    /// The tally in which the key has the amount, where that is from 0 to 1000; at 0 it is empty.
+    pub fn amount(alloc: Global, key: i64, number: i64) -> Result<Any, AmountFault>
+        ensures ok { IfOk result (λ s. amount key number ≡ Some s) }
+        ensures why { IfErr result (λ f. (f ≡ fault.Range) ↔ IsBeyond number) }
+    {
+        let amount = MaxCounter::new(number)?;
+        let tally = Tally::one(alloc, key, amount)?;
+        Ok(Any::of_tally(alloc, tally))
+    }
+
     /// The state as side 1 or 2 of a pair, the other side empty.
     pub fn side(number: u8, state: Any) -> Result<Any, Wrong>
         ensures ok { IfOk result (λ s. side number state ≡ Some s) }
@@ -101,6 +115,16 @@ impl Any {
     {
         match Sides::of(pair) {
             Some(sides) => Any::Sides(sides),
+            None => Any::Part(Part::Empty),
+        }
+    }
+
+    /// A tally, empty where it has no entry.
+    fn of_tally(alloc: Global, tally: Tally) -> Any
+        ensures { result ≡ of_tally tally }
+    {
+        match Above::of(alloc, tally) {
+            Some(tally) => Any::Tally(tally),
             None => Any::Part(Part::Empty),
         }
     }
@@ -141,6 +165,7 @@ impl PartialEq for Any {
             (Any::Part(a), Any::Part(b)) => a == b,
             (Any::Map(a), Any::Map(b)) => a == b,
             (Any::Sides(a), Any::Sides(b)) => a == b,
+            (Any::Tally(a), Any::Tally(b)) => a == b,
             _ => false,
         }
     }
@@ -181,6 +206,10 @@ impl Lattice for Any {
                 Some(pair) => Ok(Some(Any::of_pair(pair))),
                 None => Ok(None),
             },
+            (Any::Tally(a), Any::Tally(b)) => match a.state().join(alloc, b.state())? {
+                Some(tally) => Ok(Some(Any::of_tally(alloc, tally))),
+                None => Ok(None),
+            },
             (Any::Part(part), state) => Any::unless_part(alloc, part, state),
             (state, Any::Part(part)) => Any::unless_part(alloc, part, state),
             _ => Ok(None),
@@ -192,6 +221,7 @@ impl Lattice for Any {
             (Any::Part(a), Any::Part(b)) => a.leq(b),
             (Any::Map(a), Any::Map(b)) => a.state().leq(b.state()),
             (Any::Sides(a), Any::Sides(b)) => a.pair().leq(b.pair()),
+            (Any::Tally(a), Any::Tally(b)) => a.state().leq(b.state()),
             (Any::Part(a), _) => a.is_empty(),
             _ => false,
         }
@@ -202,6 +232,7 @@ impl Lattice for Any {
             Any::Part(a) => part_events(alloc, &a.events(alloc)?),
             Any::Map(a) => entry_events(alloc, &a.state().events(alloc)?),
             Any::Sides(a) => side_events(alloc, &a.pair().events(alloc)?),
+            Any::Tally(a) => tally_events(alloc, &a.state().events(alloc)?),
         }
     }
 
@@ -214,12 +245,21 @@ impl Lattice for Any {
             (Any::Sides(a), Any::Sides(b)) => {
                 side_events(alloc, &Pair::fresh(alloc, a.pair(), b.pair())?)
             }
+            (Any::Tally(a), Any::Tally(b)) => {
+                tally_events(alloc, &Tally::fresh(alloc, a.state(), b.state())?)
+            }
             (Any::Part(a), Any::Map(_)) => Any::fresh_to_part(alloc, a, put),
             (Any::Part(a), Any::Sides(_)) => Any::fresh_to_part(alloc, a, put),
+            (Any::Part(a), Any::Tally(_)) => Any::fresh_to_part(alloc, a, put),
             (Any::Map(_), Any::Part(_)) => Ok(Vec::new(alloc)),
             (Any::Map(_), Any::Sides(_)) => Ok(Vec::new(alloc)),
+            (Any::Map(_), Any::Tally(_)) => Ok(Vec::new(alloc)),
             (Any::Sides(_), Any::Part(_)) => Ok(Vec::new(alloc)),
             (Any::Sides(_), Any::Map(_)) => Ok(Vec::new(alloc)),
+            (Any::Sides(_), Any::Tally(_)) => Ok(Vec::new(alloc)),
+            (Any::Tally(_), Any::Part(_)) => Ok(Vec::new(alloc)),
+            (Any::Tally(_), Any::Map(_)) => Ok(Vec::new(alloc)),
+            (Any::Tally(_), Any::Sides(_)) => Ok(Vec::new(alloc)),
         }
     }
 
@@ -228,6 +268,7 @@ impl Lattice for Any {
             Any::Part(a) => Ok(Any::Part(a.copy(alloc)?)),
             Any::Map(a) => Ok(Any::Map(a.copy(alloc)?)),
             Any::Sides(a) => Ok(Any::Sides(a.copy(alloc)?)),
+            Any::Tally(a) => Ok(Any::Tally(a.copy(alloc)?)),
         }
     }
 
@@ -253,17 +294,21 @@ impl Lattice for Any {
                 Any::Sides(b) => a.merge(alloc, b),
                 _ => Ok(false),
             },
+            Any::Tally(a) => match put {
+                Any::Part(b) => Ok(b.is_empty()),
+                Any::Tally(b) => a.merge(alloc, b),
+                _ => Ok(false),
+            },
         }
     }
 
     ghost use Rattle.std.specs.Prelude.{refl};
-    ghost use Rattle.lvish_compound.specs.Kinds.{kinds_identical};
     ghost use Rattle.lvish_compound.specs.StateLaws.{alike_identical, any_is_join};
-    ghost use Rattle.lvish_compound.specs.StateEvents.{any_has_events, by_name, by_rank, kinds_rank};
+    ghost use Rattle.lvish_compound.specs.StateEvents.{any_has_events, by_name, by_rank};
 
     ghost identical = { alike_identical };
 
     ghost is_join = { any_is_join };
 
-    ghost has_events = { any_has_events ⟦<Event as PartialEq>⟧.eq (by_name ⟦<Kind as PartialEq>⟧.eq (kinds_identical _ refl refl refl refl refl refl refl refl refl refl refl refl) refl refl refl refl _ (λ d e. refl)) ⟦<Event as Ord>⟧.cmp (by_rank ⟦<Kind as Ord>⟧.cmp (kinds_rank _ refl refl refl refl refl refl refl refl refl refl refl refl refl refl refl refl) _ (λ d e. refl)) };
+    ghost has_events = { any_has_events ⟦<Event as PartialEq>⟧.eq (by_name _ (λ d e. refl)) ⟦<Event as Ord>⟧.cmp (by_rank _ (λ d e. refl)) };
 }

@@ -1,7 +1,7 @@
 //! The events of a script's variables, named by key, kind and number.
 
 ghost use Rattle.std.specs.Prelude.{◌≡◌, IfOk, map, pos};
-ghost use Rattle.lvish_compound.specs.EventNames.{part_event, entry_event, side_event};
+ghost use Rattle.lvish_compound.specs.EventNames.{part_event, entry_event, side_event, tally_event};
 
 use crate::event::Event;
 use crate::kind::Kind;
@@ -64,6 +64,20 @@ pub(crate) fn side_events(
     let mut named = Vec::new(alloc);
     for event in events {
         named.push(side_event(*event))?;
+    }
+    Ok(named)
+}
+
+pub(crate) fn tally_events(alloc: Global, events: &[(i64, i64)]) -> Result<Vec<Event>, AllocError>
+    ensures { IfOk result (λ v. v.items ≡ map tally_event events.now) }
+{
+    let mut named = Vec::new(alloc);
+    for (key, number) in events {
+        named.push(Event {
+            key: *key,
+            kind: Kind::Tally,
+            number: *number,
+        })?;
     }
     Ok(named)
 }

@@ -1,4 +1,4 @@
-ghost use Rattle.std.specs.Prelude.{◌≡◌, ◌↔◌, true, IfOk, IsOk, IsErr, IsTrue};
+ghost use Rattle.std.specs.Prelude.{◌≡◌, ◌↔◌, pos, true, IfOk, IsOk, IsErr, IsTrue};
 ghost use Rattle.lvish_compound.specs.Places.{fits, IsApart};
 ghost use Rattle.lvish_compound.specs.Refusals.{IsRefused};
 
@@ -24,8 +24,8 @@ impl AnyRead {
 
     /// The read of a place by a test.
     ///
-    /// Refused where a counter's number is outside 0 to 1000, and where a side isn't 1 or 2 or is
-    /// of another kind than cell, set or max.
+    /// Refused where a number of a counter or an amount is outside 0 to 1000, or a total outside 0
+    /// to 10,000, and where a side isn't 1 or 2 or is of another kind than cell, set or max.
     pub fn new(place: Place, test: Test) -> Result<AnyRead, Range>
         ensures place { IfOk result (λ r. place_of r ≡ place) }
         ensures test { IfOk result (λ r. test_of r ≡ test) }
@@ -39,7 +39,8 @@ impl AnyRead {
     }
 }
 
-/// Whether any two states of the kind that are waited for, and differ, join to top.
+/// Whether states of the kind that stand for different numbers which are waited for always join to
+/// top.
 fn is_apart(kind: Kind, test: &Test) -> bool
     ensures { IsTrue result ↔ IsApart kind test.now }
 {
@@ -48,13 +49,17 @@ fn is_apart(kind: Kind, test: &Test) -> bool
         Kind::Set => test.has_one(),
         Kind::Max => test.has_one(),
         Kind::Map => true,
+        Kind::Tally => test.has_one(),
     }
 }
 
 impl Test {
     ghost use Rattle.lvish_compound.specs.StateReads.{part_answer, part_in, side_in, map_in};
     ghost use Rattle.lvish_compound.specs.MapOf.{at};
-    ghost use Rattle.lvish_compound.specs.Numbers.{cell_answer};
+    ghost use Rattle.lvish_compound.specs.Numbers.{cell_answer, first_that, is_reached};
+    ghost use Rattle.lvish_compound.specs.StateLaws.{tally_in};
+    ghost use Rattle.lvish_compound.specs.Tally.{amount, total};
+    ghost use Rattle.lvish_lattice.specs.MaxCounter.{number_of};
 
     /// The answer in a part.
     fn in_part(&self, kind: Kind, part: &Part) -> Option<i64>
@@ -74,6 +79,7 @@ impl Test {
                 _ => self.in_max(0),
             },
             Kind::Map => None,
+            Kind::Tally => None,
         }
     }
 
@@ -116,6 +122,26 @@ impl Test {
             _ => None,
         }
     }
+
+    /// The answer to the amount of a key.
+    fn in_amount(&self, key: i64, state: &Any) -> Option<i64>
+        ensures { result ≡ first_that (is_reached (number_of (amount (tally_in state.now) key))) self.now }
+    {
+        match state {
+            Any::Tally(tally) => self.in_max(tally.state().amount(key).get()),
+            _ => self.in_max(0),
+        }
+    }
+
+    /// The answer to the total, which is kept and not summed anew.
+    fn in_total(&self, state: &Any) -> Option<i64>
+        ensures { result ≡ first_that (is_reached (pos (total (tally_in state.now)))) self.now }
+    {
+        match state {
+            Any::Tally(tally) => self.in_max(tally.state().total()),
+            _ => self.in_max(0),
+        }
+    }
 }
 
 impl Reads for Any {
@@ -146,6 +172,8 @@ impl Reads for Any {
             Place::Set => read.test.in_state(Kind::Set, state),
             Place::Max => read.test.in_state(Kind::Max, state),
             Place::Key(key) => read.test.in_entry(key, state),
+            Place::Amount(key) => read.test.in_amount(key, state),
+            Place::Total => read.test.in_total(state),
             Place::Side(number, kind) => read.test.in_side(number, kind, state),
         }
     }
@@ -159,6 +187,7 @@ impl Reads for Any {
                 Kind::Set => event.number,
                 Kind::Max => event.number,
                 Kind::Map => 0,
+                Kind::Tally => event.number,
             },
         }
     }
@@ -173,6 +202,8 @@ impl Reads for Any {
                 kind: Kind::Map,
                 number: 0,
             }),
+            Place::Amount(key) => at_spot(key, Kind::Tally, read.test.number_by(Kind::Tally)),
+            Place::Total => None,
             Place::Side(number, kind) => {
                 at_spot(
                     if number == 1 { 1 } else { 2 },
@@ -184,11 +215,10 @@ impl Reads for Any {
     }
 
     ghost use Rattle.std.specs.Prelude.{refl};
-    ghost use Rattle.lvish_compound.specs.Kinds.{kinds_identical};
     ghost use Rattle.lvish_compound.specs.StateEvents.{by_name};
     ghost use Rattle.lvish_compound.specs.AnyWatch.{any_waits};
 
-    ghost waits = { any_waits ⟦<Event as PartialEq>⟧.eq (by_name ⟦<Kind as PartialEq>⟧.eq (kinds_identical _ refl refl refl refl refl refl refl refl refl refl refl refl) refl refl refl refl _ (λ d e. refl)) };
+    ghost waits = { any_waits ⟦<Event as PartialEq>⟧.eq (by_name _ (λ d e. refl)) };
 
     ghost use Rattle.lvish_compound.specs.AnyReadLaws.{any_answers};
 

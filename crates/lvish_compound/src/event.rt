@@ -27,10 +27,9 @@ impl Event {
 
 impl Plain for Event {
     ghost use Rattle.std.specs.Prelude.{refl};
-    ghost use Rattle.lvish_compound.specs.Kinds.{kinds_identical};
     ghost use Rattle.lvish_compound.specs.Events.{events_identical};
 
-    ghost identical = { events_identical ⟦<Kind as PartialEq>⟧.eq (kinds_identical _ refl refl refl refl refl refl refl refl refl refl refl refl) _ (λ d e. refl) };
+    ghost identical = { events_identical _ (λ d e. refl) };
 }
 
 impl Numbered for Event {

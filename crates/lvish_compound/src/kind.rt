@@ -7,11 +7,11 @@ pub enum Kind {
     Set,
     Max,
     Map,
+    Tally,
 }
 
 impl Plain for Kind {
-    ghost use Rattle.std.specs.Prelude.{refl};
     ghost use Rattle.lvish_compound.specs.Kinds.{kinds_identical};
 
-    ghost identical = { kinds_identical _ refl refl refl refl refl refl refl refl refl refl refl refl };
+    ghost identical = { kinds_identical };
 }

@@ -2,11 +2,13 @@
 
 ghost use Rattle.lvish_lattice.specs.Top.{IsTopWhere, TwoValues};
 ghost use Rattle.lvish_compound.specs.Clashes.{JoinToTop, AtSomeKey, AtSomeSide, PartsClash, Clash};
+ghost use Rattle.lvish_compound.specs.Tally.{IsPastTotal, IsCounted, AreReached, AreGrowing};
 
 use crate::any::Any;
 use crate::map_of::MapOf;
 use crate::pair::Pair;
 use crate::part::Part;
+use crate::tally::Tally;
 use lvish_lattice::laws::cells_join_to_top_at_two_values;
 use lvish_lattice::{Flat, Lattice, Plain};
 use std::hash::Hash;
@@ -43,3 +45,21 @@ pub fn states_join_to_top_where_they_clash()
 {
     maps_of_cells_join_to_top_at_two_values::<i64, i64>();
 }
+
+/// Two tallies join to top exactly where the greater amounts of their keys add up to more than
+/// 10,000.
+pub fn tallies_join_to_top_past_the_total()
+    ensures { IsTopWhere ⟦<Tally as Lattice>⟧.joined IsPastTotal }
+{}
+
+/// The total of a tally is the number of its events.
+pub fn totals_count_events()
+    ensures { IsCounted ⟦<Tally as Lattice>⟧.events_of }
+{}
+
+/// Below a tally whose total is at least some number there is one whose total is that number, and
+/// a tally below another has at most its total.
+pub fn totals_are_reached()
+    ensures reached { AreReached ⟦<Tally as Lattice>⟧.joined }
+    ensures grows { AreGrowing ⟦<Tally as Lattice>⟧.joined }
+{}

@@ -13,10 +13,11 @@
 //! let answer = MapOf::trigger(&read, &scores);          // Some(5)
 //! ```
 //!
-//! A `Pair` is joined side by side; its events and reads are those of a side. A `Part` is empty, a
-//! cell, a set or a counter, and an `Any` a part, a map or two parts side by side: what a variable
-//! of a script holds. Different kinds join to top. Its events have a key, a kind and a number, and
-//! it is read by an `AnyRead`.
+//! A `Pair` is joined side by side; its events and reads are those of a side. A `Tally` is a map
+//! from keys to amounts whose total has a bound. A `Part` is empty, a cell, a set or a counter, and an
+//! `Any` a part, a map, two parts side by side or a tally: what a variable of a script holds.
+//! Different kinds join to top. Its events have a key, a kind and a number, and it is read by an
+//! `AnyRead`.
 //!
 //! ```text
 //! let mut state = Any::entry(alloc, 1, 5)?;
@@ -28,6 +29,7 @@
 #![tactic(auto)]
 
 mod above;
+mod amount_fault;
 mod any;
 mod any_events;
 mod any_read;
@@ -45,8 +47,10 @@ mod place;
 mod side_of;
 mod sides;
 mod spots;
+mod tally;
 
 pub use above::Above;
+pub use amount_fault::AmountFault;
 pub use any::{Any, Wrong};
 pub use any_read::AnyRead;
 pub use event::Event;
@@ -59,3 +63,4 @@ pub use part::{Part, PartEvent};
 pub use place::Place;
 pub use side_of::SideOf;
 pub use sides::Sides;
+pub use tally::Tally;

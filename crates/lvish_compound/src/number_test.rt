@@ -4,13 +4,14 @@ ghost use Rattle.std.specs.Ordering.{int_eq};
 ghost use Rattle.std.specs.Set.{is_member};
 ghost use Rattle.lvish_lattice.specs.declared.flat.Flat.TheVariants.{Value};
 ghost use Rattle.lvish_lattice.specs.GrowSet.{items_of};
-ghost use Rattle.lvish_compound.specs.Numbers.{is_level, are_levels, cell_answer, first_that, is_reached, HasOne};
+ghost use Rattle.lvish_compound.specs.Numbers.{is_level, are_levels, is_total, are_totals, cell_answer, first_that, is_reached, HasOne};
 
 use lvish_lattice::{GrowSet, Items, Plain};
 
 /// Which numbers are waited for: any, those of a list, or one.
 ///
-/// The one is a value of a cell, an element that a set has, or a level that a counter has reached.
+/// The one is a value of a cell, an element that a set has, or a level that a counter, an amount or
+/// a total has reached.
 #[derive(Debug, Drop)]
 pub enum Test {
     Any,
@@ -23,6 +24,13 @@ fn is_level(number: i64) -> bool
     ensures { result ≡ is_level number }
 {
     0 <= number && number <= 1000
+}
+
+/// Whether a tally can have this total.
+fn is_total(number: i64) -> bool
+    ensures { result ≡ is_total number }
+{
+    0 <= number && number <= 10_000
 }
 
 /// Whether a counter at this level has reached the number.
@@ -43,6 +51,12 @@ fn are_levels(numbers: &[i64]) -> bool
     ensures { result ≡ list_all is_level numbers.now }
 {
     numbers.iter().all(|number| is_level(*number))
+}
+
+fn are_totals(numbers: &[i64]) -> bool
+    ensures { result ≡ list_all is_total numbers.now }
+{
+    numbers.iter().all(|number| is_total(*number))
 }
 
 /// Whether the list has at most one value, however often.
@@ -93,6 +107,17 @@ impl Test {
             Test::Any => true,
             Test::In(numbers) => are_levels(numbers.as_slice()),
             Test::At(number) => is_level(*number),
+        }
+    }
+
+    /// Whether a tally can have each of the numbers as its total.
+    pub(crate) fn are_totals(&self) -> bool
+        ensures { result ≡ are_totals self.now }
+    {
+        match self {
+            Test::Any => true,
+            Test::In(numbers) => are_totals(numbers.as_slice()),
+            Test::At(number) => is_total(*number),
         }
     }
 

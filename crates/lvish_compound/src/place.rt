@@ -4,13 +4,16 @@ ghost use Rattle.lvish_compound.specs.Places.{fits, fits_kind, kind_at};
 use crate::kind::Kind;
 use crate::number_test::Test;
 
-/// Where a variable is read: as a whole, at a key of a map, or at a side of a pair.
+/// Where a variable is read: as a whole, at a key of a map, at a key of a tally or in its total, or
+/// at a side of a pair.
 #[derive(Clone, Copy, Debug, PartialEq, Eq)]
 pub enum Place {
     Cell,
     Set,
     Max,
     Key(i64),
+    Amount(i64),
+    Total,
     Side(u8, Kind),
 }
 
@@ -24,6 +27,7 @@ impl Kind {
             Kind::Set => true,
             Kind::Max => test.are_levels(),
             Kind::Map => false,
+            Kind::Tally => false,
         }
     }
 }
@@ -38,6 +42,8 @@ impl Place {
             Place::Set => true,
             Place::Max => test.are_levels(),
             Place::Key(_) => true,
+            Place::Amount(_) => test.are_levels(),
+            Place::Total => test.are_totals(),
             Place::Side(side, kind) => (side == 1 || side == 2) && kind.fits(test),
         }
     }
@@ -51,6 +57,8 @@ impl Place {
             Place::Set => Kind::Set,
             Place::Max => Kind::Max,
             Place::Key(_) => Kind::Map,
+            Place::Amount(_) => Kind::Tally,
+            Place::Total => Kind::Tally,
             Place::Side(_, kind) => kind,
         }
     }

@@ -41,6 +41,7 @@ impl Test {
             Kind::Set => self.only(),
             Kind::Max => self.only(),
             Kind::Map => None,
+            Kind::Tally => self.only(),
         }
     }
 }

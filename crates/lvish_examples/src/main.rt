@@ -14,7 +14,7 @@ struct Example {
     expected: &'static str,
 }
 
-const EXAMPLES: [Example; 7] = [
+const EXAMPLES: [Example; 8] = [
     Example {
         words: &["run", "first.lvish", "--all"],
         expected: "first.expected",
@@ -30,6 +30,10 @@ const EXAMPLES: [Example; 7] = [
     Example {
         words: &["run", "pointers.lvish"],
         expected: "pointers.expected",
+    },
+    Example {
+        words: &["run", "words.lvish"],
+        expected: "words.expected",
     },
     Example {
         words: &["pick", "crossing.lvish", "--all"],

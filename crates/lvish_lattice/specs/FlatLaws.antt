@@ -12,7 +12,6 @@ use Rattle.lvish_lattice.specs.declared.flat.Flat.TheVariants.{Bottom, Value}
 use Rattle.lvish_lattice.specs.declared.flat.FlatRead.{FlatRead}
 use Rattle.lvish_lattice.specs.declared.flat.FlatRead.TheVariants.{Any, In}
 use Rattle.lvish_lattice.specs.Lattice.{IsIdentity, IsJoin, IsBelow, HasEvents, IsChecked, IsAnswered, IsWatched}
-use Rattle.lvish_lattice.specs.declared.flat.Whole.{Whole}
 use Rattle.lvish_lattice.specs.Flat.{joined, events_of, Member, answer_of, spot_of, watched}
 
 module _ {V : Type 0} (eq : V → V → Bool) (same : IsIdentity eq) where
@@ -133,8 +132,8 @@ module _ {V : Type 0} (eq : V → V → Bool) (same : IsIdentity eq) (laws : IsE
       answer_is Any z c h = h
       answer_is (In zs) z c h = h.0
 
-      by_test : (t : Bool) → eq x y ≡ t → ((Value x ≡ Value y) × (a ≡ b)) ⊎ (joined eq (Value x) (Value y) ≡ None)
-      by_test true is = let s : x ≡ y = same x y is in inl (ap (λ (v : V). Value v) s, sym (answer_is r x a p) ∙ s ∙ answer_is r y b q)
+      by_test : (t : Bool) → eq x y ≡ t → (a ≡ b) ⊎ (joined eq (Value x) (Value y) ≡ None)
+      by_test true is = inl (sym (answer_is r x a p) ∙ same x y is ∙ answer_is r y b q)
       by_test false is = inr (ap (λ t. cond t (Some (Value x)) None) is)
 
   same_answer : (r : FlatRead V) (x y a : V) → eq x y ≡ true → answer_of eq r (Value y) ≡ None → answer_of eq r (Value x) ≡ Some a → ⊥

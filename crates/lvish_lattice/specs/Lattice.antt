@@ -35,15 +35,16 @@ events_beyond eq events old None = []
 abbrev pub fresh_of : {S E : Type 0} → (S → S → Option S) → (E → E → Bool) → (S → List E) → S → S → List E
 fresh_of join eq events old put = events_beyond eq events old (join old put)
 
--- any two members that differ, in the state or in the answer, join to top
+-- A read is a set of groups, each a set of states with one answer, which tells the group: member m a says that m is in the group of answer a.
+-- It is checked where any two members of different groups join to top.
 abbrev pub IsChecked : {S A : Type 0} → (S → S → Option S) → (S → A → Type 0) → Type 0
-IsChecked {S} {A} join member = (m n : S) (a b : A) → member m a → member n b → ((m ≡ n) × (a ≡ b)) ⊎ (join m n ≡ None)
+IsChecked {S} {A} join member = (m n : S) (a b : A) → member m a → member n b → (a ≡ b) ⊎ (join m n ≡ None)
 
--- a is the answer of a member at or below the state
+-- a is the answer of a group with a member at or below the state
 abbrev pub Answers : {S A : Type 0} → (S → S → Option S) → (S → A → Type 0) → S → A → Type 0
 Answers {S} join member state a = (m : S) × member m a × IsBelow join m state
 
--- in each state there is an answer exactly where a member at or below the state gives it
+-- in each state there is an answer exactly where a group with a member at or below the state has it
 abbrev pub IsAnswered : {S A : Type 0} → (S → S → Option S) → (S → A → Type 0) → (S → Option A) → Type 0
 IsAnswered {S} {A} join member answer_of = (s : S) (a : A) → (answer_of s ≡ Some a) ↔ Answers join member s a
 

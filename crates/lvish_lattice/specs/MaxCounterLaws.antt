@@ -137,12 +137,15 @@ reaches m s = (
   λ h. ap (λ t. Some (cond t s m)) h,
 )
 
+same_number_of : (x y : MaxCounter) → number_of x ≡ number_of y → x ≡ y
+same_number_of x y h = same_counter x y cc
+
 -- any two listed levels are the same where the read is checked, and only there
 checked_is_one : (r : Levels) → IsChecked joined (Member r) → (x y : MaxCounter) → Contains (listed r) x → Contains (listed r) y → x ≡ y
-checked_is_one r checked x y s t = ⊎_elim (λ h. h.0) (λ h. absurd (some_is_not_none (joined x y) _ refl h)) (checked x y (number_of x) (number_of y) (s, refl) (t, refl))
+checked_is_one r checked x y s t = ⊎_elim (same_number_of x y) (λ h. absurd (some_is_not_none (joined x y) _ refl h)) (checked x y (number_of x) (number_of y) (s, refl) (t, refl))
 
 pub counters_checked : (r : Levels) → ((x y : MaxCounter) → Contains (listed r) x → Contains (listed r) y → x ≡ y) ↔ IsChecked joined (Member r)
-counters_checked r = ((λ one m n a b s t. let same = one m n s.0 t.0 in inl (same, sym s.1 ∙ ap number_of same ∙ t.1)), checked_is_one r)
+counters_checked r = ((λ one m n a b s t. inl (sym s.1 ∙ ap number_of (one m n s.0 t.0) ∙ t.1)), checked_is_one r)
 
 pub counters_answer : (r : Levels) → IsChecked joined (Member r) → IsAnswered joined (Member r) (answer_of r)
 counters_answer r checked s a = (

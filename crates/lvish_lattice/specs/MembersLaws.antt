@@ -12,7 +12,7 @@ use Rattle.lvish_lattice.specs.declared.grow_set.GrowSet.{GrowSet}
 use Rattle.lvish_lattice.specs.declared.grow_set.Members.{Members}
 use Rattle.lvish_lattice.specs.Lattice.{IsIdentity, IsBelow, IsChecked, IsAnswered, IsWatched}
 use Rattle.lvish_lattice.specs.Ascending.{ties_are_same, one_rises, within_by}
-use Rattle.lvish_lattice.specs.GrowSet.{joined, same_set, joined-union, below_from, items_of}
+use Rattle.lvish_lattice.specs.GrowSet.{joined, joined-union, below_from, items_of}
 use Rattle.lvish_lattice.specs.Listed.{found, found_one, some_is_not_none, one_is_each, missed}
 use Rattle.lvish_lattice.specs.Members.{listed, Member, answer_of, spot_of, watched}
 
@@ -25,12 +25,10 @@ module _ {V : Type 0} {o : ord.Ghosts V} {e : partial_eq.Ghosts V} {p : partial_
 
   -- any two listed elements are the same where the read is checked, and only there
   one_is_checked : (r : Members V) → ((x y : V) → Contains (listed r) x → Contains (listed r) y → x ≡ y) → IsChecked joined (Member {o = o} {e = e} {p = p} r)
-  one_is_checked r one m n a b s t =
-      let same : a ≡ b = one a b s.0 t.0 in
-      inl (same_set m n (s.1 ∙ ap (λ z. z ∷ []) same ∙ sym t.1), same)
+  one_is_checked r one m n a b s t = inl (one a b s.0 t.0)
 
   checked_is_one : (r : Members V) → IsChecked joined (Member {o = o} {e = e} {p = p} r) → (x y : V) → Contains (listed r) x → Contains (listed r) y → x ≡ y
-  checked_is_one r checked x y s t = ⊎_elim (λ h. h.1) (λ h. absurd (never_top (single x) (single y) h)) (checked (single x) (single y) x y (s, refl) (t, refl))
+  checked_is_one r checked x y s t = ⊎_elim (λ h. h) (λ h. absurd (never_top (single x) (single y) h)) (checked (single x) (single y) x y (s, refl) (t, refl))
 
   pub sets_checked : (r : Members V) → ((x y : V) → Contains (listed r) x → Contains (listed r) y → x ≡ y) ↔ IsChecked joined (Member {o = o} {e = e} {p = p} r)
   sets_checked r = (one_is_checked r, checked_is_one r)

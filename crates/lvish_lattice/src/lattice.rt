@@ -70,18 +70,20 @@ pub trait Lattice: Eq + Drop {
     ghost has_events: { HasEvents least joined Self.Event.eq Self.Event.cmp events_of };
 }
 
-/// A lattice that is read by threshold sets (Kuper and Newton, LVars, FHPC 2013).
+/// A lattice that is read by threshold sets (Kuper and Newton, LVars, FHPC 2013): sets of groups,
+/// each a set of states with one answer.
 pub trait Reads: Lattice {
     /// A threshold set, as a program writes it.
     type Read: Drop;
 
-    /// What a read answers: never the content, only which member was reached.
+    /// What a read answers: never the content, only which group was reached.
     type Answer: Copy;
 
     /// What an event has in common with the reads that it can wake.
     type Spot: Plain;
 
-    /// The members of a threshold set, each a state with its answer.
+    /// The members of a threshold set, each a state with the answer of its group; those with one answer
+    /// are one group.
     ghost member: { Self.Read → Self → Self.Answer → Type 0 };
 
     /// The answer of a read in a state, if there is one.
@@ -93,12 +95,12 @@ pub trait Reads: Lattice {
     /// The one spot whose events can wake the read; `None` where any event can.
     ghost watched: { Self.Read → Option Self.Spot };
 
-    /// Whether any two different members join to top.
+    /// Whether any two members of different groups join to top.
     fn check(read: &Self::Read) -> bool
         ensures { IsTrue result ↔ IsChecked Self.joined (member read.now) };
 
-    /// The answer of the read in the state: on a checked read that of the one member at or below
-    /// it, if there is one.
+    /// The answer of the read in the state: on a checked read that of the one group with a member at
+    /// or below it, if there is one.
     fn trigger(read: &Self::Read, state: &Self) -> Option<Self::Answer>
         ensures { result ≡ answer_of read.now state.now };
 

@@ -3,9 +3,9 @@
 //! A shared variable holds a state of a lattice. A put joins to it, so the order of puts is
 //! lost; a join may be top, which is no state and stands for an error. Each state is the join
 //! of finitely many events, in one ascending order: what a put brings to a state is the list of
-//! its fresh events. A variable is read by a threshold set: members that pairwise join to top,
-//! so at most one is at or below the state, and the read answers that one and not the state
-//! (Kuper and Newton, LVars, FHPC 2013).
+//! its fresh events. A variable is read by a threshold set: groups of states, where members of
+//! different groups join to top, so at most one group has a member at or below the state, and the
+//! read answers which one and not the state (Kuper and Newton, LVars, FHPC 2013).
 //!
 //! ```text
 //! let mut state = Flat::Bottom;

@@ -1,4 +1,4 @@
-use lvish_compound::Wrong;
+use lvish_compound::{AmountFault, Wrong};
 use lvish_handlers::{AddFault, Nothing};
 use lvish_lattice::Range;
 use lvish_names::NameFault;
@@ -20,6 +20,8 @@ pub enum Fault {
     #[error(transparent)]
     Wrong(#[from] Wrong),
     #[error(transparent)]
+    Amount(#[from] AmountFault),
+    #[error(transparent)]
     Name(#[from] NameFault),
     #[error(transparent)]
     Put(#[from] PutFault),
@@ -37,6 +39,7 @@ impl Fault {
         matches!(
             self,
             Fault::Memory(_)
+                | Fault::Amount(AmountFault::Memory)
                 | Fault::Name(NameFault::Memory)
                 | Fault::Put(PutFault::Memory)
                 | Fault::Add(AddFault::Memory)

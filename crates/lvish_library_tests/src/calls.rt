@@ -56,7 +56,7 @@ pub fn merge_into<L: Lattice>(alloc: Global, a: &mut L, put: &L) -> Result<bool,
     a.merge(alloc, put)
 }
 
-/// Whether any two different members of a read join to top.
+/// Whether any two members of different groups of a read join to top.
 pub fn is_checked<L: Reads>(read: &L::Read) -> bool
     ensures { IsTrue result ↔ IsChecked L.joined (L.member read.now) }
 {

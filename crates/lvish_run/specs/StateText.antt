@@ -5,16 +5,18 @@ use Rattle.std.specs.Fmt.{signed_decimal}
 use Rattle.lvish_lattice.specs.declared.flat.Flat.{Flat}
 use Rattle.lvish_lattice.specs.declared.flat.Flat.TheVariants.{Bottom, Value}
 use Rattle.lvish_lattice.specs.GrowSet.{items_of}
+use Rattle.lvish_lattice.specs.declared.max_counter.MaxCounter.{MaxCounter}
 use Rattle.lvish_lattice.specs.MaxCounter.{number_of}
 use Rattle.lvish_compound.specs.declared.any.Any.{Any}
 use Rattle.lvish_compound.specs.declared.any.Any.TheVariants as any
 use Rattle.lvish_compound.specs.declared.part.Part.{Part}
 use Rattle.lvish_compound.specs.declared.part.Part.TheVariants as part
 use Rattle.lvish_compound.specs.MapOf.{entries_of}
+use Rattle.lvish_compound.specs.Tally.{entries_of as amounts_of}
 use Rattle.lvish_syntax.specs.declared.kind.SimpleKind.{SimpleKind}
 use Rattle.lvish_syntax.specs.declared.kind.SimpleKind.TheVariants.{Cell, Set, Max}
 use Rattle.lvish_syntax.specs.declared.kind.VariableKind.{VariableKind}
-use Rattle.lvish_syntax.specs.declared.kind.VariableKind.TheVariants.{Simple, Map, Pair}
+use Rattle.lvish_syntax.specs.declared.kind.VariableKind.TheVariants.{Simple, Map, Pair, Tally}
 
 -- the texts of elements in braces, with one space between any two
 abbrev pub braced : {X : Type 0} → (X → List ℕ) → List X → List ℕ
@@ -31,6 +33,13 @@ entry_text k Bottom = signed_decimal k ++ codes ":empty"
 
 abbrev pub map_text : List (ℤ × Flat ℤ) → List ℕ
 map_text entries = braced (λ e. entry_text e.0 e.1) entries
+
+-- a key and its amount, as those of a map
+abbrev pub amount_text : ℤ → MaxCounter → List ℕ
+amount_text k n = signed_decimal k ++ (codes ":" ++ signed_decimal (number_of n))
+
+abbrev pub tally_text : List (ℤ × MaxCounter) → List ℕ
+tally_text entries = braced (λ e. amount_text e.0 e.1) entries
 
 -- a cell, a set or a counter; a state of another kind is printed as bottom
 abbrev pub simple_text : SimpleKind → Part → List ℕ
@@ -53,3 +62,5 @@ state_text Map (any.Map m) = map_text (entries_of m.state)
 state_text Map s = codes "{}"
 state_text (Pair a b) (any.Sides z) = pair_text a b z.pair.one z.pair.two
 state_text (Pair a b) s = pair_text a b part.Empty part.Empty
+state_text Tally (any.Tally t) = tally_text (amounts_of t.state)
+state_text Tally s = codes "{}"

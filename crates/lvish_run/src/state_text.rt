@@ -2,10 +2,11 @@
 
 ghost use Rattle.std.specs.Prelude.{◌≡◌, IfOk, string_bytes};
 ghost use Rattle.lvish_compound.specs.MapOf.{entries_of};
-ghost use Rattle.lvish_run.specs.StateText.{braced, set_text, entry_text, map_text, simple_text, pair_text, state_text};
+ghost use Rattle.lvish_compound.specs.Tally.{entries_of as amounts_of};
+ghost use Rattle.lvish_run.specs.StateText.{braced, set_text, entry_text, map_text, amount_text, tally_text, simple_text, pair_text, state_text};
 
-use lvish_compound::{Any, MapOf, Part};
-use lvish_lattice::Flat;
+use lvish_compound::{Any, MapOf, Part, Tally};
+use lvish_lattice::{Flat, MaxCounter};
 use lvish_syntax::{SimpleKind, VariableKind};
 use std::alloc::{AllocError, Global};
 
@@ -45,6 +46,25 @@ fn map_text(alloc: Global, map: &MapOf<i64, Flat<i64>>) -> Result<String, AllocE
     let mut pieces = Vec::new(alloc);
     for (key, value) in map.entries() {
         pieces.push(entry_text(alloc, *key, value)?)?;
+    }
+    braced(alloc, &pieces)
+}
+
+/// A key and its amount.
+fn amount_text(alloc: Global, key: i64, amount: MaxCounter) -> Result<String, AllocError>
+    ensures { IfOk result (λ t. string_bytes t ≡ amount_text key amount) }
+{
+    let level = amount.get();
+    format!(in alloc; "{key}:{level}")
+}
+
+/// The amounts of a tally in braces.
+fn tally_text(alloc: Global, tally: &Tally) -> Result<String, AllocError>
+    ensures { IfOk result (λ t. string_bytes t ≡ tally_text (amounts_of tally.now)) }
+{
+    let mut pieces = Vec::new(alloc);
+    for (key, amount) in tally.entries() {
+        pieces.push(amount_text(alloc, *key, *amount)?)?;
     }
     braced(alloc, &pieces)
 }
@@ -93,5 +113,7 @@ pub fn state_text(alloc: Global, kind: VariableKind, state: &Any) -> Result<Stri
             pair_text(alloc, (a, b), &sides.pair().one, &sides.pair().two)
         }
         (VariableKind::Pair(a, b), _) => { pair_text(alloc, (a, b), &Part::Empty, &Part::Empty) }
+        (VariableKind::Tally, Any::Tally(tally)) => tally_text(alloc, tally.state()),
+        (VariableKind::Tally, _) => String::from_str(alloc, "{}"),
     }
 }

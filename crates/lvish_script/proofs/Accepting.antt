@@ -1,5 +1,5 @@
 -- The lines of a sound script pass each check.
-use Rattle.std.proofs.Common.{◌≡◌, ℕ, zero, suc, ◌≤◌, Bool, true, false, not, ◌||◌, ◌&&◌, ◌==◌, List, [], ◌∷◌, ◌++◌, length, map, take, drop, None, refl, sym, ap, subst, ◌∙◌}
+use Rattle.std.proofs.Common.{◌≡◌, ℕ, zero, suc, ◌≤◌, Bool, true, false, not, ◌||◌, ◌&&◌, ◌==◌, List, [], ◌∷◌, ◌++◌, length, map, take, drop, Option, None, Some, refl, sym, ap, subst, ◌∙◌}
 use Rattle.std.proofs.lemmas.Bool.{or_from}
 use Rattle.std.specs.Prelude.{nat_le, nat_lt, slice_get}
 use Rattle.std.specs.Option.{option_map_or}
@@ -7,29 +7,34 @@ use Rattle.std.specs.List.{list_any, list_all}
 use Rattle.std.proofs.Math.Seq.{take-append_seam, drop-append_seam}
 use Rattle.std.proofs.lemmas.List.{map-append}
 use Rattle.std.proofs.lemmas.Grind.{flat_map-append}
+use Rattle.std.proofs.lemmas.List.Folds.{list_any-append}
 use Rattle.lvish_syntax.specs.Words.{Word}
 use Rattle.lvish_syntax.specs.Name.{has_name, has_repeat}
 use Rattle.lvish_syntax.specs.Nested.{statements, all_depth}
 use Rattle.lvish_syntax.specs.Sound.{IsSound, variable_name, variable_names, pool_name, pool_names, procedure_names, locals_of, follow_variables, is_own_sound, is_procedure_sound}
+use Rattle.lvish_syntax.specs.declared.version.Version.{Version}
+use Rattle.lvish_syntax.specs.declared.version.Version.TheVariants.{One, Two}
 use Rattle.lvish_syntax.specs.declared.declaration.Declaration.{Declaration}
 use Rattle.lvish_syntax.specs.declared.declaration.Declaration.TheVariants.{Variable, Pool}
 use Rattle.lvish_syntax.specs.declared.procedure.Procedure.{Procedure}
 use Rattle.lvish_syntax.specs.declared.statement.Statement.TheViews.{out-Statement}
 use Rattle.lvish_checks.specs.declared.line.Line.{Line}
-use Rattle.lvish_checks.specs.declared.line.Line.TheVariants.{Blank, Bad, Declare, Proc, Do, If, While, Else, End}
-use Rattle.lvish_checks.specs.Checks.{Parts, IsAccepted, on_line, on_whole, has_procedure, is_nil, is_main, is_procedure, binds_until_procedure, locals_after, locals_at, stands_badly, declares_again, names_unknown, misfits, miscounts, mixes, command_misfits, command_mixes, is_misplaced, is_past_limit, is_full, open_after}
+use Rattle.lvish_checks.specs.declared.line.Line.TheVariants.{Blank, Bad, Version as Versioned, Declare, Proc, Do, If, While, Else, End}
+use Rattle.lvish_checks.specs.Checks.{Parts, IsAccepted, on_line, on_whole, has_procedure, is_nil, is_main, is_procedure, binds_until_procedure, locals_after, locals_at, version_of, is_line_in, is_out_of_place, stands_badly, declares_again, names_unknown, misfits, miscounts, mixes, command_misfits, command_mixes, is_misplaced, is_past_limit, is_full, open_after}
+use Rattle.lvish_checks.specs.declared.open_blocks.Opener.{Opener}
 use Rattle.lvish_checks.specs.declared.open_blocks.Opener.TheVariants.{Procedure as InProcedure}
 use Rattle.lvish_checks.specs.Text.{is_foreign}
 use Rattle.lvish_checks.specs.Form.{is_bad_number}
-use Rattle.lvish_script.specs.Spells.{body_lines, script_lines}
+use Rattle.lvish_script.specs.Spells.{version_lines, body_lines, script_lines}
 use Rattle.lvish_checks.specs.Spelling.{line_words}
 use Rattle.lvish_checks.proofs.Cuts.{left_fails, right_fails}
-use Rattle.lvish_script.proofs.Cleaned.{unknown_given, unknown_is}
+use Rattle.lvish_checks.proofs.Order.{accepted_by}
+use Rattle.lvish_script.proofs.Cleaned.{unknown_given, unknown_is, unknown_cleaned, declares_again_cleaned, misfits_cleaned, miscounts_cleaned, mixes_cleaned, is_past_limit_cleaned}
 use Rattle.lvish_script.proofs.Cleared.{locals_in}
 use Rattle.lvish_script.proofs.Bodies.{is_inner, inner}
 use Rattle.lvish_script.proofs.Levels.{opens_block, stays_shallow, open_append, balanced_body}
 use Rattle.lvish_script.proofs.Declaring.{heads, any_heads, declared, declared_heads, procedures_declared, main_declared, variables_counted, pools_counted, all_counted, none_open, not_true}
-use Rattle.lvish_script.proofs.Soundness.{is_line_sound, lines_to, locals_here, is_line_written}
+use Rattle.lvish_script.proofs.Soundness.{is_line_sound, lines_to, locals_here, is_line_written, lines_in}
 use Rattle.lvish_script.proofs.Outer.{all_lines}
 use Rattle.lvish_script.proofs.Places.{Held, placed, passes_cuts}
 use Rattle.lvish_script.proofs.Depths.{stands_well, well_body, well_at, shallow_lines, shallow_at, depth_room}
@@ -56,8 +61,9 @@ whole_fine b e (suc l) = refl
 
 -- ---- what no line in a body does
 
-inner_place : (b : List Line) (x : Line) → is_inner x ≡ true → stands_badly b x ≡ false
+inner_place : (b : List Line) (x : Line) → is_inner x ≡ true → is_out_of_place b x ≡ false
 inner_place b Bad e = absurd cc
+inner_place b Versioned e = absurd cc
 inner_place b (Declare d) e = absurd cc
 inner_place b x e = refl
 
@@ -73,11 +79,12 @@ inner_limit b (If t) e f = not_true _ f
 inner_limit b (While t) e f = not_true _ f
 inner_limit b Blank e f = refl
 inner_limit b Bad e f = refl
+inner_limit b Versioned e f = refl
 inner_limit b (Do c) e f = refl
 inner_limit b Else e f = refl
 inner_limit b End e f = refl
 
-module _ (ds : List Declaration) (ps : List Procedure) (sound : IsSound ds ps) where
+module _ (version : Version) (ds : List Declaration) (ps : List Procedure) (sound : IsSound version ds ps) where
   variable_at : (c : List Declaration) (d : Declaration) (e : List Declaration) → ds ≡ c ++ d ∷ e → variable_names ds ≡ variable_names c ++ (variable_name d ++ variable_names e)
   variable_at c d e w = ap variable_names w ∙ flat_map-append variable_name c (d ∷ e)
 
@@ -105,13 +112,23 @@ module _ (ds : List Declaration) (ps : List Procedure) (sound : IsSound ds ps) w
   by_line : (f : Line → Bool) → Held ds ps (λ b x a. f x ≡ false) → (l : ℕ) → on_line (λ k x. f x) (script_lines ds ps) l ≡ false
   by_line f held = passes_cuts (λ k x. f x) (script_lines ds ps) (λ b x a e. placed ds ps (λ b x a. f x ≡ false) held b x a e)
 
-  well_placed : (l : ℕ) → on_line (λ k x. stands_badly (take k (script_lines ds ps)) x) (script_lines ds ps) l ≡ false
-  well_placed = by_lines_above stands_badly (record {
-    at_head = λ c d e w a. any_heads is_procedure (λ d. refl) c;
-    at_proc = λ q r more w a. refl;
-    at_body = λ q r more w c x e k. inner_place (lines_to ds q r ++ c) x (inner_at r c x e k);
-    at_end = λ q r more w a. refl;
-  })
+  its_lines : list_all (is_line_in version) (script_lines ds ps) ≡ true
+  its_lines = lines_in version ds ps sound.declarations_versioned sound.procedures_versioned
+
+  -- below lines without a procedure
+  pub well_placed : (above : List Line) → list_any is_procedure above ≡ false → (l : ℕ) → on_line (λ k x. stands_badly version (above ++ take k (script_lines ds ps)) x) (script_lines ds ps) l ≡ false
+  well_placed above none = passes_cuts (λ k x. stands_badly version (above ++ take k (script_lines ds ps)) x) (script_lines ds ps) (λ b x a e.
+      or_from (is_out_of_place (above ++ take (length b) (script_lines ds ps)) x) _
+      (ap (λ t. is_out_of_place (above ++ t) x) (ap (take (length b)) e ∙ take-append_seam b (x ∷ a)) ∙ placed ds ps (λ b x a. is_out_of_place (above ++ b) x ≡ false) in_place b x a e)
+      (ap not (all_at_cut (is_line_in version) b x a (ap (list_all (is_line_in version)) (sym e) ∙ its_lines))))
+    where
+      in_place : Held ds ps (λ b x a. is_out_of_place (above ++ b) x ≡ false)
+      in_place = record {
+        at_head = λ c d e w a. list_any-append is_procedure above (heads c) ∙ or_from (list_any is_procedure above) _ none (any_heads is_procedure (λ d. refl) c);
+        at_proc = λ q r more w a. refl;
+        at_body = λ q r more w c x e k. inner_place (above ++ (lines_to ds q r ++ c)) x (inner_at r c x e k);
+        at_end = λ q r more w a. refl;
+      }
 
   fresh_head : (c : List Declaration) (d : Declaration) (e : List Declaration) → ds ≡ c ++ d ∷ e → declares_again (heads c) (Declare d) ≡ false
   fresh_head c (Variable n k) e w = ap (λ t. has_name n (variable_names t)) (declared_heads c) ∙ no_repeat_at (variable_names c) n (variable_names e) (ap has_repeat (sym (variable_at c (Variable n k) e w)) ∙ sound.variables_differ)
@@ -143,6 +160,7 @@ module _ (ds : List Declaration) (ps : List Procedure) (sound : IsSound ds ps) w
   known_line before locals End e f = refl
   known_line before locals Blank e f = refl
   known_line before locals Bad e f = refl
+  known_line before locals Versioned e f = refl
   known_line before locals (Declare d) e f = absurd cc
   known_line before locals (Proc n xs) e f = refl
 
@@ -168,6 +186,7 @@ module _ (ds : List Declaration) (ps : List Procedure) (sound : IsSound ds ps) w
   fit_line locals (Do c) f = ap (λ t. command_misfits t c) (declared ds ps) ∙ (command_passes ds ps sound.procedures_differ locals c f).kinds
   fit_line locals Blank f = refl
   fit_line locals Bad f = refl
+  fit_line locals Versioned f = refl
   fit_line locals (Declare d) f = refl
   fit_line locals (Proc n xs) f = refl
   fit_line locals (If t) f = refl
@@ -179,6 +198,7 @@ module _ (ds : List Declaration) (ps : List Procedure) (sound : IsSound ds ps) w
   count_line locals (Do c) f = (command_passes ds ps sound.procedures_differ locals c f).counts
   count_line locals Blank f = refl
   count_line locals Bad f = refl
+  count_line locals Versioned f = refl
   count_line locals (Declare d) f = refl
   count_line locals (Proc n xs) f = refl
   count_line locals (If t) f = refl
@@ -190,6 +210,7 @@ module _ (ds : List Declaration) (ps : List Procedure) (sound : IsSound ds ps) w
   apart_line locals (Do c) f = ap (λ t. command_mixes t c) (declared ds ps) ∙ (command_passes ds ps sound.procedures_differ locals c f).apart
   apart_line locals Blank f = refl
   apart_line locals Bad f = refl
+  apart_line locals Versioned f = refl
   apart_line locals (Declare d) f = refl
   apart_line locals (Proc n xs) f = refl
   apart_line locals (If t) f = refl
@@ -260,42 +281,65 @@ module _ (ds : List Declaration) (ps : List Procedure) (sound : IsSound ds ps) w
   main_there : list_any is_main (script_lines ds ps) ≡ true
   main_there = main_declared ds ps ∙ sound.main_stands
 
-  -- the parts of the text of these lines, where it isn't too long
-  abbrev pub parts : List ℕ → Parts
-  parts text = record { bytes = text; lines = map line_bytes (script_lines ds ps); words = map line_words (script_lines ds ps); said = script_lines ds ps }
+-- ---- the lines of a script below that of its version
 
-  pub accepted : (text : List ℕ) → nat_lt 65536 (length text) ≡ false → list_all is_line_written (script_lines ds ps) ≡ true → IsAccepted (parts text)
-  accepted text short w = (
-    whole_fine _ short,
-    (
-      none_on_line (λ line. list_any is_foreign line) (map line_bytes (script_lines ds ps)) (bytes_known (script_lines ds ps) w),
-      (
-        well_placed,
-        (
-          none_on_line (λ words. list_any is_bad_number words) (map line_words (script_lines ds ps)) (numbers_good (script_lines ds ps) w),
-          (
-            names_fresh,
-            (
-              names_known,
-              (
-                kinds_fit,
-                (
-                  counts_agree,
-                  (
-                    blocks_closed,
-                    (
-                      members_apart,
-                      (
-                        whole_fine _ (ap not main_there),
-                        (tables_small, tt),
-                      ),
-                    ),
-                  ),
-                ),
-              ),
-            ),
-          ),
-        ),
-      ),
-    ),
-  )
+on_option : (f g : Line → Bool) → ((x : Line) → f x ≡ g x) → (o : Option Line) → option_map_or f o false ≡ option_map_or g o false
+on_option f g h None = refl
+on_option f g h (Some x) = h x
+
+-- a test of lines that see one more above them
+one_below : (test below : ℕ → Line → Bool) (y : Line) (ls : List Line) → below 0 y ≡ false → ((k : ℕ) (x : Line) → below (suc k) x ≡ test k x) → ((l : ℕ) → on_line test ls l ≡ false) → (l : ℕ) → on_line below (y ∷ ls) l ≡ false
+one_below test below y ls here same h zero = refl
+one_below test below y ls here same h (suc zero) = here
+one_below test below y ls here same h (suc (suc k)) = on_option (below (suc k)) (test k) (same k) (slice_get ls k) ∙ h (suc k)
+
+unknown_below : (ls : List Line) (k : ℕ) (x : Line) → names_unknown (Versioned ∷ ls) (suc k) x ≡ names_unknown ls k x
+unknown_below ls k x =
+    unknown_is (Versioned ∷ ls) (suc k) x
+    ∙ unknown_cleaned (Versioned ∷ ls) (Versioned ∷ take k ls) (locals_at ls k) x
+    ∙ sym (unknown_cleaned ls (take k ls) (locals_at ls k) x)
+    ∙ sym (unknown_is ls k x)
+
+nothing_open : (a b : Bool) (os : List Opener) → os ≡ [] → (a && not (is_nil os)) ≡ (b && not (is_nil os))
+nothing_open a b os e = ap (λ t. a && not (is_nil t)) e ∙ and_false a ∙ sym (and_false b) ∙ sym (ap (λ t. b && not (is_nil t)) e)
+
+-- the lines of a script without one say version 1
+pub first_version : (ds : List Declaration) (ps : List Procedure) → version_of (script_lines ds ps) ≡ One
+first_version [] [] = refl
+first_version [] (r ∷ ps) = refl
+first_version (d ∷ ds) ps = refl
+
+-- ---- all checks
+
+-- the parts of the text of lines
+abbrev pub parts : List Line → List ℕ → Parts
+parts ls text = record { bytes = text; lines = map line_bytes ls; words = map line_words ls; said = ls }
+
+no_byte : (ls : List Line) → list_all is_line_written ls ≡ true → (l : ℕ) → on_line (λ k line. list_any is_foreign line) (map line_bytes ls) l ≡ false
+no_byte ls w = none_on_line (λ line. list_any is_foreign line) (map line_bytes ls) (bytes_known ls w)
+
+no_number : (ls : List Line) → list_all is_line_written ls ≡ true → (l : ℕ) → on_line (λ k words. list_any is_bad_number words) (map line_words ls) l ≡ false
+no_number ls w = none_on_line (λ words. list_any is_bad_number words) (map line_words ls) (numbers_good ls w)
+
+pub accepted : (version : Version) (ds : List Declaration) (ps : List Procedure) → IsSound version ds ps → (text : List ℕ) → nat_lt 65536 (length text) ≡ false → list_all is_line_written (version_lines version ++ script_lines ds ps) ≡ true → IsAccepted (parts (version_lines version ++ script_lines ds ps) text)
+accepted One ds ps sound text short w =
+    let ls = script_lines ds ps in
+    let placed : (l : ℕ) → on_line (λ k x. stands_badly (version_of ls) (take k ls) x) ls l ≡ false = subst (λ v. (l : ℕ) → on_line (λ k x. stands_badly v (take k ls) x) ls l ≡ false) (sym (first_version ds ps)) (well_placed One ds ps sound [] refl) in
+    accepted_by (parts ls text) (whole_fine _ short) (no_byte ls w) placed (no_number ls w)
+    (names_fresh One ds ps sound) (names_known One ds ps sound) (kinds_fit One ds ps sound) (counts_agree One ds ps sound) (blocks_closed One ds ps sound) (members_apart One ds ps sound)
+    (whole_fine _ (ap not (main_there One ds ps sound))) (tables_small One ds ps sound)
+accepted Two ds ps sound text short w =
+    let ls = script_lines ds ps in
+    let open_last : (suc zero == length (Versioned ∷ ls) && not (is_nil (open_after [] ls))) ≡ false = ap (λ os. suc zero == length (Versioned ∷ ls) && not (is_nil os)) (none_open ds ps) ∙ and_false _ in
+    accepted_by (parts (Versioned ∷ ls) text) (whole_fine _ short) (no_byte (Versioned ∷ ls) w)
+    (one_below _ _ Versioned ls refl (λ k x. refl) (well_placed Two ds ps sound (Versioned ∷ []) refl))
+    (no_number (Versioned ∷ ls) w)
+    (one_below _ _ Versioned ls refl (λ k x. declares_again_cleaned (Versioned ∷ take k ls) x ∙ sym (declares_again_cleaned (take k ls) x)) (names_fresh Two ds ps sound))
+    (one_below _ _ Versioned ls refl (unknown_below ls) (names_known Two ds ps sound))
+    (one_below _ _ Versioned ls refl (λ k x. misfits_cleaned (Versioned ∷ ls) x ∙ sym (misfits_cleaned ls x)) (kinds_fit Two ds ps sound))
+    (one_below _ _ Versioned ls refl (λ k x. miscounts_cleaned (Versioned ∷ ls) x ∙ sym (miscounts_cleaned ls x)) (counts_agree Two ds ps sound))
+    (one_below (λ k x. is_misplaced (open_after [] (take k ls)) x || (suc k == length ls && not (is_nil (open_after [] ls)))) _ Versioned ls open_last
+    (λ k x. ap (λ t. is_misplaced (open_after [] (take k ls)) x || t) (nothing_open (suc (suc k) == length (Versioned ∷ ls)) (suc k == length ls) (open_after [] ls) (none_open ds ps))) (blocks_closed Two ds ps sound))
+    (one_below _ _ Versioned ls refl (λ k x. mixes_cleaned (Versioned ∷ ls) x ∙ sym (mixes_cleaned ls x)) (members_apart Two ds ps sound))
+    (whole_fine _ (ap not (main_there Two ds ps sound)))
+    (one_below _ _ Versioned ls refl (λ k x. is_past_limit_cleaned (Versioned ∷ take k ls) x ∙ sym (is_past_limit_cleaned (take k ls) x)) (tables_small Two ds ps sound))

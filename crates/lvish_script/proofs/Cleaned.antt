@@ -1,4 +1,4 @@
--- Lines without the blank ones: the checks see the same.
+-- Lines without the blank ones and that of the version: the checks see the same.
 use Rattle.std.proofs.Common.{◌≡◌, ℕ, Bool, true, false, ◌||◌, ◌&&◌, not, List, [], ◌∷◌, ◌++◌, take, Option, Some, None, refl, sym, ap, ◌∙◌, arith, cond, ◌+◌}
 use Rattle.std.specs.Prelude.{filter, count_by, if◌then◌else◌}
 use Rattle.std.specs.Option.{option_map}
@@ -12,7 +12,7 @@ use Rattle.lvish_syntax.specs.declared.declaration.Declaration.TheVariants.{Vari
 use Rattle.lvish_syntax.specs.declared.command.Command.{Command}
 use Rattle.lvish_syntax.specs.declared.command.Command.TheVariants.{Let, Put, PutAt, Get, GetAt, Fork, Call, Handle, Freeze, FreezeEach}
 use Rattle.lvish_checks.specs.declared.line.Line.{Line}
-use Rattle.lvish_checks.specs.declared.line.Line.TheVariants.{Blank, Bad, Declare, Proc, Do, If, While, Else, End}
+use Rattle.lvish_checks.specs.declared.line.Line.TheVariants.{Blank, Bad, Version, Declare, Proc, Do, If, While, Else, End}
 use Rattle.lvish_checks.specs.Checks.{declarations, has_variable, has_pool, has_procedure, is_variable, is_pool, is_procedure, declares_procedure, declares_again, is_past_limit, binds, binds_until_procedure, locals_step, locals_after, locals_at, open_step, open_after, is_full, parameters_of, miscounts, command_miscounts, command_unknown, names_unknown, misfits, mixes, command_misfits, command_mixes}
 use Rattle.lvish_checks.specs.declared.open_blocks.Opener.{Opener}
 use Rattle.lvish_checks.specs.declared.open_blocks.Opener.TheVariants.{Procedure as InProcedure, If as InIf, Else as InElse, While as InWhile}
@@ -20,18 +20,20 @@ use Rattle.lvish_script.specs.Spells.{says_something}
 
 -- ---- what a check counts and looks up
 
-pub any_cleaned : (p : Line → Bool) → p Blank ≡ false → (ls : List Line) → list_any p ls ≡ list_any p (filter says_something ls)
-any_cleaned p none [] = refl
-any_cleaned p none (Blank ∷ ls) = rw none (any_cleaned p none ls)
-any_cleaned p none (l ∷ ls) = ap (λ b. p l || b) (any_cleaned p none ls)
+pub any_cleaned : (p : Line → Bool) → p Blank ≡ false → p Version ≡ false → (ls : List Line) → list_any p ls ≡ list_any p (filter says_something ls)
+any_cleaned p none same [] = refl
+any_cleaned p none same (Blank ∷ ls) = rw none (any_cleaned p none same ls)
+any_cleaned p none same (Version ∷ ls) = rw same (any_cleaned p none same ls)
+any_cleaned p none same (l ∷ ls) = ap (λ b. p l || b) (any_cleaned p none same ls)
+
+pub second_holds : (a b : Bool) → (a && b) ≡ true → b ≡ true
+second_holds true b e = e
+second_holds false b e = absurd cc
 
 pub all_cleaned : (p : Line → Bool) (ls : List Line) → list_all p ls ≡ true → list_all p (filter says_something ls) ≡ true
 all_cleaned p [] e = refl
-all_cleaned p (Blank ∷ ls) e = all_cleaned p ls (second (p Blank) _ e)
-  where
-    second : (a b : Bool) → (a && b) ≡ true → b ≡ true
-    second true b e = e
-    second false b e = absurd cc
+all_cleaned p (Blank ∷ ls) e = all_cleaned p ls (second_holds (p Blank) _ e)
+all_cleaned p (Version ∷ ls) e = all_cleaned p ls (second_holds (p Version) _ e)
 all_cleaned p (l ∷ ls) e = both (p l) _ e (all_cleaned p ls)
   where
     both : (a b : Bool) {c : Bool} → (a && b) ≡ true → (b ≡ true → c ≡ true) → (a && c) ≡ true
@@ -41,18 +43,22 @@ all_cleaned p (l ∷ ls) e = both (p l) _ e (all_cleaned p ls)
 pub count_cons : {X : Type 0} (p : X → Bool) (x : X) (xs : List X) → count_by p (x ∷ xs) ≡ cond (p x) 1 0 + count_by p xs
 count_cons p x xs = sum_by-cons (λ y. cond (p y) 1 0) x xs
 
-pub count_cleaned : (p : Line → Bool) → p Blank ≡ false → (ls : List Line) → count_by p ls ≡ count_by p (filter says_something ls)
-count_cleaned p none [] = refl
-count_cleaned p none (Blank ∷ ls) =
-    let here : ◌≡◌ {A = ℕ} (cond (p Blank) 1 0) 0 = rw none refl in
-    let one = count_cons p Blank ls in
-    let all = count_cleaned p none ls in
-    omega (arith, one, here, all)
-count_cleaned p none (l ∷ ls) = count_cons p l ls ∙ ap (λ n. cond (p l) 1 0 + n) (count_cleaned p none ls) ∙ sym (count_cons p l (filter says_something ls))
+not_counted : (p : Line → Bool) (l : Line) (ls : List Line) → p l ≡ false → count_by p (l ∷ ls) ≡ count_by p ls
+not_counted p l ls none =
+    let here : ◌≡◌ {A = ℕ} (cond (p l) 1 0) 0 = rw none refl in
+    let one = count_cons p l ls in
+    omega (arith, one, here)
+
+pub count_cleaned : (p : Line → Bool) → p Blank ≡ false → p Version ≡ false → (ls : List Line) → count_by p ls ≡ count_by p (filter says_something ls)
+count_cleaned p none same [] = refl
+count_cleaned p none same (Blank ∷ ls) = not_counted p Blank ls none ∙ count_cleaned p none same ls
+count_cleaned p none same (Version ∷ ls) = not_counted p Version ls same ∙ count_cleaned p none same ls
+count_cleaned p none same (l ∷ ls) = count_cons p l ls ∙ ap (λ n. cond (p l) 1 0 + n) (count_cleaned p none same ls) ∙ sym (count_cons p l (filter says_something ls))
 
 pub declarations_cleaned : (ls : List Line) → declarations ls ≡ declarations (filter says_something ls)
 declarations_cleaned [] = refl
 declarations_cleaned (Blank ∷ ls) = declarations_cleaned ls
+declarations_cleaned (Version ∷ ls) = declarations_cleaned ls
 declarations_cleaned (Declare d ∷ ls) = ap (λ t. d ∷ t) (declarations_cleaned ls)
 declarations_cleaned (l ∷ ls) = declarations_cleaned ls
 
@@ -63,30 +69,41 @@ nothing_bound (Some xs) = ap Some (append-nil xs)
 pub locals_after_cleaned : (found : Option (List Word)) (ls : List Line) → locals_after found ls ≡ locals_after found (filter says_something ls)
 locals_after_cleaned found [] = refl
 locals_after_cleaned found (Blank ∷ ls) = ap (λ f. locals_after f ls) (nothing_bound found) ∙ locals_after_cleaned found ls
+locals_after_cleaned found (Version ∷ ls) = ap (λ f. locals_after f ls) (nothing_bound found) ∙ locals_after_cleaned found ls
 locals_after_cleaned found (l ∷ ls) = locals_after_cleaned (locals_step found l) ls
 
 pub binds_until_cleaned : (ls : List Line) → binds_until_procedure ls ≡ binds_until_procedure (filter says_something ls)
 binds_until_cleaned [] = refl
 binds_until_cleaned (Blank ∷ ls) = binds_until_cleaned ls
+binds_until_cleaned (Version ∷ ls) = binds_until_cleaned ls
 binds_until_cleaned (Proc n xs ∷ ls) = refl
 binds_until_cleaned (l ∷ ls) = ap (λ t. binds l ++ t) (binds_until_cleaned ls)
 
 pub parameters_of_cleaned : (p : Word) (ls : List Line) → parameters_of p ls ≡ parameters_of p (filter says_something ls)
 parameters_of_cleaned p [] = refl
 parameters_of_cleaned p (Blank ∷ ls) = parameters_of_cleaned p ls
+parameters_of_cleaned p (Version ∷ ls) = parameters_of_cleaned p ls
 parameters_of_cleaned p (Proc n xs ∷ ls) = ap (λ (o : Option (List Word)). if bytes_eq n p then Some xs else o) (parameters_of_cleaned p ls)
 parameters_of_cleaned p (l ∷ ls) = parameters_of_cleaned p ls
 
-blank_step : (opened : List Opener) → open_step opened Blank ≡ opened
+pub blank_step : (opened : List Opener) → open_step opened Blank ≡ opened
 blank_step [] = refl
 blank_step (InProcedure ∷ os) = refl
 blank_step (InIf ∷ os) = refl
 blank_step (InElse ∷ os) = refl
 blank_step (InWhile ∷ os) = refl
 
+pub version_step : (opened : List Opener) → open_step opened Version ≡ opened
+version_step [] = refl
+version_step (InProcedure ∷ os) = refl
+version_step (InIf ∷ os) = refl
+version_step (InElse ∷ os) = refl
+version_step (InWhile ∷ os) = refl
+
 pub open_after_cleaned : (opened : List Opener) (ls : List Line) → open_after opened ls ≡ open_after opened (filter says_something ls)
 open_after_cleaned opened [] = refl
 open_after_cleaned opened (Blank ∷ ls) = ap (λ os. open_after os ls) (blank_step opened) ∙ open_after_cleaned opened ls
+open_after_cleaned opened (Version ∷ ls) = ap (λ os. open_after os ls) (version_step opened) ∙ open_after_cleaned opened ls
 open_after_cleaned opened (l ∷ ls) = open_after_cleaned (open_step opened l) ls
 
 variables_cleaned : (v : Word) (ls : List Line) → has_variable v ls ≡ has_variable v (filter says_something ls)
@@ -96,7 +113,7 @@ pools_cleaned : (p : Word) (ls : List Line) → has_pool p ls ≡ has_pool p (fi
 pools_cleaned p ls = rw (declarations_cleaned ls) refl
 
 procedures_cleaned : (n : Word) (ls : List Line) → has_procedure n ls ≡ has_procedure n (filter says_something ls)
-procedures_cleaned n ls = any_cleaned (declares_procedure n) refl ls
+procedures_cleaned n ls = any_cleaned (declares_procedure n) refl refl ls
 
 all_pools_cleaned : (ls : List Line) (ps : List Word) → list_all (λ p. has_pool p ls) ps ≡ list_all (λ p. has_pool p (filter says_something ls)) ps
 all_pools_cleaned ls [] = refl
@@ -111,9 +128,9 @@ declares_again_cleaned ls (Proc n xs) = ap (λ b. b || has_repeat xs) (procedure
 declares_again_cleaned ls x = refl
 
 pub is_past_limit_cleaned : (ls : List Line) (x : Line) → is_past_limit ls x ≡ is_past_limit (filter says_something ls) x
-is_past_limit_cleaned ls (Declare (Variable n k)) = rw (count_cleaned is_variable refl ls) refl
-is_past_limit_cleaned ls (Declare (Pool p v)) = rw (count_cleaned is_pool refl ls) refl
-is_past_limit_cleaned ls (Proc n xs) = rw (count_cleaned is_procedure refl ls) refl
+is_past_limit_cleaned ls (Declare (Variable n k)) = rw (count_cleaned is_variable refl refl ls) refl
+is_past_limit_cleaned ls (Declare (Pool p v)) = rw (count_cleaned is_pool refl refl ls) refl
+is_past_limit_cleaned ls (Proc n xs) = rw (count_cleaned is_procedure refl refl ls) refl
 is_past_limit_cleaned ls (If t) = ap is_full (open_after_cleaned [] ls)
 is_past_limit_cleaned ls (While t) = ap is_full (open_after_cleaned [] ls)
 is_past_limit_cleaned ls x = refl
@@ -162,6 +179,7 @@ unknown_is lines k (Declare (Variable n s)) = refl
 unknown_is lines k (Declare (Pool p v)) = refl
 unknown_is lines k Blank = refl
 unknown_is lines k Bad = refl
+unknown_is lines k Version = refl
 unknown_is lines k (Proc n xs) = refl
 unknown_is lines k (Do c) = refl
 unknown_is lines k (If t) = refl

@@ -18,7 +18,7 @@ use Rattle.lvish_syntax.specs.declared.declaration.Declaration.{Declaration}
 use Rattle.lvish_syntax.specs.declared.declaration.Declaration.TheVariants.{Variable, Pool}
 use Rattle.lvish_syntax.specs.declared.procedure.Procedure.{Procedure}
 use Rattle.lvish_checks.specs.declared.line.Line.{Line}
-use Rattle.lvish_checks.specs.declared.line.Line.TheVariants.{Blank, Bad, Declare, Proc, End}
+use Rattle.lvish_checks.specs.declared.line.Line.TheVariants.{Blank, Bad, Version, Declare, Proc, End}
 use Rattle.lvish_checks.specs.Checks.{declared_by, declarations, has_procedure, is_nil, is_main, is_variable, is_pool, is_procedure, declares_procedure, declares_again, is_past_limit, parameters_of, open_after}
 use Rattle.lvish_checks.specs.declared.open_blocks.Opener.TheVariants.{Procedure as InProcedure}
 use Rattle.lvish_script.specs.Spells.{body_lines, procedure_lines, script_lines}
@@ -45,6 +45,7 @@ none_declared : (ls : List Line) → list_all is_inner ls ≡ true → declarati
 none_declared [] e = refl
 none_declared (Blank ∷ ls) e = absurd cc
 none_declared (Bad ∷ ls) e = absurd cc
+none_declared (Version ∷ ls) e = absurd cc
 none_declared (Declare d ∷ ls) e = absurd cc
 none_declared (Proc n xs ∷ ls) e = absurd cc
 none_declared (l ∷ ls) e = none_declared ls e

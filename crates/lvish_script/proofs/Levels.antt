@@ -119,6 +119,7 @@ limit_here before (line.If t) e = ap not e
 limit_here before (line.While t) e = ap not e
 limit_here before line.Blank e = refl
 limit_here before line.Bad e = refl
+limit_here before line.Version e = refl
 limit_here before (line.Declare d) e = refl
 limit_here before (line.Proc n xs) e = refl
 limit_here before (line.Do c) e = refl

@@ -8,15 +8,16 @@ use Rattle.std.proofs.lemmas.List.Elements.{filter-append}
 use Rattle.std.proofs.lemmas.List.Folds.{list_any-append}
 use Rattle.lvish_syntax.specs.declared.procedure.Procedure.{Procedure}
 use Rattle.lvish_checks.specs.declared.line.Line.{Line}
-use Rattle.lvish_checks.specs.declared.line.Line.TheVariants.{Blank, Bad, Declare, Proc, Do, If, While, Else, End}
+use Rattle.lvish_checks.specs.declared.line.Line.TheVariants.{Blank, Bad, Version, Declare, Proc, Do, If, While, Else, End}
 use Rattle.lvish_checks.specs.declared.fault.Fault.TheVariants.{BadLine, OpenBlock}
 use Rattle.lvish_script.specs.declared.nest.OpenProcedure.{OpenProcedure}
-use Rattle.lvish_checks.specs.Checks.{on_line, line_fails, open_after, open_step, is_nil, is_procedure, is_misplaced, stands_badly}
+use Rattle.lvish_checks.specs.Checks.{on_line, line_fails, open_after, open_step, is_nil, is_procedure, is_misplaced, is_out_of_place}
 use Rattle.lvish_checks.specs.declared.open_blocks.Opener.{Opener}
-use Rattle.lvish_checks.specs.declared.open_blocks.Opener.TheVariants.{Procedure as InProcedure, If as InIf, Else as InElse, While as InWhile}
+use Rattle.lvish_checks.specs.declared.open_blocks.Opener.TheVariants.{Procedure as InProcedure}
 use Rattle.lvish_script.specs.Spells.{says_something}
 use Rattle.lvish_script.specs.Nested.{Fits, HasNone, opener, openers, what_is_said}
 use Rattle.lvish_checks.proofs.Lines.{open_after-more}
+use Rattle.lvish_script.proofs.Cleaned.{blank_step, version_step}
 
 or_left : (a b : Bool) → (a || b) ≡ false → a ≡ false
 or_left true b e = e
@@ -43,6 +44,7 @@ and_right false b e h = absurd cc
 one_said : (x : Line) → filter says_something (x ∷ []) ≡ what_is_said x
 one_said Blank = refl
 one_said Bad = refl
+one_said Version = refl
 one_said (Declare d) = refl
 one_said (Proc n xs) = refl
 one_said (Do c) = refl
@@ -51,9 +53,10 @@ one_said (While t) = refl
 one_said Else = refl
 one_said End = refl
 
-fits_at : (before : List Line) (ps : List Procedure) (o : Option OpenProcedure) (line : Line) → (list_any is_procedure before ≡ false → HasNone ps o) → stands_badly before line ≡ false → is_misplaced (openers o) line ≡ false → Fits ps o line
+fits_at : (before : List Line) (ps : List Procedure) (o : Option OpenProcedure) (line : Line) → (list_any is_procedure before ≡ false → HasNone ps o) → is_out_of_place before line ≡ false → is_misplaced (openers o) line ≡ false → Fits ps o line
 fits_at before ps o Blank none bad mis = mis
 fits_at before ps o Bad none bad mis = absurd cc
+fits_at before ps o Version none bad mis = mis
 fits_at before ps o (Declare d) none bad mis = none bad
 fits_at before ps o (Proc n xs) none bad mis = mis
 fits_at before ps o (Do c) none bad mis = mis
@@ -62,9 +65,10 @@ fits_at before ps o (While t) none bad mis = mis
 fits_at before ps o Else none bad mis = mis
 fits_at before ps o End none bad mis = mis
 
--- a line that says nothing
-silent : (x : Line) → says_something x ≡ false → x ≡ Blank
+-- a line that says nothing beside the version
+silent : (x : Line) → says_something x ≡ false → what_is_said x ≡ []
 silent Blank e = refl
+silent Version e = refl
 silent Bad e = absurd cc
 silent (Declare d) e = absurd cc
 silent (Proc n xs) e = absurd cc
@@ -74,12 +78,17 @@ silent (While t) e = absurd cc
 silent Else e = absurd cc
 silent End e = absurd cc
 
-blank_opens : (os : List Opener) → open_step os Blank ≡ os
-blank_opens [] = refl
-blank_opens (InProcedure ∷ os) = refl
-blank_opens (InIf ∷ os) = refl
-blank_opens (InElse ∷ os) = refl
-blank_opens (InWhile ∷ os) = refl
+silent_opens : (os : List Opener) (x : Line) → says_something x ≡ false → open_step os x ≡ os
+silent_opens os Blank e = blank_step os
+silent_opens os Version e = version_step os
+silent_opens os Bad e = absurd cc
+silent_opens os (Declare d) e = absurd cc
+silent_opens os (Proc n xs) e = absurd cc
+silent_opens os (Do c) e = absurd cc
+silent_opens os (If t) e = absurd cc
+silent_opens os (While t) e = absurd cc
+silent_opens os Else e = absurd cc
+silent_opens os End e = absurd cc
 
 -- nothing is open, where no opener is
 nil_openers : (o : Option OpenProcedure) → is_nil (openers o) ≡ true → o ≡ None
@@ -97,7 +106,7 @@ not_true false e = absurd cc
 module _ (said : List Line) (placed : (l : ℕ) → on_line (line_fails BadLine said) said l ≡ false) (closed : (l : ℕ) → on_line (line_fails OpenBlock said) said l ≡ false) where
   pub fits : (i : ℕ) (x : Line) (ps : List Procedure) (o : Option OpenProcedure) → i < length said → x ≡ get_or said i x → openers o ≡ open_after [] (take i said) → (list_any is_procedure (take i said) ≡ false → HasNone ps o) → Fits ps o x
   fits i x ps o lt e opened none =
-      let bad : stands_badly (take i said) x ≡ false = sym (at_item (line_fails BadLine said i) said i x lt e) ∙ placed (suc i) in
+      let bad : is_out_of_place (take i said) x ≡ false = or_left _ _ (sym (at_item (line_fails BadLine said i) said i x lt e) ∙ placed (suc i)) in
       let mis = or_left _ _ (sym (at_item (line_fails OpenBlock said i) said i x lt e) ∙ closed (suc i)) in
       fits_at (take i said) ps o x none bad (subst (λ s. is_misplaced s x ≡ false) (sym opened) mis)
 
@@ -110,10 +119,10 @@ module _ (said : List Line) (placed : (l : ℕ) → on_line (line_fails BadLine 
       (or_left _ _ g, or_left _ _ (or_right _ _ g))
 
   pub says_no_more : (i : ℕ) (x : Line) → i < length said → x ≡ get_or said i x → says_something x ≡ false → filter says_something (take (i + 1) said) ≡ filter says_something (take i said)
-  says_no_more i x lt e nothing = says_more i x lt e ∙ ap (λ (y : Line). filter says_something (take i said) ++ what_is_said y) (silent x nothing) ∙ append-nil (filter says_something (take i said))
+  says_no_more i x lt e nothing = says_more i x lt e ∙ ap (λ t. filter says_something (take i said) ++ t) (silent x nothing) ∙ append-nil (filter says_something (take i said))
 
   pub opens_no_more : (i : ℕ) (x : Line) → i < length said → x ≡ get_or said i x → says_something x ≡ false → open_after [] (take (i + 1) said) ≡ open_after [] (take i said)
-  opens_no_more i x lt e nothing = open_after-more said i x lt e ∙ ap (open_step (open_after [] (take i said))) (silent x nothing) ∙ blank_opens (open_after [] (take i said))
+  opens_no_more i x lt e nothing = open_after-more said i x lt e ∙ silent_opens (open_after [] (take i said)) x nothing
 
   pub closes : (d : Line) (o : Option OpenProcedure) → openers o ≡ open_after [] said → 0 < length said → o ≡ None
   closes d o e pos =

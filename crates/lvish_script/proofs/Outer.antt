@@ -1,10 +1,8 @@
--- What holds of the statements of a sound script holds of its lines.
+-- What holds of the parts of a script holds of its lines, and the other way round.
 use Rattle.std.proofs.lemmas.Bool.{and_from}
 use Rattle.std.proofs.Common.{◌≡◌, Bool, true, ◌&&◌, List, [], ◌∷◌, ◌++◌, refl, sym, ap, ◌∙◌}
 use Rattle.std.specs.List.{list_all, flat_map}
-use Rattle.lvish_syntax.specs.Words.{is_name}
 use Rattle.lvish_syntax.specs.Nested.{statements, nested, row_nested, all_nested}
-use Rattle.lvish_syntax.specs.Written.{is_declaration_written, is_own_written, is_procedure_written}
 use Rattle.lvish_syntax.specs.declared.declaration.Declaration.{Declaration}
 use Rattle.lvish_syntax.specs.declared.procedure.Procedure.{Procedure}
 use Rattle.lvish_syntax.specs.declared.statement.Block.{Block}
@@ -14,9 +12,8 @@ use Rattle.lvish_syntax.specs.declared.statement.Statement.TheViews.{out-Stateme
 use Rattle.lvish_checks.specs.declared.line.Line.{Line}
 use Rattle.lvish_checks.specs.declared.line.Line.TheVariants as line
 use Rattle.lvish_script.specs.Spells.{statement_lines, row_lines, body_lines, procedure_lines, script_lines}
-use Rattle.lvish_script.proofs.Bodies.{own_line, first_holds, second_holds, front_all, back_all, join_all}
+use Rattle.lvish_script.proofs.Bodies.{own_line, first_holds, second_holds, front_all, back_all, join_all, all_statements}
 use Rattle.lvish_script.proofs.Declaring.{heads}
-use Rattle.lvish_script.proofs.Soundness.{is_line_written}
 
 -- a test of lines that follows from one of statements
 pub record Comes (p : Line → Bool) (q : Statement → Bool) : Type 0 where
@@ -51,25 +48,58 @@ pub all_lines : (p : Line → Bool) (q : Statement → Bool) → Comes p q → (
 all_lines p q h [] e = refl
 all_lines p q h (s ∷ ss) e = join_all p (statement_lines s) (body_lines ss) (all_out p q h s (front_all q (nested s) (all_nested ss) e)) (all_lines p q h ss (back_all q (nested s) (all_nested ss) e))
 
-own_line_written : (u : o.Statement-F Statement Block) → is_own_written u ≡ true → is_line_written (own_line u) ≡ true
-own_line_written (o.Do c) e = e
-own_line_written (o.If t a) e = e
-own_line_written (o.IfElse t a b) e = e
-own_line_written (o.While t a) e = e
+-- ---- a test of all lines of a script, by its declarations and procedures
 
-heads_are_written : (ds : List Declaration) → list_all is_declaration_written ds ≡ true → list_all is_line_written (heads ds) ≡ true
-heads_are_written [] e = refl
-heads_are_written (d ∷ ds) e = and_from (is_declaration_written d) _ (first_holds (is_declaration_written d) _ e) (heads_are_written ds (second_holds (is_declaration_written d) _ e))
+-- the test of a procedure: of its first line, and of its statements
+abbrev pub of_procedure : (Procedure → Bool) → (o.Statement-F Statement Block → Bool) → Procedure → Bool
+of_procedure top own r = top r && list_all (λ s. own (out-Statement s)) (all_nested (statements r.body))
 
-procedure_is_written : (r : Procedure) → is_procedure_written r ≡ true → list_all is_line_written (procedure_lines r) ≡ true
-procedure_is_written r e =
-    and_from (is_name r.name && list_all is_name r.parameters) _ (first_holds (is_name r.name && list_all is_name r.parameters) _ e)
-    (closed_all is_line_written refl (body_lines (statements r.body)) (all_lines is_line_written (λ s. is_own_written (out-Statement s)) (record { own = λ s. own_line_written (out-Statement s); else = refl; end = refl }) (statements r.body) (second_holds (is_name r.name && list_all is_name r.parameters) _ e)))
+pub record ByParts (p : Line → Bool) (head : Declaration → Bool) (top : Procedure → Bool) (own : o.Statement-F Statement Block → Bool) : Type 0 where
+  pub at_head : (d : Declaration) → p (line.Declare d) ≡ head d
+  pub at_top : (r : Procedure) → p (line.Proc r.name r.parameters) ≡ top r
+  pub at_own : (u : o.Statement-F Statement Block) → p (own_line u) ≡ own u
+  pub at_else : p line.Else ≡ true
+  pub at_end : p line.End ≡ true
 
-procedures_are_written : (ps : List Procedure) → list_all is_procedure_written ps ≡ true → list_all is_line_written (flat_map procedure_lines ps) ≡ true
-procedures_are_written [] e = refl
-procedures_are_written (r ∷ ps) e = join_all is_line_written (procedure_lines r) (flat_map procedure_lines ps) (procedure_is_written r (first_holds (is_procedure_written r) _ e)) (procedures_are_written ps (second_holds (is_procedure_written r) _ e))
+module _ (p : Line → Bool) (head : Declaration → Bool) (top : Procedure → Bool) (own : o.Statement-F Statement Block → Bool) (by : ByParts p head top own) where
+  heads_out : (ds : List Declaration) → list_all head ds ≡ true → list_all p (heads ds) ≡ true
+  heads_out [] e = refl
+  heads_out (d ∷ ds) e = and_from (p (line.Declare d)) _ (by.at_head d ∙ first_holds (head d) _ e) (heads_out ds (second_holds (head d) _ e))
 
--- the lines of a script can be written
-pub lines_written : (ds : List Declaration) (ps : List Procedure) → list_all is_declaration_written ds ≡ true → list_all is_procedure_written ps ≡ true → list_all is_line_written (script_lines ds ps) ≡ true
-lines_written ds ps e f = join_all is_line_written (heads ds) (flat_map procedure_lines ps) (heads_are_written ds e) (procedures_are_written ps f)
+  heads_in : (ds : List Declaration) → list_all p (heads ds) ≡ true → list_all head ds ≡ true
+  heads_in [] e = refl
+  heads_in (d ∷ ds) e = and_from (head d) _ (sym (by.at_head d) ∙ first_holds (p (line.Declare d)) _ e) (heads_in ds (second_holds (p (line.Declare d)) _ e))
+
+  body_out : (ss : List Statement) → list_all (λ s. own (out-Statement s)) (all_nested ss) ≡ true → list_all p (body_lines ss) ≡ true
+  body_out ss e = all_lines p (λ s. own (out-Statement s)) (record { own = λ s f. by.at_own (out-Statement s) ∙ f; else = by.at_else; end = by.at_end }) ss e
+
+  body_in : (ss : List Statement) → list_all p (body_lines ss) ≡ true → list_all (λ s. own (out-Statement s)) (all_nested ss) ≡ true
+  body_in ss e = all_statements p (λ s. own (out-Statement s)) (λ s f. sym (by.at_own (out-Statement s)) ∙ f) ss e
+
+  procedure_out : (r : Procedure) → of_procedure top own r ≡ true → list_all p (procedure_lines r) ≡ true
+  procedure_out r e =
+      and_from (p (line.Proc r.name r.parameters)) _ (by.at_top r ∙ first_holds (top r) _ e)
+      (closed_all p by.at_end (body_lines (statements r.body)) (body_out (statements r.body) (second_holds (top r) _ e)))
+
+  procedure_in : (r : Procedure) → list_all p (procedure_lines r) ≡ true → of_procedure top own r ≡ true
+  procedure_in r e =
+      and_from (top r) _ (sym (by.at_top r) ∙ first_holds (p (line.Proc r.name r.parameters)) _ e)
+      (body_in (statements r.body) (front_all p (body_lines (statements r.body)) (line.End ∷ []) (second_holds (p (line.Proc r.name r.parameters)) _ e)))
+
+  procedures_out : (ps : List Procedure) → list_all (of_procedure top own) ps ≡ true → list_all p (flat_map procedure_lines ps) ≡ true
+  procedures_out [] e = refl
+  procedures_out (r ∷ ps) e = join_all p (procedure_lines r) (flat_map procedure_lines ps) (procedure_out r (first_holds (of_procedure top own r) _ e)) (procedures_out ps (second_holds (of_procedure top own r) _ e))
+
+  procedures_in : (ps : List Procedure) → list_all p (flat_map procedure_lines ps) ≡ true → list_all (of_procedure top own) ps ≡ true
+  procedures_in [] e = refl
+  procedures_in (r ∷ ps) e =
+      and_from (of_procedure top own r) _ (procedure_in r (front_all p (procedure_lines r) (flat_map procedure_lines ps) e)) (procedures_in ps (back_all p (procedure_lines r) (flat_map procedure_lines ps) e))
+
+  pub all_out_of_parts : (ds : List Declaration) (ps : List Procedure) → list_all head ds ≡ true → list_all (of_procedure top own) ps ≡ true → list_all p (script_lines ds ps) ≡ true
+  all_out_of_parts ds ps e f = join_all p (heads ds) (flat_map procedure_lines ps) (heads_out ds e) (procedures_out ps f)
+
+  pub heads_of_lines : (ds : List Declaration) (ps : List Procedure) → list_all p (script_lines ds ps) ≡ true → list_all head ds ≡ true
+  heads_of_lines ds ps e = heads_in ds (front_all p (heads ds) (flat_map procedure_lines ps) e)
+
+  pub procedures_of_lines : (ds : List Declaration) (ps : List Procedure) → list_all p (script_lines ds ps) ≡ true → list_all (of_procedure top own) ps ≡ true
+  procedures_of_lines ds ps e = procedures_in ps (back_all p (heads ds) (flat_map procedure_lines ps) e)

@@ -11,8 +11,7 @@ use Rattle.std.proofs.lemmas.Slice.Eq.{bytes_eq-Decides}
 use Rattle.lvish_syntax.specs.Words.{Word}
 use Rattle.lvish_syntax.specs.Name.{has_name, has_repeat, is_known}
 use Rattle.lvish_syntax.specs.Nested.{statements}
-use Rattle.lvish_syntax.specs.Sound.{variable_names, pool_names, kind_of, kind_there, variable_of, procedure_names, takes, follow_variables, is_pool_known, is_pool_of, is_of_kind, is_apart, is_put_sound, is_get_sound, is_command_sound, is_own_sound}
-use Rattle.lvish_syntax.specs.declared.kind.SimpleKind.{SimpleKind}
+use Rattle.lvish_syntax.specs.Sound.{variable_names, pool_names, kind_of, kind_there, variable_of, procedure_names, takes, follow_variables, is_pool_known, is_pool_of, is_put_sound, is_get_of_kind, is_get_sound, is_command_sound, is_own_sound}
 use Rattle.lvish_syntax.specs.declared.term.Term.{Term}
 use Rattle.lvish_syntax.specs.declared.threshold.Threshold.{Threshold}
 use Rattle.lvish_syntax.specs.declared.declaration.Declaration.{Declaration}
@@ -98,16 +97,8 @@ module _ (ds : List Declaration) (ps : List Procedure) (differ : has_repeat (pro
   there_passes : (v : Word) (at : Option Term) → is_some (kind_there ds v at) ≡ true → not (has_variable v (script_lines ds ps)) ≡ false
   there_passes v at e = kind_passes v (some_there (kind_of v ds) _ e)
 
-  get_there : (v : Word) (at : Option Term) (r : Threshold) → is_get_sound ds v at r ≡ true → is_some (kind_there ds v at) ≡ true
-  get_there v at r e = test_there (kind_there ds v at) _ e
-
-  get_kind : (m : Option SimpleKind) (r : Threshold) → option_map_or (λ k. is_of_kind k r && is_apart k r) m false ≡ true → option_map_or (λ k. is_of_kind k r) m false ≡ true
-  get_kind None r e = e
-  get_kind (Some k) r e = first_holds (is_of_kind k r) _ e
-
-  get_apart : (m : Option SimpleKind) (r : Threshold) → option_map_or (λ k. is_of_kind k r && is_apart k r) m false ≡ true → option_map_or (λ k. is_apart k r) m true ≡ true
-  get_apart None r e = refl
-  get_apart (Some k) r e = second_holds (is_of_kind k r) _ e
+  get_passes : (v : Word) (at : Option Term) (r : Threshold) → is_get_sound ds v at r ≡ true → not (has_variable v (script_lines ds ps)) ≡ false
+  get_passes v at r e = kind_passes v (test_there (kind_of v ds) _ (first_holds (is_get_of_kind ds v at r) _ e))
 
   procedure_passes : (n : Word) (k : ℕ) → list_any (takes n k) ps ≡ true → not (has_procedure n (script_lines ds ps)) ≡ false
   procedure_passes n k e = ap not (procedures_declared n ds ps ∙ taken_named n k ps e)
@@ -148,20 +139,20 @@ module _ (ds : List Declaration) (ps : List Procedure) (differ : has_repeat (pro
       let two = first_holds (has_name x locals && is_get_sound ds v None r) _ e in
       let get = second_holds (has_name x locals) _ two in
       record {
-        unknown = or_from (not (has_variable v (script_lines ds ps))) _ (there_passes v None (get_there v None r get)) (ap not (second_holds (has_name x locals && is_get_sound ds v None r) _ e));
-        kinds = ap not (get_kind (kind_there ds v None) r get);
+        unknown = or_from (not (has_variable v (script_lines ds ps))) _ (get_passes v None r get) (ap not (second_holds (has_name x locals && is_get_sound ds v None r) _ e));
+        kinds = ap not (first_holds (is_get_of_kind ds v None r) _ get);
         counts = refl;
-        apart = ap not (get_apart (kind_there ds v None) r get);
+        apart = ap not (second_holds (is_get_of_kind ds v None r) _ get);
       }
   command_passes locals (GetAt x v k r) e =
       let three = first_holds (has_name x locals && is_get_sound ds v (Some k) r && is_known locals k) _ e in
       let two = first_holds (has_name x locals && is_get_sound ds v (Some k) r) _ three in
       let get = second_holds (has_name x locals) _ two in
       record {
-        unknown = or_from (not (has_variable v (script_lines ds ps)) || not (is_known locals k)) _ (or_from (not (has_variable v (script_lines ds ps))) _ (there_passes v (Some k) (get_there v (Some k) r get)) (ap not (second_holds (has_name x locals && is_get_sound ds v (Some k) r) _ three))) (ap not (second_holds (has_name x locals && is_get_sound ds v (Some k) r && is_known locals k) _ e));
-        kinds = ap not (get_kind (kind_there ds v (Some k)) r get);
+        unknown = or_from (not (has_variable v (script_lines ds ps)) || not (is_known locals k)) _ (or_from (not (has_variable v (script_lines ds ps))) _ (get_passes v (Some k) r get) (ap not (second_holds (has_name x locals && is_get_sound ds v (Some k) r) _ three))) (ap not (second_holds (has_name x locals && is_get_sound ds v (Some k) r && is_known locals k) _ e));
+        kinds = ap not (first_holds (is_get_of_kind ds v (Some k) r) _ get);
         counts = refl;
-        apart = ap not (get_apart (kind_there ds v (Some k)) r get);
+        apart = ap not (second_holds (is_get_of_kind ds v (Some k) r) _ get);
       }
   command_passes locals (Fork n ts) e =
       let there = first_holds (list_any (takes n (length ts)) ps) _ e in

@@ -1,8 +1,10 @@
 -- What the words of a line that is written say: the line.
-use Rattle.std.proofs.Common.{◌≡◌, ℕ, suc, Bool, true, false, cond, ◌&&◌, List, [], ◌∷◌, ◌++◌, length, map, drop, Some, None, refl, sym, ap, ◌∙◌, arith}
+use Rattle.std.proofs.Common.{◌≡◌, ℕ, suc, Bool, true, false, cond, ◌&&◌, List, [], ◌∷◌, ◌++◌, length, map, drop, Option, Some, None, refl, sym, ap, ◌∙◌, arith}
 use Rattle.std.specs.Prelude.{codes, ◌==◌, take_while, ℤ, if◌then◌else◌}
 use Rattle.std.specs.Option.{option_map}
 use Rattle.std.specs.List.{list_all}
+use Rattle.std.specs.Str.{bytes_eq}
+use Rattle.std.proofs.lemmas.Slice.Eq.{bytes_eq-Decides}
 use Rattle.std.proofs.Math.Seq.{drop-append_seam}
 use Rattle.std.proofs.lemmas.List.{append-nil}
 use Rattle.std.proofs.lemmas.List.Sums.{take_while-cons}
@@ -12,20 +14,20 @@ use Rattle.lvish_syntax.specs.Words.{Word, is_name}
 use Rattle.lvish_syntax.specs.Written.{is_within, is_term_written, is_value_written, is_threshold_written, are_members_written, is_command_written}
 use Rattle.lvish_syntax.specs.declared.kind.SimpleKind.{SimpleKind}
 use Rattle.lvish_syntax.specs.declared.kind.SimpleKind.TheVariants.{Cell, Set, Max}
-use Rattle.lvish_syntax.specs.declared.kind.VariableKind.TheVariants.{Simple, Map, Pair}
+use Rattle.lvish_syntax.specs.declared.kind.VariableKind.TheVariants.{Simple, Map, Pair, Tally}
 use Rattle.lvish_syntax.specs.declared.operator.Operator.{Operator}
 use Rattle.lvish_syntax.specs.declared.operator.Operator.TheVariants.{Add, Subtract, Multiply, Divide, Remainder, Less, Equal}
 use Rattle.lvish_syntax.specs.declared.term.Term.{Term}
 use Rattle.lvish_syntax.specs.declared.value.Value.{Value}
 use Rattle.lvish_syntax.specs.declared.value.Value.TheVariants.{Same, Combined}
 use Rattle.lvish_syntax.specs.declared.threshold.Threshold.{Threshold}
-use Rattle.lvish_syntax.specs.declared.threshold.Threshold.TheVariants.{Any, In, Has, Least}
+use Rattle.lvish_syntax.specs.declared.threshold.Threshold.TheVariants.{Any, In, Has, Least, Total}
 use Rattle.lvish_syntax.specs.declared.declaration.Declaration.TheVariants.{Variable, Pool}
 use Rattle.lvish_syntax.specs.declared.command.Command.{Command}
 use Rattle.lvish_syntax.specs.declared.command.Command.TheVariants.{Let, Put, PutAt, Get, GetAt, Fork, Call, Handle, Freeze, FreezeEach}
 use Rattle.lvish_checks.specs.declared.line.Line.{Line}
 use Rattle.lvish_checks.specs.declared.line.Line.TheVariants as line
-use Rattle.lvish_checks.specs.Form.{term_of, number_word, operator_of, value_of, threshold_of, get_of, freeze_each, freeze_after, freeze_of, simple_kind, variable_line, pair_line, pool_line, proc_line, let_line, put_line, get_line, run_line, handle_line, freeze_line, block_line, bare_line, line_of}
+use Rattle.lvish_checks.specs.Form.{term_of, number_word, only, operator_of, value_of, threshold_of, get_of, freeze_each, freeze_after, freeze_of, simple_kind, variable_line, pair_line, pool_line, proc_line, let_line, put_line, get_line, run_line, handle_line, freeze_line, block_line, bare_line, version_line, line_of}
 use Rattle.lvish_checks.specs.Spelling.{term_word, kind_word, operator_word, value_words, threshold_words, pool_words, command_words, line_words}
 use Rattle.lvish_script.proofs.Bodies.{first_holds, second_holds}
 use Rattle.lvish_script.proofs.Soundness.{is_line_written}
@@ -65,6 +67,7 @@ threshold_back Any e = refl
 threshold_back (In zs) e = members_back zs e
 threshold_back (Has t) e = rw (term_back t e) refl
 threshold_back (Least t) e = rw (term_back t e) refl
+threshold_back (Total t) e = rw (term_back t e) refl
 
 -- the words that begin a threshold are no terms
 no_any : term_of (codes "any") ≡ None
@@ -88,13 +91,37 @@ unfolding is_name
 each_no_name = refl
 
 get_back : (x v : Word) (r : Threshold) → is_threshold_written r ≡ true → get_of x v (threshold_words r) ≡ Some (Get x v r)
-get_back x v Any e = rw no_any refl
-get_back x v (In zs) e = rw no_in (ap (option_map (λ r. Get x v r)) (threshold_back (In zs) e))
-get_back x v (Has t) e = rw no_has (ap (option_map (λ r. Get x v r)) (threshold_back (Has t) e))
-get_back x v (Least t) e = rw no_least (ap (option_map (λ r. Get x v r)) (threshold_back (Least t) e))
+get_back x v r e = rw (threshold_back r e) refl
+
+-- a word that is a term isn't one that is none
+other_word : (w u : Word) (k : Term) → term_of w ≡ Some k → term_of u ≡ None → bytes_eq w u ≡ false
+other_word w u k e none = on_test (bytes_eq w u) refl
+  where
+    on_test : (b : Bool) → bytes_eq w u ≡ b → bytes_eq w u ≡ false
+    on_test true h = let same : term_of w ≡ term_of u = ap term_of ((bytes_eq-Decides w u).0 h) in absurd cc
+    on_test false h = h
+
+-- no threshold is a single term
+no_term : (r : Threshold) → only term_of (threshold_words r) ≡ None
+no_term Any = no_any
+no_term (In []) = no_in
+no_term (In (z ∷ zs)) = refl
+no_term (Has t) = refl
+no_term (Least t) = refl
+no_term (Total t) = refl
+
+no_total : (b : Bool) (m : Option Term) → m ≡ None → (if b then option_map (λ t. Total t) m else None) ≡ None
+no_total true m e = ap (option_map (λ t. Total t)) e
+no_total false m e = refl
+
+-- a term before a threshold begins none
+no_threshold : (w : Word) (k : Term) (r : Threshold) → term_of w ≡ Some k → threshold_of (w ∷ threshold_words r) ≡ None
+no_threshold w k r e =
+    rw (other_word w (codes "any") k e no_any, other_word w (codes "in") k e no_in, other_word w (codes "has") k e no_has, other_word w (codes "least") k e no_least)
+    (no_total (bytes_eq w (codes "total")) (only term_of (threshold_words r)) (no_term r))
 
 get_at_back : (x v : Word) (k : Term) (r : Threshold) → is_term_written k ≡ true → is_threshold_written r ≡ true → get_of x v (term_word k ∷ threshold_words r) ≡ Some (GetAt x v k r)
-get_at_back x v k r e f = rw (term_back k e, threshold_back r f) refl
+get_at_back x v k r e f = rw (no_threshold (term_word k) k r (term_back k e), term_back k e, threshold_back r f) refl
 
 -- names before a word that is none
 names_before : (ps rest : List Word) → list_all is_name ps ≡ true → take_while is_name rest ≡ [] → take_while is_name (ps ++ rest) ≡ ps
@@ -158,14 +185,16 @@ is_good l = true
 
 -- a line that is written says itself again
 pub line_back : (l : Line) → is_line_written l ≡ true → is_good l ≡ true → line_of (line_words l) ≡ l
-unfolding variable_line pair_line pool_line proc_line block_line bare_line
+unfolding variable_line pair_line pool_line proc_line block_line bare_line version_line
 line_back line.Blank e g = absurd cc
 line_back line.Bad e g = absurd cc
+line_back line.Version e g = refl
 line_back (line.Declare (Variable n (Simple Cell))) e g = rw e refl
 line_back (line.Declare (Variable n (Simple Set))) e g = rw e refl
 line_back (line.Declare (Variable n (Simple Max))) e g = rw e refl
 line_back (line.Declare (Variable n Map)) e g = rw e refl
 line_back (line.Declare (Variable n (Pair a b))) e g = rw (e, kind_back a, kind_back b) refl
+line_back (line.Declare (Variable n Tally)) e g = rw e refl
 line_back (line.Declare (Pool p v)) e g = rw e refl
 line_back (line.Proc n xs) e g = rw e refl
 line_back (line.Do c) e g = command_back c e

@@ -6,15 +6,16 @@ use Rattle.std.specs.List.{list_any, list_all, flat_map}
 use Rattle.std.specs.Str.{bytes_eq}
 use Rattle.std.proofs.lemmas.Bool.{and_from}
 use Rattle.std.proofs.lemmas.List.{append-nil, map-append}
-use Rattle.std.proofs.lemmas.List.Folds.{list_any-append, list_all-append}
+use Rattle.std.proofs.lemmas.List.Folds.{list_any-append}
 use Rattle.std.proofs.lemmas.Grind.{flat_map-append}
 use Rattle.lvish_syntax.specs.Words.{Word, is_name}
 use Rattle.lvish_syntax.specs.Name.{has_name, has_repeat, is_known}
 use Rattle.lvish_syntax.specs.Nested.{statements, all_depth}
 use Rattle.lvish_syntax.specs.Written.{is_declaration_written, is_command_written, is_term_written, is_own_written, is_procedure_written}
+use Rattle.lvish_syntax.specs.Version.{is_name_in, is_declaration_in, is_own_in, is_procedure_in}
+use Rattle.lvish_syntax.specs.declared.version.Version.{Version}
 use Rattle.lvish_syntax.specs.Sound as sound
-use Rattle.lvish_syntax.specs.Sound.{IsSound, variable_name, variable_names, pool_name, pool_names, kind_of, kind_there, procedure_names, command_binds, own_binds, locals_of, takes, is_pool_known, is_pool_of, is_of_kind, is_apart, is_put_sound, is_get_sound, is_value_known, is_threshold_known, is_command_sound, is_own_sound, is_procedure_sound}
-use Rattle.lvish_syntax.specs.declared.kind.SimpleKind.{SimpleKind}
+use Rattle.lvish_syntax.specs.Sound.{IsSound, variable_name, variable_names, pool_name, pool_names, kind_of, procedure_names, command_binds, own_binds, locals_of, takes, is_pool_known, is_pool_of, is_put_sound, is_get_of_kind, is_get_apart, is_get_sound, is_value_known, is_threshold_known, is_command_sound, is_own_sound, is_procedure_sound}
 use Rattle.lvish_syntax.specs.declared.term.Term.{Term}
 use Rattle.lvish_syntax.specs.declared.threshold.Threshold.{Threshold}
 use Rattle.lvish_syntax.specs.declared.declaration.Declaration.{Declaration}
@@ -27,22 +28,19 @@ use Rattle.lvish_syntax.specs.declared.statement.Statement.{Statement}
 use Rattle.lvish_syntax.specs.declared.statement.Statement.TheOpen as o
 use Rattle.lvish_syntax.specs.declared.statement.Statement.TheViews.{out-Statement}
 use Rattle.lvish_checks.specs.declared.line.Line.{Line}
-use Rattle.lvish_checks.specs.declared.line.Line.TheVariants.{Blank, Bad, Declare, Proc, Do, If, While, Else, End}
-use Rattle.lvish_checks.specs.Checks.{on_line, has_variable, has_pool, has_procedure, is_main, is_procedure, declares_again, is_past_limit, binds, binds_until_procedure, locals_after, locals_step, miscounts, misfits, mixes, names_unknown, has_other_count, is_get_of_kind, is_get_apart, command_unknown, command_misfits, command_miscounts, command_mixes, open_after}
+use Rattle.lvish_checks.specs.declared.line.Line.TheVariants.{Blank, Bad, Version as Versioned, Declare, Proc, Do, If, While, Else, End}
+use Rattle.lvish_checks.specs.Checks.{on_line, has_variable, has_pool, has_procedure, is_main, is_procedure, declares_again, is_past_limit, binds, binds_until_procedure, locals_after, locals_step, miscounts, misfits, mixes, names_unknown, has_other_count, is_line_in, command_unknown, command_misfits, command_miscounts, command_mixes, open_after}
 use Rattle.lvish_checks.specs.declared.open_blocks.Opener.TheVariants.{Procedure as InProcedure}
 use Rattle.lvish_script.specs.Spells.{body_lines, procedure_lines, script_lines, says_something}
 use Rattle.lvish_checks.proofs.Cuts.{left_fails, right_fails, same_name, all_by_cut, none_by_cut, few_by_cut, differ_by_cut}
 use Rattle.lvish_script.proofs.Cleaned.{any_cleaned}
 use Rattle.lvish_script.proofs.Cleared.{locals_in, again_at, limit_at, count_at, fit_at, apart_at, unknown_at}
-use Rattle.lvish_script.proofs.Bodies.{own_line, given, all_statements, no_procedures, locals_inside, binds_inside, first_holds, second_holds}
+use Rattle.lvish_script.proofs.Bodies.{own_line, given, all_statements, no_procedures, locals_inside, binds_inside, first_holds}
+use Rattle.lvish_script.proofs.Outer.{ByParts, all_out_of_parts, heads_of_lines, procedures_of_lines}
 use Rattle.lvish_script.proofs.Levels.{open_append, stays_shallow, shallow_body, within_limits}
 use Rattle.lvish_script.proofs.Declaring.{heads, declared, declared_heads, procedures_declared, main_declared, none_open, few_names, names_differ, one_variable, one_pool, few_variables_before, few_pools_before, few_procedures_before, new_variable, new_pool, known_further, follow_by_cut, kind_known, taken_there, not_false}
 
 -- ---- a command, by the checks of its line
-
-get_fits : (kind : Option SimpleKind) (r : Threshold) → option_map_or (λ k. is_of_kind k r) kind false ≡ true → option_map_or (λ k. is_apart k r) kind true ≡ true → option_map_or (λ k. is_of_kind k r && is_apart k r) kind false ≡ true
-get_fits None r e f = absurd cc
-get_fits (Some k) r e f = and_from (is_of_kind k r) (is_apart k r) e f
 
 module _ (ds : List Declaration) (ps : List Procedure) where
   variable_there : (v : Word) → not (has_variable v (script_lines ds ps)) ≡ false → has_name v (variable_names ds) ≡ true
@@ -55,7 +53,7 @@ module _ (ds : List Declaration) (ps : List Procedure) where
   taken n k e m = taken_there n k ds ps (sym (procedures_declared n ds ps) ∙ not_false _ e) m
 
   gets : (v : Word) (at : Option Term) (r : Threshold) → not (is_get_of_kind ds v at r) ≡ false → not (is_get_apart ds v at r) ≡ false → is_get_sound ds v at r ≡ true
-  gets v at r e f = get_fits (kind_there ds v at) r (not_false _ e) (not_false _ f)
+  gets v at r e f = and_from (is_get_of_kind ds v at r) _ (not_false _ e) (not_false _ f)
 
   command_sound : (locals : List Word) (c : Command) → command_unknown (script_lines ds ps) locals c ≡ false → command_misfits ds c ≡ false → command_miscounts (script_lines ds ps) c ≡ false → command_mixes ds c ≡ false → list_all (λ x. has_name x locals) (command_binds c) ≡ true → is_command_sound ds ps locals c ≡ true
   command_sound locals (Let x v) un mis count mix bound = and_from (has_name x locals) _ (first_holds (has_name x locals) true bound) (not_false _ un)
@@ -190,36 +188,48 @@ is_line_written (If t) = is_term_written t
 is_line_written (While t) = is_term_written t
 is_line_written l = true
 
-own_written : (u : o.Statement-F Statement Block) → is_line_written (own_line u) ≡ true → is_own_written u ≡ true
-own_written (o.Do c) e = e
-own_written (o.If t a) e = e
-own_written (o.IfElse t a b) e = e
-own_written (o.While t a) e = e
+written_by_parts : ByParts is_line_written is_declaration_written (λ r. is_name r.name && list_all is_name r.parameters) is_own_written
+written_by_parts = record {
+  at_head = λ d. refl;
+  at_top = λ r. refl;
+  at_own = own;
+  at_else = refl;
+  at_end = refl;
+}
+  where
+    own : (u : o.Statement-F Statement Block) → is_line_written (own_line u) ≡ is_own_written u
+    own (o.Do c) = refl
+    own (o.If t a) = refl
+    own (o.IfElse t a b) = refl
+    own (o.While t a) = refl
 
-front_written : (xs ys : List Line) → list_all is_line_written (xs ++ ys) ≡ true → list_all is_line_written xs ≡ true
-front_written xs ys e = first_holds (list_all is_line_written xs) (list_all is_line_written ys) (sym (list_all-append is_line_written xs ys) ∙ e)
+-- the lines of a script can be written
+pub lines_written : (ds : List Declaration) (ps : List Procedure) → list_all is_declaration_written ds ≡ true → list_all is_procedure_written ps ≡ true → list_all is_line_written (script_lines ds ps) ≡ true
+lines_written ds ps e f = all_out_of_parts is_line_written is_declaration_written _ is_own_written written_by_parts ds ps e f
 
-back_written : (xs ys : List Line) → list_all is_line_written (xs ++ ys) ≡ true → list_all is_line_written ys ≡ true
-back_written xs ys e = second_holds (list_all is_line_written xs) (list_all is_line_written ys) (sym (list_all-append is_line_written xs ys) ∙ e)
+in_by_parts : (version : Version) → ByParts (is_line_in version) (is_declaration_in version) (λ r. is_name_in version r.name && list_all (is_name_in version) r.parameters) (is_own_in version)
+in_by_parts version = record {
+  at_head = λ d. refl;
+  at_top = λ r. refl;
+  at_own = own;
+  at_else = refl;
+  at_end = refl;
+}
+  where
+    own : (u : o.Statement-F Statement Block) → is_line_in version (own_line u) ≡ is_own_in version u
+    own (o.Do c) = refl
+    own (o.If t a) = refl
+    own (o.IfElse t a b) = refl
+    own (o.While t a) = refl
 
-heads_written : (ds : List Declaration) → list_all is_line_written (heads ds) ≡ true → list_all is_declaration_written ds ≡ true
-heads_written [] e = refl
-heads_written (d ∷ ds) e = and_from (is_declaration_written d) _ (first_holds (is_declaration_written d) _ e) (heads_written ds (second_holds (is_declaration_written d) _ e))
-
-procedure_written : (r : Procedure) → list_all is_line_written (procedure_lines r) ≡ true → is_procedure_written r ≡ true
-procedure_written r e =
-    and_from (is_name r.name && list_all is_name r.parameters) _ (first_holds (is_name r.name && list_all is_name r.parameters) _ e)
-    (all_statements is_line_written (λ s. is_own_written (out-Statement s)) (λ s. own_written (out-Statement s)) (statements r.body) (front_written (body_lines (statements r.body)) (End ∷ []) (second_holds (is_name r.name && list_all is_name r.parameters) _ e)))
-
-procedures_written : (ps : List Procedure) → list_all is_line_written (flat_map procedure_lines ps) ≡ true → list_all is_procedure_written ps ≡ true
-procedures_written [] e = refl
-procedures_written (r ∷ ps) e =
-    and_from (is_procedure_written r) _ (procedure_written r (front_written (procedure_lines r) (flat_map procedure_lines ps) e)) (procedures_written ps (back_written (procedure_lines r) (flat_map procedure_lines ps) e))
+-- the lines of a script stand in its version
+pub lines_in : (version : Version) (ds : List Declaration) (ps : List Procedure) → list_all (is_declaration_in version) ds ≡ true → list_all (is_procedure_in version) ps ≡ true → list_all (is_line_in version) (script_lines ds ps) ≡ true
+lines_in version ds ps e f = all_out_of_parts (is_line_in version) (is_declaration_in version) _ (is_own_in version) (in_by_parts version) ds ps e f
 
 -- ---- all of it
 
 -- what the checks say of the lines of a text
-pub record Passed (said : List Line) : Type 0 where
+pub record Passed (version : Version) (said : List Line) : Type 0 where
   pub again : (l : ℕ) → on_line (λ k l. declares_again (take k said) l) said l ≡ false
   pub unknown : (l : ℕ) → on_line (λ k l. names_unknown said k l) said l ≡ false
   pub kinds : (l : ℕ) → on_line (λ k l. misfits said l) said l ≡ false
@@ -228,8 +238,9 @@ pub record Passed (said : List Line) : Type 0 where
   pub few : (l : ℕ) → on_line (λ k l. is_past_limit (take k said) l) said l ≡ false
   pub main : list_any is_main said ≡ true
   pub written : list_all is_line_written (filter says_something said) ≡ true
+  pub versioned : list_all (is_line_in version) (filter says_something said) ≡ true
 
-module _ (said : List Line) (ds : List Declaration) (ps : List Procedure) (clean : filter says_something said ≡ script_lines ds ps) (passed : Passed said) where
+module _ (version : Version) (said : List Line) (ds : List Declaration) (ps : List Procedure) (clean : filter says_something said ≡ script_lines ds ps) (passed : Passed version said) where
   declaration_cut : (b : List Declaration) (d : Declaration) (a : List Declaration) → ds ≡ b ++ d ∷ a → script_lines ds ps ≡ heads b ++ (Declare d ∷ (heads a ++ flat_map procedure_lines ps))
   declaration_cut b d a e = rw e (simp (append_assoc, map-append))
 
@@ -249,6 +260,7 @@ module _ (said : List Line) (ds : List Declaration) (ps : List Procedure) (clean
       ap (λ w. is_known w t) (sym (locals_here ds q r more b (While t) a e)) ∙ not_false _ (unknown_at said (script_lines ds ps) clean passed.unknown (lines_to ds q r ++ b) (While t) (a ++ lines_from more) (line_at ds q r more b (While t) a e ps g))
   line_sound q r more g b Blank a e = refl
   line_sound q r more g b Bad a e = refl
+  line_sound q r more g b Versioned a e = refl
   line_sound q r more g b (Declare d) a e = refl
   line_sound q r more g b (Proc n xs) a e = refl
   line_sound q r more g b Else a e = refl
@@ -284,8 +296,11 @@ module _ (said : List Line) (ds : List Declaration) (ps : List Procedure) (clean
   all_written : list_all is_line_written (script_lines ds ps) ≡ true
   all_written = ap (list_all is_line_written) (sym clean) ∙ passed.written
 
+  all_in : list_all (is_line_in version) (script_lines ds ps) ≡ true
+  all_in = ap (list_all (is_line_in version)) (sym clean) ∙ passed.versioned
+
   -- the checks passed on the lines make the script sound
-  pub sound_from_checks : IsSound ds ps
+  pub sound_from_checks : IsSound version ds ps
   sound_from_checks =
       record {
         statements_sound = all_by_cut (is_procedure_sound ds ps) ps procedure_sound;
@@ -299,7 +314,9 @@ module _ (said : List Line) (ds : List Declaration) (ps : List Procedure) (clean
         few_procedures = few_by_cut 64 ps (λ q r more e. few_procedures_before r ds q (limit_at said (script_lines ds ps) clean passed.few (script_lines ds q) (Proc r.name r.parameters) _ (procedure_cut q r more e)));
         shallow = all_by_cut (λ p. nat_le (all_depth (statements p.body)) 63) ps procedure_shallow;
         pools_follow = follow_by_cut [] ds pool_above;
-        declarations_written = heads_written ds (front_written (heads ds) (flat_map procedure_lines ps) all_written);
-        procedures_written = procedures_written ps (back_written (heads ds) (flat_map procedure_lines ps) all_written);
-        main_stands = sym (main_declared ds ps) ∙ ap (list_any is_main) (sym clean) ∙ sym (any_cleaned is_main refl said) ∙ passed.main;
+        declarations_written = heads_of_lines is_line_written is_declaration_written _ is_own_written written_by_parts ds ps all_written;
+        procedures_written = procedures_of_lines is_line_written is_declaration_written _ is_own_written written_by_parts ds ps all_written;
+        declarations_versioned = heads_of_lines (is_line_in version) (is_declaration_in version) _ (is_own_in version) (in_by_parts version) ds ps all_in;
+        procedures_versioned = procedures_of_lines (is_line_in version) (is_declaration_in version) _ (is_own_in version) (in_by_parts version) ds ps all_in;
+        main_stands = sym (main_declared ds ps) ∙ ap (list_any is_main) (sym clean) ∙ sym (any_cleaned is_main refl refl said) ∙ passed.main;
       }

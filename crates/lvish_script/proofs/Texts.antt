@@ -12,14 +12,14 @@ use Rattle.lvish_syntax.specs.Written.{is_within, is_term_written, is_value_writ
 use Rattle.lvish_syntax.specs.Nested.{statements}
 use Rattle.lvish_syntax.specs.declared.kind.SimpleKind.{SimpleKind}
 use Rattle.lvish_syntax.specs.declared.kind.SimpleKind.TheVariants.{Cell, Set, Max}
-use Rattle.lvish_syntax.specs.declared.kind.VariableKind.TheVariants.{Simple, Map, Pair}
+use Rattle.lvish_syntax.specs.declared.kind.VariableKind.TheVariants.{Simple, Map, Pair, Tally}
 use Rattle.lvish_syntax.specs.declared.operator.Operator.{Operator}
 use Rattle.lvish_syntax.specs.declared.operator.Operator.TheVariants.{Add, Subtract, Multiply, Divide, Remainder, Less, Equal}
 use Rattle.lvish_syntax.specs.declared.term.Term.{Term}
 use Rattle.lvish_syntax.specs.declared.value.Value.{Value}
 use Rattle.lvish_syntax.specs.declared.value.Value.TheVariants.{Same, Combined}
 use Rattle.lvish_syntax.specs.declared.threshold.Threshold.{Threshold}
-use Rattle.lvish_syntax.specs.declared.threshold.Threshold.TheVariants.{Any, In, Has, Least}
+use Rattle.lvish_syntax.specs.declared.threshold.Threshold.TheVariants.{Any, In, Has, Least, Total}
 use Rattle.lvish_syntax.specs.declared.declaration.Declaration.{Declaration}
 use Rattle.lvish_syntax.specs.declared.declaration.Declaration.TheVariants.{Variable, Pool}
 use Rattle.lvish_syntax.specs.declared.command.Command.{Command}
@@ -98,6 +98,7 @@ threshold_fine Any e = record { all = refl }
 threshold_fine (In zs) e = and_more (codes "in") refl (record { all = all_map signed_decimal is_within is_fine number_fine zs (members_fine zs e) })
 threshold_fine (Has t) e = and_more (codes "has") refl (and_more (term_word t) (term_fine t e) no_words)
 threshold_fine (Least t) e = and_more (codes "least") refl (and_more (term_word t) (term_fine t e) no_words)
+threshold_fine (Total t) e = and_more (codes "total") refl (and_more (term_word t) (term_fine t e) no_words)
 
 pools_fine : (ps : List Word) → list_all is_name ps ≡ true → AreFine (pool_words ps)
 pools_fine [] e = no_words
@@ -133,9 +134,11 @@ command_fine (FreezeEach x v ps n) e =
 pub line_fine : (l : Line) → is_line_written l ≡ true → AreFine (line_words l)
 line_fine line.Blank e = no_words
 line_fine line.Bad e = no_words
+line_fine line.Version e = record { all = refl }
 line_fine (line.Declare (Variable n (Simple k))) e = and_more (kind_word k) (kind_fine k) (and_more n (name_fine n e) no_words)
 line_fine (line.Declare (Variable n Map)) e = and_more (codes "map") refl (and_more n (name_fine n e) no_words)
 line_fine (line.Declare (Variable n (Pair a b))) e = and_more (codes "pair") refl (and_more n (name_fine n e) (and_more (kind_word a) (kind_fine a) (and_more (kind_word b) (kind_fine b) no_words)))
+line_fine (line.Declare (Variable n Tally)) e = and_more (codes "tally") refl (and_more n (name_fine n e) no_words)
 line_fine (line.Declare (Pool p v)) e = and_more (codes "pool") refl (and_more p (name_fine p (first_holds (is_name p) _ e)) (and_more v (name_fine v (second_holds (is_name p) _ e)) no_words))
 line_fine (line.Proc n xs) e = and_more (codes "proc") refl (and_more n (name_fine n (first_holds (is_name n) _ e)) (names_fine xs (second_holds (is_name n) _ e)))
 line_fine (line.Do c) e = command_fine c e
@@ -228,50 +231,78 @@ pub said_are : (ls : List Line) → list_all is_line_written ls ≡ true → lis
 said_are [] e g = refl
 said_are (l ∷ ls) e g = rw (line_back l (first_holds (is_line_written l) _ e) (first_holds (is_good l) _ g), said_are ls (second_holds (is_line_written l) _ e) (second_holds (is_good l) _ g)) refl
 
--- ---- the lines of a script are neither blank nor bad
+-- ---- the lines of a script beside that of its version
 
-heads_good : (ds : List Declaration) → list_all is_good (heads ds) ≡ true
-heads_good [] = refl
-heads_good (d ∷ ds) = heads_good ds
+-- neither blank nor bad, nor the line of a version
+abbrev pub is_own : Line → Bool
+is_own line.Blank = false
+is_own line.Bad = false
+is_own line.Version = false
+is_own l = true
 
-inner_good : (ls : List Line) → list_all is_inner ls ≡ true → list_all is_good ls ≡ true
-inner_good [] e = refl
-inner_good (l ∷ ls) e = and_from (is_good l) _ (good l (first_holds (is_inner l) _ e)) (inner_good ls (second_holds (is_inner l) _ e))
+heads_own : (ds : List Declaration) → list_all is_own (heads ds) ≡ true
+heads_own [] = refl
+heads_own (d ∷ ds) = heads_own ds
+
+inner_own : (ls : List Line) → list_all is_inner ls ≡ true → list_all is_own ls ≡ true
+inner_own [] e = refl
+inner_own (l ∷ ls) e = and_from (is_own l) _ (own l (first_holds (is_inner l) _ e)) (inner_own ls (second_holds (is_inner l) _ e))
   where
-    good : (l : Line) → is_inner l ≡ true → is_good l ≡ true
-    good (line.Do c) e = refl
-    good (line.If t) e = refl
-    good (line.While t) e = refl
-    good line.Else e = refl
-    good line.End e = refl
-    good line.Blank e = absurd cc
-    good line.Bad e = absurd cc
-    good (line.Declare d) e = refl
-    good (line.Proc n xs) e = refl
+    own : (l : Line) → is_inner l ≡ true → is_own l ≡ true
+    own (line.Do c) e = refl
+    own (line.If t) e = refl
+    own (line.While t) e = refl
+    own line.Else e = refl
+    own line.End e = refl
+    own line.Blank e = absurd cc
+    own line.Bad e = absurd cc
+    own line.Version e = absurd cc
+    own (line.Declare d) e = refl
+    own (line.Proc n xs) e = refl
 
-procedures_good : (ps : List Procedure) → list_all is_good (flat_map procedure_lines ps) ≡ true
-procedures_good [] = refl
-procedures_good (r ∷ ps) = join_all is_good (procedure_lines r) (flat_map procedure_lines ps) (join_all is_good (body_lines (statements r.body)) (line.End ∷ []) (inner_good (body_lines (statements r.body)) (inner (statements r.body))) refl) (procedures_good ps)
+procedures_own : (ps : List Procedure) → list_all is_own (flat_map procedure_lines ps) ≡ true
+procedures_own [] = refl
+procedures_own (r ∷ ps) = join_all is_own (procedure_lines r) (flat_map procedure_lines ps) (join_all is_own (body_lines (statements r.body)) (line.End ∷ []) (inner_own (body_lines (statements r.body)) (inner (statements r.body))) refl) (procedures_own ps)
 
+all_own : (ds : List Declaration) (ps : List Procedure) → list_all is_own (script_lines ds ps) ≡ true
+all_own ds ps = join_all is_own (heads ds) (flat_map procedure_lines ps) (heads_own ds) (procedures_own ps)
+
+own_good : (l : Line) → is_own l ≡ true → is_good l ≡ true
+own_good line.Blank e = absurd cc
+own_good line.Bad e = absurd cc
+own_good line.Version e = absurd cc
+own_good (line.Declare d) e = refl
+own_good (line.Proc n xs) e = refl
+own_good (line.Do c) e = refl
+own_good (line.If t) e = refl
+own_good (line.While t) e = refl
+own_good line.Else e = refl
+own_good line.End e = refl
+
+-- they are neither blank nor bad
 pub all_good : (ds : List Declaration) (ps : List Procedure) → list_all is_good (script_lines ds ps) ≡ true
-all_good ds ps = join_all is_good (heads ds) (flat_map procedure_lines ps) (heads_good ds) (procedures_good ps)
+all_good ds ps = all_same is_own is_good own_good (script_lines ds ps) (all_own ds ps)
 
-good_says : (l : Line) → is_good l ≡ true → says_something l ≡ true
-good_says line.Blank e = absurd cc
-good_says line.Bad e = refl
-good_says (line.Declare d) e = refl
-good_says (line.Proc n xs) e = refl
-good_says (line.Do c) e = refl
-good_says (line.If t) e = refl
-good_says (line.While t) e = refl
-good_says line.Else e = refl
-good_says line.End e = refl
+own_says : (l : Line) → is_own l ≡ true → says_something l ≡ true
+own_says line.Blank e = absurd cc
+own_says line.Bad e = refl
+own_says line.Version e = absurd cc
+own_says (line.Declare d) e = refl
+own_says (line.Proc n xs) e = refl
+own_says (line.Do c) e = refl
+own_says (line.If t) e = refl
+own_says (line.While t) e = refl
+own_says line.Else e = refl
+own_says line.End e = refl
 
 kept_on : (l : Line) (ls : List Line) (b : Bool) → b ≡ true → cond b (l ∷ ls) ls ≡ l ∷ ls
 kept_on l ls true e = refl
 kept_on l ls false e = absurd cc
 
--- none of them is blank
-pub all_say : (ls : List Line) → list_all is_good ls ≡ true → filter says_something ls ≡ ls
-all_say [] e = refl
-all_say (l ∷ ls) e = kept_on l (filter says_something ls) (says_something l) (good_says l (first_holds (is_good l) _ e)) ∙ ap (λ t. l ∷ t) (all_say ls (second_holds (is_good l) _ e))
+said_all : (ls : List Line) → list_all is_own ls ≡ true → filter says_something ls ≡ ls
+said_all [] e = refl
+said_all (l ∷ ls) e = kept_on l (filter says_something ls) (says_something l) (own_says l (first_holds (is_own l) _ e)) ∙ ap (λ t. l ∷ t) (said_all ls (second_holds (is_own l) _ e))
+
+-- all of them say something
+pub all_say : (ds : List Declaration) (ps : List Procedure) → filter says_something (script_lines ds ps) ≡ script_lines ds ps
+all_say ds ps = said_all (script_lines ds ps) (all_own ds ps)

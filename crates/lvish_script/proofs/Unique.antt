@@ -136,6 +136,9 @@ module _ (text : List ℕ) (s t : Script) (a : Spells text s) (b : Spells text t
   apart : (s.declarations ≡ t.declarations) × (procedures_lines s.procedures ≡ procedures_lines t.procedures)
   apart = lines_apart s.declarations t.declarations s.procedures t.procedures (a.lines ∙ sym b.lines)
 
+  pub one_version : s.version ≡ t.version
+  one_version = a.version ∙ sym b.version
+
   pub one_declarations : s.declarations ≡ t.declarations
   one_declarations = apart.0
 

@@ -1,6 +1,6 @@
 -- What a line says has names that are names, and numbers within 64 bits.
 use Rattle.std.proofs.Common.{◌≡◌, Bool, true, false, ◌&&◌, List, [], ◌∷◌, length, map, drop, Option, Some, None, refl, ap, ◌∙◌}
-use Rattle.std.specs.Prelude.{codes, ◌==◌, take_while, option_and_then, unwrap_or, is_some, if◌then◌else◌, ℤ, pos}
+use Rattle.std.specs.Prelude.{codes, ◌==◌, take_while, option_and_then, unwrap_or, if◌then◌else◌, ℤ, pos}
 use Rattle.std.specs.Option.{option_map}
 use Rattle.std.specs.List.{list_all}
 use Rattle.std.specs.Str.{bytes_eq}
@@ -10,15 +10,15 @@ use Rattle.lvish_syntax.specs.Words.{Word, is_name}
 use Rattle.lvish_syntax.specs.Written.{is_within, is_term_written, is_value_written, is_threshold_written, are_members_written, is_command_written}
 use Rattle.lvish_syntax.specs.declared.kind.SimpleKind.TheVariants.{Cell, Set, Max}
 use Rattle.lvish_syntax.specs.declared.kind.VariableKind.{VariableKind}
-use Rattle.lvish_syntax.specs.declared.kind.VariableKind.TheVariants.{Simple, Map}
+use Rattle.lvish_syntax.specs.declared.kind.VariableKind.TheVariants.{Simple, Map, Tally}
 use Rattle.lvish_syntax.specs.declared.term.Term.{Term}
 use Rattle.lvish_syntax.specs.declared.threshold.Threshold.TheVariants.{Any, In}
 use Rattle.lvish_syntax.specs.declared.command.Command.{Command}
 use Rattle.lvish_syntax.specs.declared.command.Command.TheVariants as command
 use Rattle.lvish_checks.specs.declared.line.Line.{Line}
 use Rattle.lvish_checks.specs.declared.line.Line.TheVariants.{Bad, Do, If, While, Else, End}
-use Rattle.lvish_checks.specs.Form.{is_number_word, number_of, value_of_number, number_word, term_of, all_of, terms_of, numbers_of, only, operator_of, or_bad, variable_line, pair_kind, pair_line, pool_line, proc_line, value_of, let_line, put_of, put_line, threshold_after, threshold_of, get_of, get_line, run_line, handle_line, freeze_each, freeze_after, freeze_of, freeze_line, block_line, bare_line, declaration_form, command_form, block_form, begins_declaration, begins_command, line_of}
-use Rattle.lvish_checks.proofs.Values.{Each, each_if, each_map, each_then}
+use Rattle.lvish_checks.specs.Form.{is_number_word, number_of, value_of_number, number_word, term_of, all_of, terms_of, numbers_of, only, operator_of, or_bad, variable_line, pair_kind, pair_line, pool_line, proc_line, value_of, let_line, put_of, put_line, threshold_after, threshold_of, get_at, get_of, get_line, run_line, handle_line, freeze_each, freeze_after, freeze_of, freeze_line, block_line, bare_line, version_line, declaration_form, command_form, block_form, begins_declaration, begins_command, line_of}
+use Rattle.lvish_checks.proofs.Values.{Each, each_if, each_map, each_then, each_or}
 use Rattle.lvish_checks.proofs.Decimals.{number_within}
 use Rattle.lvish_script.proofs.Bodies.{second_holds}
 use Rattle.lvish_script.proofs.Soundness.{is_line_written}
@@ -164,19 +164,24 @@ threshold_after_written k ws =
     holds_if is_threshold_written (bytes_eq k (codes "any")) _ _ (λ e. holds_if is_threshold_written (length ws == 0) (Some Any) None (λ f. refl) tt)
     (holds_if is_threshold_written (bytes_eq k (codes "in")) _ _ (λ e. in_written ws)
     (holds_if is_threshold_written (bytes_eq k (codes "has")) _ _ (λ e. holds_map is_term_written is_threshold_written _ (only term_of ws) (holds_only is_term_written term_of term_written ws) (λ t f. f))
-    (holds_if is_threshold_written (bytes_eq k (codes "least")) _ None (λ e. holds_map is_term_written is_threshold_written _ (only term_of ws) (holds_only is_term_written term_of term_written ws) (λ t f. f)) tt)))
+    (holds_if is_threshold_written (bytes_eq k (codes "least")) _ _ (λ e. holds_map is_term_written is_threshold_written _ (only term_of ws) (holds_only is_term_written term_of term_written ws) (λ t f. f))
+    (holds_if is_threshold_written (bytes_eq k (codes "total")) _ None (λ e. holds_map is_term_written is_threshold_written _ (only term_of ws) (holds_only is_term_written term_of term_written ws) (λ t f. f)) tt))))
 
 threshold_written : (ws : List Word) → Holds is_threshold_written (threshold_of ws)
 threshold_written [] = tt
 threshold_written (k ∷ ws) = threshold_after_written k ws
 
+get_at_written : (x v : Word) → (is_name x && is_name v) ≡ true → (ws : List Word) → Holds is_command_written (get_at x v ws)
+get_at_written x v e [] = tt
+get_at_written x v e (w ∷ ws) =
+    holds_then is_term_written is_command_written _ (term_of w) (term_written w) (λ t g.
+    holds_map is_threshold_written is_command_written _ (threshold_of ws) (threshold_written ws) (λ r h. and_from (is_name x && is_name v) _ e (and_from (is_term_written t) _ g h)))
+
 get_of_written : (x v : Word) → (is_name x && is_name v) ≡ true → (ws : List Word) → Holds is_command_written (get_of x v ws)
-get_of_written x v e [] = tt
-get_of_written x v e (w ∷ ws) =
-    holds_if is_command_written (is_some (term_of w)) _ _
-    (λ f. holds_then is_term_written is_command_written _ (term_of w) (term_written w) (λ t g.
-    holds_map is_threshold_written is_command_written _ (threshold_of ws) (threshold_written ws) (λ r h. and_from (is_name x && is_name v) _ e (and_from (is_term_written t) _ g h))))
-    (holds_map is_threshold_written is_command_written _ (threshold_of (w ∷ ws)) (threshold_written (w ∷ ws)) (λ r h. and_from (is_name x && is_name v) _ e h))
+get_of_written x v e ws =
+    each_or (λ c. is_command_written c ≡ true) _ (get_at x v ws)
+    (holds_map is_threshold_written is_command_written _ (threshold_of ws) (threshold_written ws) (λ r h. and_from (is_name x && is_name v) _ e h))
+    (get_at_written x v e ws)
 
 get_written : (ws : List Word) → W (get_line ws)
 unfolding get_line
@@ -226,6 +231,14 @@ unfolding bare_line
 bare_written l e [] = e
 bare_written l e (w ∷ ws) = refl
 
+-- ---- the version
+
+version_written : (ws : List Word) → W (version_line ws)
+unfolding version_line
+version_written [] = refl
+version_written (n ∷ []) = w_if (bytes_eq n (codes "2")) _ Bad (λ e. refl) refl
+version_written (n ∷ m ∷ ws) = refl
+
 -- ---- lines
 
 declaration_form_written : (k : Word) (ws : List Word) → W (declaration_form k ws)
@@ -235,8 +248,9 @@ declaration_form_written k ws =
     (w_if (bytes_eq k (codes "max")) _ _ (λ e. variable_written (Simple Max) ws)
     (w_if (bytes_eq k (codes "map")) _ _ (λ e. variable_written Map ws)
     (w_if (bytes_eq k (codes "pair")) _ _ (λ e. pair_written ws)
+    (w_if (bytes_eq k (codes "tally")) _ _ (λ e. variable_written Tally ws)
     (w_if (bytes_eq k (codes "pool")) _ _ (λ e. pool_written ws)
-    (w_if (bytes_eq k (codes "proc")) _ Bad (λ e. proc_written ws) refl))))))
+    (w_if (bytes_eq k (codes "proc")) _ Bad (λ e. proc_written ws) refl)))))))
 
 command_form_written : (k : Word) (ws : List Word) → W (command_form k ws)
 command_form_written k ws =
@@ -257,7 +271,7 @@ block_form_written k ws =
 
 pub line_written : (ws : List Word) → W (line_of ws)
 line_written [] = refl
-line_written (k ∷ ws) = w_if (begins_declaration k) _ _ (λ e. declaration_form_written k ws) (w_if (begins_command k) _ _ (λ e. command_form_written k ws) (block_form_written k ws))
+line_written (k ∷ ws) = w_if (begins_declaration k) _ _ (λ e. declaration_form_written k ws) (w_if (begins_command k) _ _ (λ e. command_form_written k ws) (w_if (bytes_eq k (codes "lvish")) _ _ (λ e. version_written ws) (block_form_written k ws)))
 
 -- what the lines of a text say
 pub said_written : (words : List (List Word)) → list_all is_line_written (map line_of words) ≡ true

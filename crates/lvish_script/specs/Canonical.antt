@@ -6,7 +6,7 @@ use Rattle.lvish_syntax.specs.declared.script.Script.{Script}
 use Rattle.lvish_checks.specs.declared.line.Line.{Line}
 use Rattle.lvish_checks.specs.Checks.{parts_of, is_nil}
 use Rattle.lvish_checks.specs.Spelling.{line_words}
-use Rattle.lvish_script.specs.Spells.{script_lines}
+use Rattle.lvish_script.specs.Spells.{version_lines, script_lines}
 
 -- words, each after a space
 abbrev pub spaced : List Word → List ℕ
@@ -25,9 +25,12 @@ line_text l = joined (line_words l) ++ 10 ∷ []
 abbrev pub lines_text : List Line → List ℕ
 lines_text ls = flat_map line_text ls
 
--- the lines of a script in order
+-- the lines of a script in order, that of its version first
+abbrev pub canonical_lines : Script → List Line
+canonical_lines s = version_lines s.version ++ script_lines s.declarations s.procedures
+
 abbrev pub text_of : Script → List ℕ
-text_of s = lines_text (script_lines s.declarations s.procedures)
+text_of s = lines_text (canonical_lines s)
 
 -- ---- words
 
@@ -37,4 +40,4 @@ text_words text = filter (λ ws. not (is_nil ws)) (parts_of text).words
 
 -- the words that a script is written with, line by line
 abbrev pub script_words : Script → List (List Word)
-script_words s = map line_words (script_lines s.declarations s.procedures)
+script_words s = map line_words (canonical_lines s)

@@ -49,6 +49,7 @@ HasNone ps o = (ps ≡ []) × (o ≡ None)
 -- what a line gives the lines of a draft
 abbrev pub what_is_said : Line → List Line
 what_is_said line.Blank = []
+what_is_said line.Version = []
 what_is_said l = l ∷ []
 
 -- whether a draft can take the line next

@@ -1,6 +1,8 @@
 -- Which script a text spells.
 use Rattle.std.specs.Prelude.{◌≡◌, ◌⊎◌, ℕ, Bool, true, false, List, [], ◌∷◌, ◌++◌, map, filter}
 use Rattle.std.specs.List.{flat_map}
+use Rattle.lvish_syntax.specs.declared.version.Version.{Version}
+use Rattle.lvish_syntax.specs.declared.version.Version.TheVariants.{One, Two}
 use Rattle.lvish_syntax.specs.declared.declaration.Declaration.{Declaration}
 use Rattle.lvish_syntax.specs.declared.statement.Statement.{Statement, Do, If', IfElse', While', Row_of-Statement, end_of-Statement, more_of-Statement}
 use Rattle.lvish_syntax.specs.declared.procedure.Procedure.{Procedure}
@@ -8,7 +10,7 @@ use Rattle.lvish_syntax.specs.declared.script.Script.{Script}
 use Rattle.lvish_syntax.specs.Nested.{statements}
 use Rattle.lvish_checks.specs.declared.line.Line.{Line}
 use Rattle.lvish_checks.specs.declared.line.Line.TheVariants as line
-use Rattle.lvish_checks.specs.Checks.{parts_of, IsAccepted, IsFirstFault}
+use Rattle.lvish_checks.specs.Checks.{parts_of, version_of, IsAccepted, IsFirstFault}
 use Rattle.lvish_checks.specs.declared.script_fault.ScriptFault.{ScriptFault}
 use Rattle.lvish_checks.specs.declared.fault.Fault.TheVariants.{Memory}
 
@@ -35,13 +37,21 @@ procedure_lines p = line.Proc p.name p.parameters ∷ (body_lines (statements p.
 abbrev pub script_lines : List Declaration → List Procedure → List Line
 script_lines ds ps = map (λ d. line.Declare d) ds ++ flat_map procedure_lines ps
 
+-- the lines of a version, which stand above all others
+abbrev pub version_lines : Version → List Line
+version_lines One = []
+version_lines Two = line.Version ∷ []
+
+-- whether a line says something beside the version
 abbrev pub says_something : Line → Bool
 says_something line.Blank = false
+says_something line.Version = false
 says_something l = true
 
--- no check fails, and the lines that say something are the script's
+-- no check fails, the lines say the script's version, and those that say something beside it are the script's
 pub record Spells (text : List ℕ) (s : Script) : Type 0 where
   pub accepted : IsAccepted (parts_of text)
+  pub version : s.version ≡ version_of (parts_of text).said
   pub lines : script_lines s.declarations s.procedures ≡ filter says_something (parts_of text).said
 
 -- a text is refused: for want of memory, or for the first check that fails, on the lowest line

@@ -5,19 +5,21 @@ ghost use Rattle.std.specs.List.{AllZip};
 ghost use Rattle.lvish_syntax.specs.declared.script.Script.{Script};
 ghost use Rattle.lvish_checks.specs.Checks.{parts_of};
 ghost use Rattle.lvish_checks.specs.Spelling.{Agree};
-ghost use Rattle.lvish_script.specs.Spells.{Spells, script_lines};
+ghost use Rattle.lvish_script.specs.Spells.{Spells};
 ghost use Rattle.lvish_script.specs.Same.{IsSameProcedure};
-ghost use Rattle.lvish_script.specs.Canonical.{text_of, text_words, script_words};
+ghost use Rattle.lvish_script.specs.Canonical.{canonical_lines, text_of, text_words, script_words};
 
 /// The canonical text of each script spells that very script, where it isn't too long; and in any
 /// case its lines say the lines of the script, none of them blank.
 pub fn what_is_written_is_read()
-    ensures said { (s : Script) → (parts_of (text_of s)).said ≡ script_lines s.declarations s.procedures }
+    ensures said { (s : Script) → (parts_of (text_of s)).said ≡ canonical_lines s }
     ensures spells { (s : Script) → length (text_of s) ≤ 65536 → Spells (text_of s) s }
 {}
 
-/// Two scripts that one text spells have equal declarations, and the same procedures in order.
+/// Two scripts that one text spells have one version, equal declarations, and the same procedures in
+/// order.
 pub fn a_text_spells_one_script()
+    ensures version { (text : List ℕ) (s t : Script) → Spells text s → Spells text t → s.version ≡ t.version }
     ensures declarations { (text : List ℕ) (s t : Script) → Spells text s → Spells text t → s.declarations ≡ t.declarations }
     ensures procedures { (text : List ℕ) (s t : Script) → Spells text s → Spells text t → AllZip IsSameProcedure s.procedures t.procedures }
 {}

@@ -137,6 +137,7 @@ impl Draft {
         } = self;
         let opened = match line {
             Line::Blank => opened,
+            Line::Version => opened,
             Line::Bad => unreachable!(),
             Line::Declare(declaration) => {
                 declarations.push(declaration.into_inner())?;
@@ -165,7 +166,7 @@ impl Draft {
 fn says_something(line: &Line) -> bool
     ensures { result ≡ says_something line.now }
 {
-    !matches!(line, Line::Blank)
+    !matches!(line, Line::Blank | Line::Version)
 }
 
 /// The declarations and procedures with these lines.

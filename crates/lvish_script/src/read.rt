@@ -7,7 +7,8 @@ ghost use Rattle.lvish_script.specs.Spells.{Spells, IsRefused};
 
 use crate::nest::nest;
 use lvish_checks::{
-    Fault, Line, ScriptFault, first_bad_number, first_fault, line_of, lines_of, words_of,
+    Fault, Line, ScriptFault, first_bad_number, first_fault, line_of, lines_of, version_of,
+    words_of,
 };
 use lvish_syntax::Script;
 use std::alloc::{AllocError, Global};
@@ -52,11 +53,12 @@ pub fn read_script(alloc: Global, text: &[u8]) -> Result<Script, ScriptFault>
     let lines = lines_of(alloc, text)?;
     let lines = lines.as_slice();
     let (said, bad_number) = said(alloc, lines)?;
+    let version = version_of(said.as_slice());
     match first_fault(alloc, lines, bad_number, said.as_slice())? {
         Some(fault) => Err(fault),
         None => {
             let (declarations, procedures) = nest(alloc, said)?;
-            Ok(Script::of(declarations, procedures))
+            Ok(Script::of(version, declarations, procedures))
         }
     }
 }

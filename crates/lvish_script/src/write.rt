@@ -3,12 +3,25 @@ ghost use Rattle.std.specs.List.{flat_map};
 ghost use Rattle.lvish_syntax.specs.Nested.{statements};
 ghost use Rattle.lvish_checks.specs.declared.line.Line.TheVariants as line;
 ghost use Rattle.lvish_checks.specs.Spelling.{term_word};
-ghost use Rattle.lvish_script.specs.Spells.{statement_lines, body_lines, procedure_lines};
+ghost use Rattle.lvish_script.specs.Spells.{version_lines, statement_lines, body_lines, procedure_lines};
 ghost use Rattle.lvish_script.specs.Canonical.{joined, line_text, lines_text, text_of};
 
 use crate::write_line::{write_command, write_declaration, write_opening, write_proc};
-use lvish_syntax::{Block, Command, Declaration, Procedure, Script, Statement, Term};
+use lvish_syntax::{Block, Command, Declaration, Procedure, Script, Statement, Term, Version};
 use std::alloc::{AllocError, Global};
+
+/// The line of a version, if it has one.
+fn write_version(text: &mut String, version: Version) -> Result<(), AllocError>
+    ensures { OnOk result (string_bytes text.new ≡ string_bytes text.old ++ lines_text (version_lines version)) }
+{
+    match version {
+        Version::One => Ok(()),
+        Version::Two => {
+            text.push_str("lvish 2\n")?;
+            Ok(())
+        }
+    }
+}
 
 /// The line that opens a block.
 fn opening(alloc: Global, text: &mut String, first: &str, test: &Term) -> Result<(), AllocError>
@@ -113,13 +126,14 @@ fn write_procedures(
     Ok(())
 }
 
-/// The script in canonical form: its lines in order, words separated by one space, numbers in their
-/// shortest decimal form, each line ended by a line feed. Comments and blank lines are no part of a
-/// script.
+/// The script in canonical form: its lines in order, that of its version first, words separated by
+/// one space, numbers in their shortest decimal form, each line ended by a line feed. Comments and
+/// blank lines are no part of a script.
 pub fn write_script(alloc: Global, script: &Script) -> Result<String, AllocError>
     ensures { IfOk result (λ text. string_bytes text ≡ text_of script.now) }
 {
     let mut text = String::new(alloc);
+    write_version(&mut text, script.version())?;
     write_declarations(&mut text, script.declarations())?;
     write_procedures(alloc, &mut text, script.procedures())?;
     Ok(text)

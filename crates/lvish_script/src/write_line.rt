@@ -122,6 +122,10 @@ fn write_threshold(
             word(text, "least")?;
             term(alloc, text, least)
         }
+        Threshold::Total(total) => {
+            word(text, "total")?;
+            term(alloc, text, total)
+        }
     }
 }
 
@@ -223,6 +227,7 @@ pub fn write_declaration(text: &mut String, declaration: &Declaration) -> Result
             word(text, kind_text(*first))?;
             word(text, kind_text(*second))
         }
+        Declaration::Variable(name, VariableKind::Tally) => begin(text, "tally", name),
         Declaration::Pool(pool, variable) => begin_two(text, "pool", pool, variable),
     }
 }

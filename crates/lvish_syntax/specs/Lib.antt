@@ -3,4 +3,5 @@ pub mod Words
 pub mod Name
 pub mod Nested
 pub mod Written
+pub mod Version
 pub mod Sound

@@ -7,17 +7,19 @@ use Rattle.std.specs.Str.{bytes_eq}
 use Rattle.lvish_syntax.specs.Words.{Word}
 use Rattle.lvish_syntax.specs.Name.{has_name, has_repeat, is_known}
 use Rattle.lvish_syntax.specs.Written.{is_declaration_written, is_procedure_written}
+use Rattle.lvish_syntax.specs.Version.{is_declaration_in, is_procedure_in}
 use Rattle.lvish_syntax.specs.Nested.{statements, all_nested, all_depth}
+use Rattle.lvish_syntax.specs.declared.version.Version.{Version}
 use Rattle.lvish_syntax.specs.declared.kind.SimpleKind.{SimpleKind}
 use Rattle.lvish_syntax.specs.declared.kind.SimpleKind.TheVariants.{Cell, Set, Max}
 use Rattle.lvish_syntax.specs.declared.kind.VariableKind.{VariableKind}
-use Rattle.lvish_syntax.specs.declared.kind.VariableKind.TheVariants.{Simple, Map, Pair}
+use Rattle.lvish_syntax.specs.declared.kind.VariableKind.TheVariants.{Simple, Map, Pair, Tally}
 use Rattle.lvish_syntax.specs.declared.term.Term.{Term}
 use Rattle.lvish_syntax.specs.declared.term.Term.TheVariants.{Local, Number}
 use Rattle.lvish_syntax.specs.declared.value.Value.{Value}
 use Rattle.lvish_syntax.specs.declared.value.Value.TheVariants.{Same, Combined}
 use Rattle.lvish_syntax.specs.declared.threshold.Threshold.{Threshold}
-use Rattle.lvish_syntax.specs.declared.threshold.Threshold.TheVariants.{Any, In, Has, Least}
+use Rattle.lvish_syntax.specs.declared.threshold.Threshold.TheVariants.{Any, In, Has, Least, Total}
 use Rattle.lvish_syntax.specs.declared.declaration.Declaration.{Declaration}
 use Rattle.lvish_syntax.specs.declared.declaration.Declaration.TheVariants.{Variable, Pool}
 use Rattle.lvish_syntax.specs.declared.statement.Statement.{Statement}
@@ -107,11 +109,12 @@ abbrev pub side_kind : SimpleKind → SimpleKind → Term → Option SimpleKind
 side_kind a b (Local x) = None
 side_kind a b (Number z) = if int_eq z (pos 1) then Some a else if int_eq z (pos 2) then Some b else None
 
--- the kind of what a put or get on a variable is about, where it fits: the variable itself, a cell at a map's key, or a pair's side
+-- the kind of what a put or get on a variable is about, where it fits: the variable itself, a cell at a map's key, a pair's side, or a tally's amount at a key, which grows as a counter does
 abbrev pub kind_at : VariableKind → Option Term → Option SimpleKind
 kind_at (Simple k) None = Some k
 kind_at Map (Some t) = Some Cell
 kind_at (Pair a b) (Some t) = side_kind a b t
+kind_at Tally (Some t) = Some Max
 kind_at k at = None
 
 -- from 0 to 1,000
@@ -142,6 +145,21 @@ is_apart Set (In zs) = are_one zs
 is_apart Max (In zs) = are_one zs
 is_apart k r = true
 
+abbrev pub is_total : Threshold → Bool
+is_total (Total t) = true
+is_total r = false
+
+-- whether a threshold is one of a whole variable: a total of a tally, and of no other kind
+abbrev pub is_whole_read : VariableKind → Threshold → Bool
+is_whole_read (Simple k) r = is_of_kind k r
+is_whole_read Tally r = is_total r
+is_whole_read k r = false
+
+-- whether a threshold is one of what is read, a variable or what is at a place of it
+abbrev pub is_read_of : VariableKind → Option Term → Threshold → Bool
+is_read_of k None r = is_whole_read k r
+is_read_of k (Some t) r = option_map_or (λ s. is_of_kind s r) (kind_at k (Some t)) false
+
 -- ---- statements
 
 -- the kind of what is read or written, where the variable is declared and it fits
@@ -151,13 +169,22 @@ kind_there ds v at = option_map_or (λ k. kind_at k at) (kind_of v ds) None
 abbrev pub is_put_sound : List Declaration → Word → Option Term → Bool
 is_put_sound ds v at = is_some (kind_there ds v at)
 
+-- whether the threshold is one of what is read, where the variable is declared
+abbrev pub is_get_of_kind : List Declaration → Word → Option Term → Threshold → Bool
+is_get_of_kind ds v at r = option_map_or (λ k. is_read_of k at r) (kind_of v ds) false
+
+-- whether any two different members of the threshold are incompatible, where what is read has a simple kind; a total has no members
+abbrev pub is_get_apart : List Declaration → Word → Option Term → Threshold → Bool
+is_get_apart ds v at r = option_map_or (λ k. is_apart k r) (kind_there ds v at) true
+
 abbrev pub is_get_sound : List Declaration → Word → Option Term → Threshold → Bool
-is_get_sound ds v at r = option_map_or (λ k. is_of_kind k r && is_apart k r) (kind_there ds v at) false
+is_get_sound ds v at r = is_get_of_kind ds v at r && is_get_apart ds v at r
 
 -- whether what a threshold names is known
 abbrev pub is_threshold_known : List Word → Threshold → Bool
 is_threshold_known locals (Has t) = is_known locals t
 is_threshold_known locals (Least t) = is_known locals t
+is_threshold_known locals (Total t) = is_known locals t
 is_threshold_known locals r = true
 
 -- whether the terms of a value are known
@@ -197,8 +224,8 @@ are_sound ds ps locals ss = list_all (λ s. is_own_sound ds ps locals (out-State
 abbrev pub is_procedure_sound : List Declaration → List Procedure → Procedure → Bool
 is_procedure_sound ds ps p = are_sound ds ps (locals_of p) (statements p.body)
 
--- what holds of the declarations and procedures of every script
-pub record IsSound (ds : List Declaration) (ps : List Procedure) : Type 0 where
+-- what holds of the version, declarations and procedures of every script
+pub record IsSound (version : Version) (ds : List Declaration) (ps : List Procedure) : Type 0 where
   pub statements_sound : list_all (is_procedure_sound ds ps) ps ≡ true
   pub parameters_differ : list_any (λ p. has_repeat p.parameters) ps ≡ false
   pub variables_differ : has_repeat (variable_names ds) ≡ false
@@ -213,4 +240,6 @@ pub record IsSound (ds : List Declaration) (ps : List Procedure) : Type 0 where
   pub pools_follow : follow_variables [] ds ≡ true
   pub declarations_written : list_all is_declaration_written ds ≡ true
   pub procedures_written : list_all is_procedure_written ps ≡ true
+  pub declarations_versioned : list_all (is_declaration_in version) ds ≡ true
+  pub procedures_versioned : list_all (is_procedure_in version) ps ≡ true
   pub main_stands : list_any (takes (codes "main") 0) ps ≡ true

@@ -8,7 +8,7 @@ use Rattle.lvish_syntax.specs.declared.term.Term.TheVariants.{Local, Number}
 use Rattle.lvish_syntax.specs.declared.value.Value.{Value}
 use Rattle.lvish_syntax.specs.declared.value.Value.TheVariants.{Same, Combined}
 use Rattle.lvish_syntax.specs.declared.threshold.Threshold.{Threshold}
-use Rattle.lvish_syntax.specs.declared.threshold.Threshold.TheVariants.{Any, In, Has, Least}
+use Rattle.lvish_syntax.specs.declared.threshold.Threshold.TheVariants.{Any, In, Has, Least, Total}
 use Rattle.lvish_syntax.specs.declared.declaration.Declaration.{Declaration}
 use Rattle.lvish_syntax.specs.declared.declaration.Declaration.TheVariants.{Variable, Pool}
 use Rattle.lvish_syntax.specs.declared.command.Command.{Command}
@@ -42,6 +42,7 @@ is_threshold_written Any = true
 is_threshold_written (In zs) = are_members_written zs
 is_threshold_written (Has t) = is_term_written t
 is_threshold_written (Least t) = is_term_written t
+is_threshold_written (Total t) = is_term_written t
 
 abbrev pub is_command_written : Command → Bool
 is_command_written (Let x v) = is_name x && is_value_written v

@@ -15,13 +15,13 @@ pub enum Command {
     Let(Name, Value),
     /// `put`: puts the term's value into the variable, a cell, a set or a counter.
     Put(Name, Term),
-    /// `put`: puts the second term's value into the map, at the first one's value as key, or into
-    /// the pair's side with that number.
+    /// `put`: puts the second term's value into the map or the tally, at the first one's value as
+    /// key, or into the pair's side with that number.
     PutAt(Name, Term, Term),
     /// `get`: waits until the variable passes the threshold, and the local takes the answer: the
     /// local, then the variable.
     Get(Name, Name, Threshold),
-    /// `get` on a map at the term's value as key, or on a pair's side with that number.
+    /// `get` on a map or a tally at the term's value as key, or on a pair's side with that number.
     GetAt(Name, Name, Term, Threshold),
     /// `fork`: starts a task that runs the procedure on the values of the terms.
     Fork(Name, Terms),

@@ -18,4 +18,6 @@ pub enum VariableKind {
     Map,
     /// Two sides.
     Pair(SimpleKind, SimpleKind),
+    /// A tally: a map from numbers to amounts, which are from 1 to 1,000.
+    Tally,
 }

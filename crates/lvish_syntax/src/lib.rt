@@ -2,8 +2,8 @@
 //!
 //! A [`Script`] keeps by its type what is promised to those who run it: every name in it is
 //! declared, each statement fits the kind of its variable, counts of terms and parameters agree,
-//! and the tables are within their limits (`IsSound`). `lvish_script` reads scripts and writes
-//! them; this crate says what they are.
+//! the tables are within their limits, and all of it stands in its [`Version`] (`IsSound`).
+//! `lvish_script` reads scripts and writes them; this crate says what they are.
 //!
 //! ```text
 //! for procedure in script.procedures() {
@@ -28,6 +28,7 @@ mod term;
 mod terms;
 mod threshold;
 mod value;
+mod version;
 
 pub use command::Command;
 pub use declaration::{Declaration, Declarations};
@@ -43,3 +44,4 @@ pub use term::Term;
 pub use terms::Terms;
 pub use threshold::Threshold;
 pub use value::Value;
+pub use version::Version;

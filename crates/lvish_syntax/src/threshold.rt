@@ -15,6 +15,8 @@ pub enum Threshold {
     Has(Term),
     /// `least`: a counter that is at least the term's value.
     Least(Term),
+    /// `total`: a tally whose amounts come to at least the term's value.
+    Total(Term),
 }
 
 impl Threshold {
@@ -27,6 +29,7 @@ impl Threshold {
             Threshold::In(numbers) => Ok(Threshold::In(numbers.copy(alloc)?)),
             Threshold::Has(term) => Ok(Threshold::Has(term.copy(alloc)?)),
             Threshold::Least(term) => Ok(Threshold::Least(term.copy(alloc)?)),
+            Threshold::Total(term) => Ok(Threshold::Total(term.copy(alloc)?)),
         }
     }
 }

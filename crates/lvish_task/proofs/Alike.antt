@@ -21,10 +21,11 @@ use Rattle.lvish_calculus.specs.declared.request.Request.TheVariants as ask
 use Rattle.lvish_syntax.specs.Words.{Word}
 use Rattle.lvish_syntax.specs.Name.{has_name, has_repeat}
 use Rattle.lvish_syntax.specs.Nested.{statements}
-use Rattle.lvish_syntax.specs.Sound.{takes, locals_of, kind_of, kind_there, is_own_sound, is_command_sound, is_procedure_sound, are_sound}
+use Rattle.lvish_syntax.specs.Sound.{takes, locals_of, kind_of, kind_there, is_get_of_kind, is_own_sound, is_command_sound, is_procedure_sound, are_sound}
 use Rattle.lvish_syntax.specs.declared.procedure.Procedure.{Procedure}
 use Rattle.lvish_syntax.specs.declared.script.Script.{Script}
 use Rattle.lvish_syntax.specs.declared.term.Term.{Term}
+use Rattle.lvish_syntax.specs.declared.threshold.Threshold.{Threshold}
 use Rattle.lvish_syntax.specs.declared.command.Command.{Command}
 use Rattle.lvish_syntax.specs.declared.command.Command.TheVariants as command
 use Rattle.lvish_syntax.specs.declared.statement.Statement.{Statement}
@@ -55,7 +56,7 @@ use Rattle.lvish_task.specs.Pictures.{CallsAlike, PicturesFrame, PicturesAll, Pi
 use Rattle.lvish_task.specs.FitLaws.{list_all_get}
 use Rattle.lvish_task.proofs.Stored.{bound_at, stored_at, value_at, values_at, given_at, test_at}
 use Rattle.lvish_task.proofs.Inner.{rest_sound, first_sound, taken_sound, passed_sound}
-use Rattle.lvish_task.proofs.Places.{whole_alike, part_alike, got_there}
+use Rattle.lvish_task.proofs.Places.{whole_alike, part_alike, whole_got, part_got}
 
 none_get : {X : Type 0} (p : X → Bool) (xs : List X) (i : ℕ) (x : X) → list_any p xs ≡ false → slice_get xs i ≡ Some x → p x ≡ false
 none_get p [] i x h e = absurd cc
@@ -224,6 +225,12 @@ module _ (script : Script) (c : flat.Code) (is_code : compile.IsCodeOf script c)
     part_is : (v : Word) (t : Term) → is_some (kind_there script.declarations v (Some t)) ≡ true → m.place_in script v (Some (term_value a.values t)) ≡ Some (target_place g.values (part_of here (kind_in here v) t))
     part_is v t e = part_alike here g.values a.values (kind_of v script.declarations) t (value t) e ∙ ap (λ k. Some (target_place g.values (part_of here k t))) (sym (kind_is v))
 
+    whole_read : (v : Word) (r : Threshold) → is_get_of_kind script.declarations v None r ≡ true → m.place_in script v None ≡ Some (target_place g.values (whole_of (kind_in here v)))
+    whole_read v r e = whole_got g.values (kind_of v script.declarations) r e ∙ ap (λ k. Some (target_place g.values (whole_of k))) (sym (kind_is v))
+
+    part_read : (v : Word) (t : Term) (r : Threshold) → is_get_of_kind script.declarations v (Some t) r ≡ true → m.place_in script v (Some (term_value a.values t)) ≡ Some (target_place g.values (part_of here (kind_in here v) t))
+    part_read v t r e = part_got here g.values a.values (kind_of v script.declarations) t r (value t) e ∙ ap (λ k. Some (target_place g.values (part_of here k t))) (sym (kind_is v))
+
     -- a count of values
     known : (n : Word) (ts : List Term) → list_any (takes n (length ts)) script.procedures ≡ true → list_any (takes n (length (map (operand_value g.values) (map (operand_of here) ts)))) script.procedures ≡ true
     known n ts e = ap (λ k. list_any (takes n k) script.procedures) (length-map (map (operand_of here) ts) (operand_value g.values) ∙ length-map ts (operand_of here)) ∙ e
@@ -233,8 +240,8 @@ module _ (script : Script) (c : flat.Code) (is_code : compile.IsCodeOf script c)
       command_alike (command.Let x v) e = assigned_alike x rest below acts _ _ (given_at here g.values a.values pic.values v) (both _ _ e).0 follows sound all few
       command_alike (command.Put v t) e = puts_alike (m.variable script v) _ _ _ _ (whole_is v (both _ _ e).0) (value t)
       command_alike (command.PutAt v k t) e = puts_alike (m.variable script v) _ _ _ _ (part_is v k (both _ _ (both _ _ e).0).0) (value t)
-      command_alike (command.Get x v r) e = gets_alike (m.variable script v) _ _ _ _ (whole_is v (got_there r (kind_there script.declarations v None) (both _ _ (both _ _ e).0).1)) (test_at here g.values a.values pic.values r)
-      command_alike (command.GetAt x v k r) e = gets_alike (m.variable script v) _ _ _ _ (part_is v k (got_there r (kind_there script.declarations v (Some k)) (both _ _ (both _ _ (both _ _ e).0).0).1)) (test_at here g.values a.values pic.values r)
+      command_alike (command.Get x v r) e = gets_alike (m.variable script v) _ _ _ _ (whole_read v r (both _ _ (both _ _ (both _ _ e).0).1).0) (test_at here g.values a.values pic.values r)
+      command_alike (command.GetAt x v k r) e = gets_alike (m.variable script v) _ _ _ _ (part_read v k r (both _ _ (both _ _ (both _ _ (both _ _ e).0).0).1).0) (test_at here g.values a.values pic.values r)
       command_alike (command.Fork n ts) e =
           let xs = map (operand_value g.values) (map (operand_of here) ts) in
           subst (λ ys. Pictures script (f.started c (m.procedure script n) xs) (m.started script ys (m.named script n))) (terms ts) (started_pictures n xs (known n ts (both _ _ e).0))

@@ -1,14 +1,14 @@
 -- Where in a variable puts and gets are, in the statements and in the code.
-use Rattle.std.proofs.Common.{◌≡◌, ℤ, pos, Bool, true, false, ◌&&◌, Option, Some, None, refl, sym, ap}
+use Rattle.std.proofs.Common.{◌≡◌, ℤ, pos, Bool, true, false, Option, Some, None, refl, sym, ap}
 use Rattle.std.specs.Prelude.{if◌then◌else◌, option_and_then, is_some}
 use Rattle.std.specs.Option.{option_map_or}
 use Rattle.std.specs.Ordering.{int_eq}
 use Rattle.lvish_compound.specs.declared.place.Place.TheVariants as place
-use Rattle.lvish_syntax.specs.Sound.{kind_at, is_of_kind, is_apart}
+use Rattle.lvish_syntax.specs.Sound.{kind_at, is_of_kind, is_read_of}
 use Rattle.lvish_syntax.specs.Sound.{side_kind as kind_of_side}
 use Rattle.lvish_syntax.specs.declared.kind.SimpleKind.{SimpleKind}
 use Rattle.lvish_syntax.specs.declared.kind.VariableKind.{VariableKind}
-use Rattle.lvish_syntax.specs.declared.kind.VariableKind.TheVariants.{Simple, Map, Pair}
+use Rattle.lvish_syntax.specs.declared.kind.VariableKind.TheVariants.{Simple, Map, Pair, Tally}
 use Rattle.lvish_syntax.specs.declared.term.Term.{Term}
 use Rattle.lvish_syntax.specs.declared.term.Term.TheVariants.{Local, Number}
 use Rattle.lvish_syntax.specs.declared.threshold.Threshold.{Threshold}
@@ -26,6 +26,18 @@ whole_alike values None e = absurd cc
 whole_alike values (Some (Simple k)) e = refl
 whole_alike values (Some Map) e = absurd cc
 whole_alike values (Some (Pair a b)) e = absurd cc
+whole_alike values (Some Tally) e = absurd cc
+
+-- what a get waits for is read of a variable of this kind
+abbrev Got : Option VariableKind → Option Term → Threshold → Type 0
+Got o at r = option_map_or (λ k. is_read_of k at r) o false ≡ true
+
+pub whole_got : (values : _) (o : Option VariableKind) (r : Threshold) → Got o None r → option_and_then (λ k. place_of k None) o ≡ Some (target_place values (whole_of o))
+whole_got values None r e = absurd cc
+whole_got values (Some (Simple k)) r e = refl
+whole_got values (Some Map) r e = absurd cc
+whole_got values (Some (Pair a b)) r e = absurd cc
+whole_got values (Some Tally) r e = refl
 
 side_alike : (values : _) (a b : SimpleKind) (z : ℤ) → is_some (kind_of_side a b (Number z)) ≡ true → place_of (Pair a b) (Some z) ≡ Some (target_place values (side_of a b (Number z)))
 side_alike values a b z e = by (int_eq z (pos 1)) (int_eq z (pos 2)) e
@@ -41,8 +53,16 @@ part_alike names values f (Some (Simple k)) t h e = absurd cc
 part_alike names values f (Some Map) t h e = ap (λ n. Some (place.Key n)) (sym h)
 part_alike names values f (Some (Pair a b)) (Local x) h e = absurd cc
 part_alike names values f (Some (Pair a b)) (Number z) h e = side_alike values a b z e
+part_alike names values f (Some Tally) t h e = ap (λ n. Some (place.Amount n)) (sym h)
 
--- what is got is there
-pub got_there : (r : Threshold) (o : Option SimpleKind) → option_map_or (λ k. is_of_kind k r && is_apart k r) o false ≡ true → is_some o ≡ true
-got_there r None e = absurd cc
-got_there r (Some k) e = refl
+-- what is got at a place is there
+there : (r : Threshold) (o : Option SimpleKind) → option_map_or (λ k. is_of_kind k r) o false ≡ true → is_some o ≡ true
+there r None e = absurd cc
+there r (Some k) e = refl
+
+got_there : (o : Option VariableKind) (t : Term) (r : Threshold) → Got o (Some t) r → Fitted o (Some t)
+got_there None t r e = absurd cc
+got_there (Some k) t r e = there r (kind_at k (Some t)) e
+
+pub part_got : (names : Names) (values : _) (f : Values) (o : Option VariableKind) (t : Term) (r : Threshold) → operand_value values (operand_of names t) ≡ term_value f t → Got o (Some t) r → option_and_then (λ k. place_of k (Some (term_value f t))) o ≡ Some (target_place values (part_of names o t))
+part_got names values f o t r h e = part_alike names values f o t h (got_there o t r e)

@@ -13,7 +13,7 @@ use Rattle.lvish_syntax.specs.declared.term.Term.TheVariants.{Local, Number}
 use Rattle.lvish_syntax.specs.declared.value.Value.{Value}
 use Rattle.lvish_syntax.specs.declared.value.Value.TheVariants.{Same, Combined}
 use Rattle.lvish_syntax.specs.declared.threshold.Threshold.{Threshold}
-use Rattle.lvish_syntax.specs.declared.threshold.Threshold.TheVariants.{Any, In, Has, Least}
+use Rattle.lvish_syntax.specs.declared.threshold.Threshold.TheVariants.{Any, In, Has, Least, Total}
 use Rattle.lvish_code.specs.Numbering.{number_of}
 use Rattle.lvish_code.specs.Compile.{Names, operand_of, expression_of, wanted_of}
 use Rattle.lvish_code.proofs.Numbers.{place_below}
@@ -85,3 +85,4 @@ module _ (names : Names) (vs : List ℤ) (f : Values) (values : (y : Word) → s
   test_at (In ns) = refl
   test_at (Has t) = ap test.At (value_at t)
   test_at (Least t) = ap test.At (value_at t)
+  test_at (Total t) = ap test.At (value_at t)

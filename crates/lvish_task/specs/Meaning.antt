@@ -15,13 +15,13 @@ use Rattle.lvish_syntax.specs.Words.{Word}
 use Rattle.lvish_syntax.specs.Nested.{statements}
 use Rattle.lvish_syntax.specs.Sound.{variable_names, pool_names, procedure_names, kind_of}
 use Rattle.lvish_syntax.specs.declared.kind.VariableKind.{VariableKind}
-use Rattle.lvish_syntax.specs.declared.kind.VariableKind.TheVariants.{Simple, Map, Pair}
+use Rattle.lvish_syntax.specs.declared.kind.VariableKind.TheVariants.{Simple, Map, Pair, Tally}
 use Rattle.lvish_syntax.specs.declared.term.Term.{Term}
 use Rattle.lvish_syntax.specs.declared.term.Term.TheVariants.{Local, Number}
 use Rattle.lvish_syntax.specs.declared.value.Value.{Value}
 use Rattle.lvish_syntax.specs.declared.value.Value.TheVariants.{Same, Combined}
 use Rattle.lvish_syntax.specs.declared.threshold.Threshold.{Threshold}
-use Rattle.lvish_syntax.specs.declared.threshold.Threshold.TheVariants.{Any as AnyOf, In, Has, Least}
+use Rattle.lvish_syntax.specs.declared.threshold.Threshold.TheVariants.{Any as AnyOf, In, Has, Least, Total}
 use Rattle.lvish_syntax.specs.declared.declaration.Declaration.{Declaration}
 use Rattle.lvish_syntax.specs.declared.declaration.Declaration.TheVariants as line
 use Rattle.lvish_syntax.specs.declared.command.Command.{Command}
@@ -109,11 +109,13 @@ side_kind Cell = kind.Cell
 side_kind Set = kind.Set
 side_kind Max = kind.Max
 
--- where in a variable of this kind: at this key or side, where one is named
+-- where in a variable of this kind: at this key or side, where one is named; of a whole tally its total
 abbrev pub place_of : VariableKind → Option ℤ → Option Place
 place_of (Simple k) None = Some (whole_place k)
 place_of Map (Some key) = Some (place.Key key)
 place_of (Pair a b) (Some side) = if int_eq side (pos 1) then Some (place.Side 1 (side_kind a)) else if int_eq side (pos 2) then Some (place.Side 2 (side_kind b)) else None
+place_of Tally None = Some place.Total
+place_of Tally (Some key) = Some (place.Amount key)
 place_of k p = None
 
 -- what a get waits for
@@ -122,6 +124,7 @@ test_of values AnyOf = test.Any
 test_of values (In ns) = test.In ns
 test_of values (Has t) = test.At (term_value values t)
 test_of values (Least t) = test.At (term_value values t)
+test_of values (Total t) = test.At (term_value values t)
 
 -- ---- where a procedure begins
 
@@ -178,7 +181,7 @@ module _ (script : Script) where
   assigned values x ks below (Ok n) = Goes (quiet (with_value values x n) ks) below
   assigned values x ks below (Err k) = Asks (ask.Fault k)
 
-  -- a put of a state, or of a number that no counter has
+  -- a put of a state, or of a number that no counter and no amount has
   abbrev pub putting : ℕ → Option Any → Turn
   putting v (Some d) = Asks (ask.Put v d)
   putting v None = Asks (ask.Fault fault.Range)

@@ -15,6 +15,7 @@ use Rattle.lvish_compound.specs.declared.any_read.AnyRead.{AnyRead}
 use Rattle.lvish_compound.specs.declared.event.Event.{Event}
 use Rattle.lvish_compound.specs.declared.number_test.Test.{Test}
 use Rattle.lvish_compound.specs.declared.place.Place.{Place}
+use Rattle.lvish_compound.specs.declared.place.Place.TheVariants as place
 use Rattle.lvish_compound.specs.Places.{fits as fits_place, kind_at, IsApart}
 use Rattle.lvish_compound.specs.AnyReads.{Member}
 use Rattle.lvish_compound.specs.AnyReadLaws.{any_checked}
@@ -39,7 +40,7 @@ use Rattle.lvish_code.specs.declared.instruction.Instruction.{Instruction}
 use Rattle.lvish_code.specs.declared.instruction.Instruction.TheVariants.{Ask, Let, Call, SkipIfZero, BackUnlessZero, GoOn, Return}
 use Rattle.lvish_code.specs.declared.routine.Routine.{Routine}
 use Rattle.lvish_code.specs.declared.code.Code as flat
-use Rattle.lvish_code.specs.Sound.{takes, is_target_sound, is_wanted_sound, is_action_sound, is_instruction_sound, is_on, target_kind}
+use Rattle.lvish_code.specs.Sound.{takes, is_target_sound, is_wanted_of, is_wanted_sound, is_action_sound, is_instruction_sound, is_on, target_kind}
 use Rattle.lvish_task.specs.declared.frame.Frame.{Frame}
 use Rattle.lvish_task.specs.declared.stack.Stack.{Stack}
 use Rattle.lvish_task.specs.declared.code.Code.{Code}
@@ -134,7 +135,7 @@ read_checked p t r e h =
     let is = read_is p t (fits_place p t) refl r e in
     (any_checked r).0 (subst (λ q. IsApart (kind_at q) r.test) (sym is.0) (subst (λ u. IsApart (kind_at p) u) (sym is.1) h))
 
-apart_kind : (values : List ℤ) (k : SimpleKind) (n : ℕ) (w : Wanted) → is_wanted_sound k n w ≡ true → IsApart (side_kind k) (wanted_test values w)
+apart_kind : (values : List ℤ) (k : SimpleKind) (n : ℕ) (w : Wanted) → is_wanted_of k n w ≡ true → IsApart (side_kind k) (wanted_test values w)
 apart_kind values Cell n w e = tt
 apart_kind values Set n wanted.Any e = absurd cc
 apart_kind values Set n (wanted.In zs) e = one zs e
@@ -143,6 +144,11 @@ apart_kind values Max n wanted.Any e = absurd cc
 apart_kind values Max n (wanted.In zs) e = one zs (both _ _ e).1
 apart_kind values Max n (wanted.At a) e = tt
 
+apart_total : (values : List ℤ) (n : ℕ) (w : Wanted) → is_wanted_sound None n w ≡ true → IsApart (kind_at place.Total) (wanted_test values w)
+apart_total values n wanted.Any e = absurd cc
+apart_total values n (wanted.In zs) e = absurd cc
+apart_total values n (wanted.At a) e = tt
+
 apart_at : (values : List ℤ) (t : Target) (n : ℕ) (w : Wanted) → is_wanted_sound (target_kind t) n w ≡ true → IsApart (kind_at (target_place values t)) (wanted_test values w)
 apart_at values (target.Whole Cell) n w e = apart_kind values Cell n w e
 apart_at values (target.Whole Set) n w e = apart_kind values Set n w e
@@ -150,6 +156,8 @@ apart_at values (target.Whole Max) n w e = apart_kind values Max n w e
 apart_at values (target.Entry a) n w e = tt
 apart_at values (target.Side First k) n w e = apart_kind values k n w e
 apart_at values (target.Side Second k) n w e = apart_kind values k n w e
+apart_at values (target.Amount a) n w e = apart_kind values Max n w e
+apart_at values target.Total n w e = apart_total values n w e
 
 -- ---- what requests name
 
@@ -205,7 +213,7 @@ module _ (c : flat.Code) where
   on_there v (Some w) e = ap Some ((Decides-eqb _ _).0 e)
 
   action_there : (values : List ℤ) (n : ℕ) (a : Action) → is_action_sound c.kinds c.pools c.routines n a ≡ true → TurnThere (action_turn c values a)
-  action_there values n (Put v t o) e = putting_there v (put_at (target_place values t) (operand_value values o)) (kind_there v n t (slice_get c.kinds v) refl (both _ _ e).0)
+  action_there values n (Put v t o) e = putting_there v (put_at (target_place values t) (operand_value values o)) (kind_there v n t (slice_get c.kinds v) refl (both _ _ (both _ _ e).0).1)
   action_there values n (Get x v t w) e =
       let h = both (nat_lt x n && is_target_sound (slice_get c.kinds v) n t) (is_wanted_sound (target_kind t) n w) e in
       let k = both (nat_lt x n) (is_target_sound (slice_get c.kinds v) n t) h.0 in

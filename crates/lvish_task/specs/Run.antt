@@ -55,6 +55,8 @@ target_place values (target.Whole k) = whole_place k
 target_place values (target.Entry a) = place.Key (operand_value values a)
 target_place values (target.Side First k) = place.Side 1 (side_kind k)
 target_place values (target.Side Second k) = place.Side 2 (side_kind k)
+target_place values (target.Amount a) = place.Amount (operand_value values a)
+target_place values target.Total = place.Total
 
 -- what a get waits for
 abbrev pub wanted_test : List ℤ → Wanted → Test

@@ -70,6 +70,8 @@ pub fn place_of(values: &Values, target: Target) -> Place
         Target::Entry(key) => Place::Key(value_of(values, key)),
         Target::Side(Side::First, kind) => Place::Side(1, side_kind(kind)),
         Target::Side(Side::Second, kind) => Place::Side(2, side_kind(kind)),
+        Target::Amount(key) => Place::Amount(value_of(values, key)),
+        Target::Total => Place::Total,
     }
 }
 

@@ -5,7 +5,7 @@ use crate::code::Code;
 use crate::frame::Frame;
 use crate::local::Local;
 use lvish_calculus::{Asks, Program, Reply};
-use lvish_compound::{Any, AnyRead, Event, Kind};
+use lvish_compound::{Any, AnyRead, Event};
 use std::alloc::{AllocError, Global};
 
 impl Program for Code {
@@ -54,11 +54,10 @@ impl Program for Code {
     }
 
     ghost use Rattle.std.specs.Prelude.{refl};
-    ghost use Rattle.lvish_compound.specs.Kinds.{kinds_identical};
     ghost use Rattle.lvish_compound.specs.Events.{events_identical};
     ghost use Rattle.lvish_task.specs.ProgramLaws.{frame_identical, local_identical, code_is_program};
 
-    ghost identical = { local_identical ⟦<Frame as PartialEq>⟧.eq (frame_identical ⟦<Event as PartialEq>⟧.eq (events_identical ⟦<Kind as PartialEq>⟧.eq (kinds_identical _ refl refl refl refl refl refl refl refl refl refl refl refl) _ (λ d e. refl)) _ (λ a b. refl)) _ (λ a b. refl) };
+    ghost identical = { local_identical ⟦<Frame as PartialEq>⟧.eq (frame_identical ⟦<Event as PartialEq>⟧.eq (events_identical _ (λ d e. refl)) _ (λ a b. refl)) _ (λ a b. refl) };
 
     ghost lawful = { code_is_program };
 }

@@ -1,9 +1,9 @@
 ghost use Rattle.std.specs.Prelude.{◌≡◌, IfOk};
 ghost use Rattle.lvish_compound.specs.StateReads.{state_of};
-ghost use Rattle.lvish_compound.specs.States.{side};
+ghost use Rattle.lvish_compound.specs.States.{side, amount};
 ghost use Rattle.lvish_task.specs.States.{put_at, read_at, events_below};
 
-use lvish_compound::{Any, AnyRead, Event, Kind, Place, Test};
+use lvish_compound::{AmountFault, Any, AnyRead, Event, Kind, Place, Test};
 use lvish_lattice::Lattice;
 use std::alloc::{AllocError, Global};
 
@@ -19,6 +19,7 @@ fn state_of(alloc: Global, kind: Kind, n: i64) -> Result<Option<Any>, AllocError
             Err(_) => Ok(None),
         },
         Kind::Map => Ok(None),
+        Kind::Tally => Ok(None),
     }
 }
 
@@ -32,7 +33,19 @@ fn aside(number: u8, state: Any) -> Option<Any>
     }
 }
 
-/// What a put of a number joins at a place, `None` where it is no number of a counter.
+/// The tally of one key and its amount, `None` where no amount is this number.
+fn amount(alloc: Global, key: i64, n: i64) -> Result<Option<Any>, AllocError>
+    ensures { IfOk result (λ s. s ≡ amount key n) }
+{
+    match Any::amount(alloc, key, n) {
+        Ok(state) => Ok(Some(state)),
+        Err(AmountFault::Range) => Ok(None),
+        Err(AmountFault::Memory) => Err(AllocError),
+    }
+}
+
+/// What a put of a number joins at a place, `None` where no counter and no amount is this number. A
+/// total is only read.
 #[tactic(auto, unfolding(crate::specs::States::put_at))]
 pub fn put_at(alloc: Global, place: Place, n: i64) -> Result<Option<Any>, AllocError>
     ensures { IfOk result (λ s. s ≡ put_at place n) }
@@ -46,10 +59,12 @@ pub fn put_at(alloc: Global, place: Place, n: i64) -> Result<Option<Any>, AllocE
             Some(state) => Ok(aside(number, state)),
             None => Ok(None),
         },
+        Place::Amount(key) => amount(alloc, key, n),
+        Place::Total => Ok(None),
     }
 }
 
-/// The read of a place by a test, `None` where a number in it is none of a counter.
+/// The read of a place by a test, `None` where a number in it is none of what is read there.
 pub fn read_at(place: Place, test: Test) -> Option<AnyRead>
     ensures { result ≡ read_at place test }
 {

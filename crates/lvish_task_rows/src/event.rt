@@ -17,6 +17,7 @@ fn kind_of(word: &str) -> Option<Kind> {
         "set" => Some(Kind::Set),
         "max" => Some(Kind::Max),
         "map" => Some(Kind::Map),
+        "tally" => Some(Kind::Tally),
         _ => None,
     }
 }

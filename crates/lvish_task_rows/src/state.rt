@@ -1,15 +1,17 @@
 //! States of variables, from words and as text.
 
-use lvish_compound::{Any, Part};
+use lvish_compound::{AmountFault, Any, Part};
 use lvish_lattice::Lattice;
 use std::alloc::{AllocError, Global};
 
-/// The state that words spell: `empty`, `cell 7`, or `set 3 -2` with one element at least.
+/// The state that words spell: `empty`, `cell 7`, `set 3 -2` with one element at least, or a tally of
+/// one key and its amount, as `tally 5 2`.
 pub fn state_of(alloc: Global, words: &[&str]) -> Result<Option<Any>, AllocError> {
     match words {
         ["empty"] => Ok(Some(Any::Part(Part::Empty))),
         ["cell", number] => Ok(number.parse::<i64>().ok().map(Any::cell)),
         ["set", first, rest @ ..] => set_of(alloc, first, rest),
+        ["tally", key, amount] => tally_of(alloc, key, amount),
         _ => Ok(None),
     }
 }
@@ -18,6 +20,17 @@ fn set_of(alloc: Global, first: &str, rest: &[&str]) -> Result<Option<Any>, Allo
     match element(alloc, first)? {
         Some(state) => set_with(alloc, state, rest),
         None => Ok(None),
+    }
+}
+
+fn tally_of(alloc: Global, key: &str, amount: &str) -> Result<Option<Any>, AllocError> {
+    match (key.parse::<i64>(), amount.parse::<i64>()) {
+        (Ok(key), Ok(amount)) => match Any::amount(alloc, key, amount) {
+            Ok(state) => Ok(Some(state)),
+            Err(AmountFault::Range) => Ok(None),
+            Err(AmountFault::Memory) => Err(AllocError),
+        },
+        _ => Ok(None),
     }
 }
 
@@ -45,7 +58,7 @@ fn element(alloc: Global, word: &str) -> Result<Option<Any>, AllocError> {
     }
 }
 
-/// A state, as text: of a map its first entry alone.
+/// A state, as text: of a map its first entry alone, and of a tally its last.
 pub fn state_text(alloc: Global, state: &Any) -> Result<String, AllocError> {
     match state {
         Any::Part(part) => part_text(alloc, part),
@@ -55,6 +68,7 @@ pub fn state_text(alloc: Global, state: &Any) -> Result<String, AllocError> {
             format!(in alloc; "({one}, {two})")
         }
         Any::Map(_) => entry_text(alloc, state),
+        Any::Tally(_) => amount_text(alloc, state),
     }
 }
 
@@ -70,6 +84,15 @@ fn part_text(alloc: Global, part: &Part) -> Result<String, AllocError> {
 fn entry_text(alloc: Global, map: &Any) -> Result<String, AllocError> {
     let events = map.events(alloc)?;
     match events.first() {
+        Some(event) => format!(in alloc; "{}:{}", event.key, event.number),
+        None => String::from_str(alloc, "no entry"),
+    }
+}
+
+/// The last event of a tally: its greatest key, and the amount there.
+fn amount_text(alloc: Global, tally: &Any) -> Result<String, AllocError> {
+    let events = tally.events(alloc)?;
+    match events.last() {
         Some(event) => format!(in alloc; "{}:{}", event.key, event.number),
         None => String::from_str(alloc, "no entry"),
     }

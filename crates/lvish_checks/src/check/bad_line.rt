@@ -2,31 +2,45 @@ ghost use Rattle.std.specs.Prelude.{◌≡◌, List};
 ghost use Rattle.std.specs.List.{list_any};
 ghost use Rattle.lvish_checks.specs.declared.line.Line.{Line};
 ghost use Rattle.lvish_checks.specs.declared.fault.Fault.TheVariants.{BadLine};
-ghost use Rattle.lvish_checks.specs.Checks.{is_procedure, stands_badly, line_fails, on_line, IsFirstOn};
+ghost use Rattle.lvish_checks.specs.Checks.{is_procedure, is_told, is_out_of_place, stands_badly, line_fails, on_line, IsFirstOn};
 
 use crate::declared::is_procedure;
 use crate::line::Line;
+use crate::version::{is_line_in, is_told, version_of};
+use lvish_syntax::Version;
 
-fn stands_badly(begun: bool, line: &Line) -> bool
-    ensures { (before : List Line) → begun ≡ list_any is_procedure before → result ≡ stands_badly before line.now }
+/// Whether a line has none of the forms, or stands below one that it may not stand below: a line with
+/// words above the line of the version, or a procedure above a declaration.
+fn is_out_of_place(told: bool, begun: bool, line: &Line) -> bool
+    ensures { (before : List Line) → told ≡ list_any is_told before → begun ≡ list_any is_procedure before → result ≡ is_out_of_place before line.now }
 {
     match line {
         Line::Bad => true,
+        Line::Version => told,
         Line::Declare(_) => begun,
         _ => false,
     }
 }
 
-/// The first line that has none of the forms, or declares a variable or a pool below a procedure.
+fn stands_badly(version: Version, told: bool, begun: bool, line: &Line) -> bool
+    ensures { (before : List Line) → told ≡ list_any is_told before → begun ≡ list_any is_procedure before → result ≡ stands_badly version before line.now }
+{
+    is_out_of_place(told, begun, line) || !is_line_in(version, line)
+}
+
+/// The first line that has none of the forms of the version, or stands where it may not.
 pub fn first_bad_line(lines: &[Line]) -> Option<usize>
     ensures { IsFirstOn (on_line (line_fails BadLine lines.now) lines.now) result }
 {
+    let version = version_of(lines);
+    let mut told = false;
     let mut begun = false;
     for k in 0..lines.len() {
         let line = &lines[k];
-        if stands_badly(begun, line) {
+        if stands_badly(version, told, begun, line) {
             return Some(k + 1);
         }
+        told |= is_told(line);
         begun |= is_procedure(line);
     }
     None

@@ -13,7 +13,7 @@ fn is_misplaced(opened: &OpenBlocks, line: &Line) -> bool
         Line::Proc(_, _) => !opened.is_empty(),
         Line::Do(_) | Line::If(_) | Line::While(_) | Line::End => opened.is_empty(),
         Line::Else => !opened.takes_else(),
-        Line::Blank | Line::Bad | Line::Declare(_) => false,
+        Line::Blank | Line::Bad | Line::Version | Line::Declare(_) => false,
     }
 }
 

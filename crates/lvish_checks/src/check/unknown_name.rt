@@ -95,7 +95,9 @@ fn is_threshold_known(locals: &NameSet, threshold: &Threshold) -> bool
     ensures { (names : List Word) → HaveSameNames locals.now names → result ≡ is_threshold_known names threshold.now }
 {
     match threshold {
-        Threshold::Has(term) | Threshold::Least(term) => is_known(locals, term),
+        Threshold::Has(term) | Threshold::Least(term) | Threshold::Total(term) => {
+            is_known(locals, term)
+        }
         Threshold::Any | Threshold::In(_) => true,
     }
 }

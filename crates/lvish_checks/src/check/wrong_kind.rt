@@ -1,27 +1,14 @@
-ghost use Rattle.std.specs.Prelude.{◌≡◌, List, IfOk, false};
-ghost use Rattle.std.specs.Option.{option_map_or};
-ghost use Rattle.lvish_syntax.specs.Sound.{is_of_kind};
+ghost use Rattle.std.specs.Prelude.{◌≡◌, List, IfOk};
 ghost use Rattle.lvish_syntax.specs.declared.declaration.Declaration.{Declaration};
 ghost use Rattle.lvish_checks.specs.declared.line.Line.{Line};
 ghost use Rattle.lvish_checks.specs.declared.fault.Fault.TheVariants.{WrongKind};
 ghost use Rattle.lvish_checks.specs.Checks.{command_misfits, declarations, misfits, line_fails, on_line, IsFirstOn};
 ghost use Rattle.lvish_checks.specs.Known.{AreKinds, AreOfPools};
 
-use crate::fit::is_of_kind;
 use crate::kinds::{Kinds, kinds_of};
 use crate::line::Line;
-use lvish_syntax::{Command, SimpleKind, Threshold};
+use lvish_syntax::Command;
 use std::alloc::{AllocError, Global};
-
-/// Whether there is a kind, and the threshold is one of it.
-fn fits(kind: Option<SimpleKind>, threshold: &Threshold) -> bool
-    ensures { result ≡ option_map_or (λ k. is_of_kind k threshold.now) kind false }
-{
-    match kind {
-        Some(kind) => is_of_kind(kind, threshold),
-        None => false,
-    }
-}
 
 fn command_misfits(kinds: &Kinds, command: &Command) -> bool
     ensures { (ds : List Declaration) → AreKinds kinds.now.variables ds → AreOfPools kinds.now.pools ds → result ≡ command_misfits ds command.now }
@@ -29,9 +16,9 @@ fn command_misfits(kinds: &Kinds, command: &Command) -> bool
     match command {
         Command::Put(variable, _) => kinds.of_whole(variable).is_none(),
         Command::PutAt(variable, place, _) => kinds.of_place(variable, place).is_none(),
-        Command::Get(_, variable, threshold) => !fits(kinds.of_whole(variable), threshold),
+        Command::Get(_, variable, threshold) => !kinds.reads_whole(variable, threshold),
         Command::GetAt(_, variable, place, threshold) => {
-            !fits(kinds.of_place(variable, place), threshold)
+            !kinds.reads_at(variable, place, threshold)
         }
         Command::Freeze(_, variable, pools) | Command::FreezeEach(_, variable, pools, _) => {
             !kinds.are_pools_of(variable, pools.as_slice())

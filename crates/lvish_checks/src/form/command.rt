@@ -5,7 +5,7 @@ ghost use Rattle.lvish_syntax.specs.declared.term.Term.{Term};
 ghost use Rattle.lvish_syntax.specs.declared.command.Command.{Command};
 ghost use Rattle.lvish_syntax.specs.declared.command.Command.TheVariants.{Fork, Call};
 ghost use Rattle.lvish_checks.specs.declared.line.Line.TheVariants.{Do};
-ghost use Rattle.lvish_checks.specs.Form.{or_bad, value_of, let_line, put_of, put_line, get_of, get_line, run_line, handle_line, command_form};
+ghost use Rattle.lvish_checks.specs.Form.{or_bad, value_of, let_line, put_of, put_line, get_at, get_of, get_line, run_line, handle_line, command_form};
 
 use crate::boxed::Boxed;
 use crate::form::freeze::freeze_line;
@@ -128,6 +128,29 @@ fn put_line(alloc: Global, words: &[&[u8]]) -> Result<Line, AllocError>
     }
 }
 
+/// What waits for the place of a variable that the first word names.
+fn get_at(
+    alloc: Global,
+    local: Name,
+    variable: Name,
+    words: &[&[u8]],
+) -> Result<Option<Command>, AllocError>
+    ensures { IfOk result (λ c. c ≡ get_at local variable (map (λ w. w.now) words.now)) }
+{
+    match words {
+        [] => Ok(None),
+        [word, rest @ ..] => {
+            let Some(place) = term_of(alloc, word)? else {
+                return Ok(None);
+            };
+            match threshold_of(alloc, rest)? {
+                Some(threshold) => Ok(Some(Command::GetAt(local, variable, place, threshold))),
+                None => Ok(None),
+            }
+        }
+    }
+}
+
 /// What waits for a variable, or for the place of it that the first word may name.
 fn get_of(
     alloc: Global,
@@ -137,18 +160,9 @@ fn get_of(
 ) -> Result<Option<Command>, AllocError>
     ensures { IfOk result (λ c. c ≡ get_of local variable (map (λ w. w.now) words.now)) }
 {
-    match words {
-        [] => Ok(None),
-        [word, rest @ ..] => match term_of(alloc, word)? {
-            Some(place) => match threshold_of(alloc, rest)? {
-                Some(threshold) => Ok(Some(Command::GetAt(local, variable, place, threshold))),
-                None => Ok(None),
-            },
-            None => match threshold_of(alloc, words)? {
-                Some(threshold) => Ok(Some(Command::Get(local, variable, threshold))),
-                None => Ok(None),
-            },
-        },
+    match threshold_of(alloc, words)? {
+        Some(threshold) => Ok(Some(Command::Get(local, variable, threshold))),
+        None => get_at(alloc, local, variable, words),
     }
 }
 

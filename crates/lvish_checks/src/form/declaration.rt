@@ -118,6 +118,8 @@ pub fn declaration_form(alloc: Global, word: &[u8], rest: &[&[u8]]) -> Result<Li
         variable_line(alloc, VariableKind::Map, rest)
     } else if word == b"pair".as_slice() {
         pair_line(alloc, rest)
+    } else if word == b"tally".as_slice() {
+        variable_line(alloc, VariableKind::Tally, rest)
     } else if word == b"pool".as_slice() {
         pool_line(alloc, rest)
     } else if word == b"proc".as_slice() {

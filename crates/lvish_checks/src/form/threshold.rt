@@ -1,6 +1,6 @@
 ghost use Rattle.std.specs.Prelude.{◌≡◌, ◌==◌, IfOk, length, map, Option, None, if◌then◌else◌};
 ghost use Rattle.std.specs.Option.{option_map};
-ghost use Rattle.lvish_syntax.specs.declared.threshold.Threshold.TheVariants.{In, Has, Least};
+ghost use Rattle.lvish_syntax.specs.declared.threshold.Threshold.TheVariants.{In, Has, Least, Total};
 ghost use Rattle.lvish_checks.specs.Form.{only, numbers_of, term_of, threshold_after, threshold_of};
 
 use crate::form::term::{numbers_of, only_term};
@@ -40,6 +40,16 @@ fn least_of(alloc: Global, words: &[&[u8]]) -> Result<Option<Threshold>, AllocEr
     }
 }
 
+/// What stands after `total`: a term.
+fn total_of(alloc: Global, words: &[&[u8]]) -> Result<Option<Threshold>, AllocError>
+    ensures { IfOk result (λ r. r ≡ option_map (λ t. Total t) (only term_of (map (λ w. w.now) words.now))) }
+{
+    match only_term(alloc, words)? {
+        Some(term) => Ok(Some(Threshold::Total(term))),
+        None => Ok(None),
+    }
+}
+
 fn threshold_after(
     alloc: Global,
     word: &[u8],
@@ -58,6 +68,8 @@ fn threshold_after(
         has_of(alloc, rest)
     } else if word == b"least".as_slice() {
         least_of(alloc, rest)
+    } else if word == b"total".as_slice() {
+        total_of(alloc, rest)
     } else {
         Ok(None)
     }

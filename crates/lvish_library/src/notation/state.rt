@@ -1,12 +1,13 @@
-//! The states of a script's variables: the puts that make them, as `cell=5`, `map=1:5,map=2:7` or
-//! `1/cell=5,2/set=7`, and `_` without any. They are told as parts are, maps as `map=1:5,2:7`, and
-//! pairs as `cell=5|set=7`. Events have a key, a kind and a number, as `2:Set:7`. Reads have a place
-//! and a test, as `key/2=any`, `set=at4` or `1/cell=6,5`.
+//! The states of a script's variables: the puts that make them, as `cell=5`, `map=1:5,map=2:7`,
+//! `tally=1:5` or `1/cell=5,2/set=7`, and `_` without any. They are told as parts are, maps and
+//! tallies as `map=1:5,2:7` and `tally=1:5,2:7`, and pairs as `cell=5|set=7`. Events have a key, a
+//! kind and a number, as `2:Set:7`. Reads have a place and a test, as `key/2=any`, `set=at4`,
+//! `amount/2=at4`, `total=at9` or `1/cell=6,5`.
 
 use super::{Notation, ReadNotation};
 use crate::fault::Fault;
 use crate::words::{halves, integer, integers, items_of};
-use lvish_compound::{Any, AnyRead, Event, Kind, Place, Test};
+use lvish_compound::{Any, AnyRead, Event, Kind, Place, Tally, Test};
 use lvish_lattice::{Items, Lattice};
 use std::alloc::{AllocError, Global};
 use std::fmt::Write;
@@ -20,6 +21,10 @@ fn of_kind(alloc: Global, text: &str) -> Result<Any, Fault> {
         ("map", entry) => {
             let (key, value) = halves(entry, ':')?;
             Ok(Any::entry(alloc, integer(key)?, integer(value)?)?)
+        }
+        ("tally", entry) => {
+            let (key, amount) = halves(entry, ':')?;
+            Ok(Any::amount(alloc, integer(key)?, integer(amount)?)?)
         }
         _ => Err(Fault::Unreadable),
     }
@@ -41,6 +46,7 @@ pub fn kind(text: &str) -> Result<Kind, Fault> {
         "set" => Ok(Kind::Set),
         "max" => Ok(Kind::Max),
         "map" => Ok(Kind::Map),
+        "tally" => Ok(Kind::Tally),
         _ => Err(Fault::Unreadable),
     }
 }
@@ -50,10 +56,12 @@ fn place(text: &str) -> Result<Place, Fault> {
         "cell" => return Ok(Place::Cell),
         "set" => return Ok(Place::Set),
         "max" => return Ok(Place::Max),
+        "total" => return Ok(Place::Total),
         _ => (),
     }
     match halves(text, '/')? {
         ("key", number) => Ok(Place::Key(integer(number)?)),
+        ("amount", number) => Ok(Place::Amount(integer(number)?)),
         (side, of) => Ok(Place::Side(side.parse::<u8>()?, kind(of)?)),
     }
 }
@@ -66,6 +74,18 @@ fn test(alloc: Global, text: &str) -> Result<Test, Fault> {
         Some(number) => Ok(Test::At(integer(number)?)),
         None => Ok(Test::In(Items::new(integers(alloc, text)?))),
     }
+}
+
+/// The entries of a tally, with commas between them.
+fn write_tally(tally: &Tally, out: &mut String) -> Result<(), AllocError> {
+    out.push_str("tally=")?;
+    for (place, (key, amount)) in tally.entries().enumerate() {
+        if place > 0 {
+            out.push(',')?;
+        }
+        write!(out, "{}:{}", key, amount.get())?;
+    }
+    Ok(())
 }
 
 impl Notation for Any {
@@ -90,6 +110,7 @@ impl Notation for Any {
                 map.state().write_state(out)
             }
             Any::Sides(sides) => sides.pair().write_state(out),
+            Any::Tally(tally) => write_tally(tally.state(), out),
         }
     }
 

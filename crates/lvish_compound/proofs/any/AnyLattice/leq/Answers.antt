@@ -1,4 +1,4 @@
-use Rattle.lvish_compound.specs.StateCalls.{maps_leq, pairs_leq}
+use Rattle.lvish_compound.specs.StateCalls.{maps_leq, pairs_leq, tallies_leq}
 use Rattle.lvish_compound.proofs.any.AnyLattice.leq.Goals as goal
 
 pub returns-in-Map-Map : goal.returns-in-Map-Map
@@ -6,3 +6,6 @@ returns-in-Map-Map c = maps_leq c.leq-in-Map-Map.result _ _ _ _ _ _ c.in-Map-Map
 
 pub returns-in-Sides-Sides : goal.returns-in-Sides-Sides
 returns-in-Sides-Sides c = pairs_leq c.leq-in-Sides-Sides.result _ _ _ _ _ _ c.in-Sides-Sides.is-0 c.in-Sides-Sides.is-1 c.pair.ensures c.pair-in-Sides-Sides.ensures c.leq-in-Sides-Sides.ensures
+
+pub returns-in-Tally-Tally : goal.returns-in-Tally-Tally
+returns-in-Tally-Tally c = tallies_leq c.leq-in-Tally-Tally.result _ _ _ _ _ _ c.in-Tally-Tally.is-0 c.in-Tally-Tally.is-1 c.state-in-Tally-Tally.ensures c.state-in-Tally-Tally-2.ensures c.leq-in-Tally-Tally.ensures
