@@ -6,11 +6,11 @@
 //! table of words.
 #![tactic(auto)]
 
-mod order;
+mod element_order;
 mod states;
 
 use anyhow::{Context, Result, bail};
-use order::Order;
+use element_order::ElementOrder;
 use states::{grow_btree, grow_map, grow_set};
 use std::alloc::Global;
 use std::env;
@@ -30,26 +30,26 @@ fn main(rt: HostRuntime) -> ExitCode {
 
 fn run(rt: &HostRuntime) -> Result<()> {
     let words = env::args(rt)?.skip(1).collect::<Vec<String>>(rt.alloc())?;
-    let [kind, order, count] = words.as_slice() else {
+    let [kind, element_order, count] = words.as_slice() else {
         bail!(
             "three words are wanted: set, map or btree; ascending, descending or mixed; a number"
         );
     };
-    let order = Order::from_word(order.as_str()).context("no such order")?;
+    let element_order = ElementOrder::from_word(element_order.as_str()).context("no such order")?;
     let count = count.as_str().parse::<u32>().context("no such number")?;
     let begun = Instant::now(rt)?;
-    let len = grow(rt.alloc(), kind.as_str(), order, count)?;
+    let len = grow(rt.alloc(), kind.as_str(), element_order, count)?;
     let took = begun.elapsed(rt)?;
     rt.println(format_args!("{len} elements"))?;
     rt.eprintln(format_args!("{} us", took.as_micros()))?;
     Ok(())
 }
 
-fn grow(alloc: Global, kind: &str, order: Order, count: u32) -> Result<usize> {
+fn grow(alloc: Global, kind: &str, element_order: ElementOrder, count: u32) -> Result<usize> {
     match kind {
-        "set" => Ok(grow_set(alloc, order, count)?),
-        "map" => Ok(grow_map(alloc, order, count)?),
-        "btree" => Ok(grow_btree(alloc, order, count)?),
+        "set" => Ok(grow_set(alloc, element_order, count)?),
+        "map" => Ok(grow_map(alloc, element_order, count)?),
+        "btree" => Ok(grow_btree(alloc, element_order, count)?),
         _ => bail!("no such state"),
     }
 }

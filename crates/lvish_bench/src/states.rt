@@ -1,11 +1,11 @@
-use crate::order::Order;
+use crate::element_order::ElementOrder;
 use lvish_compound::MapOf;
 use lvish_lattice::{Flat, GrowSet, Lattice};
 use std::alloc::{AllocError, Global};
 use std::collections::BTreeSet;
 
-/// The size of a set to which so many elements were joined, one at a time.
-pub fn grow_set(alloc: Global, order: Order, count: u32) -> Result<usize, AllocError> {
+/// The size of a set to which this many elements were joined, one at a time.
+pub fn grow_set(alloc: Global, order: ElementOrder, count: u32) -> Result<usize, AllocError> {
     let mut set = GrowSet::new(alloc);
     for place in 0..count {
         let put = GrowSet::of(alloc, &[order.element(place)])?;
@@ -14,8 +14,8 @@ pub fn grow_set(alloc: Global, order: Order, count: u32) -> Result<usize, AllocE
     Ok(set.items().len())
 }
 
-/// The size of a map to which so many keys were joined, one at a time.
-pub fn grow_map(alloc: Global, order: Order, count: u32) -> Result<usize, AllocError> {
+/// The size of a map to which this many keys were joined, one at a time.
+pub fn grow_map(alloc: Global, order: ElementOrder, count: u32) -> Result<usize, AllocError> {
     let mut map = MapOf::new(alloc);
     for place in 0..count {
         let key = order.element(place);
@@ -25,8 +25,8 @@ pub fn grow_map(alloc: Global, order: Order, count: u32) -> Result<usize, AllocE
     Ok(map.entries().len())
 }
 
-/// The size of std's set into which so many elements were inserted.
-pub fn grow_btree(alloc: Global, order: Order, count: u32) -> Result<usize, AllocError> {
+/// The size of std's set into which this many elements were inserted.
+pub fn grow_btree(alloc: Global, order: ElementOrder, count: u32) -> Result<usize, AllocError> {
     let mut set = BTreeSet::new(alloc);
     for place in 0..count {
         set.insert(order.element(place))?;

@@ -1,13 +1,12 @@
 -- What is among lists, and lists in which nothing comes twice.
-use Rattle.std.proofs.Common.{◌≡◌, ◌⊎◌, inl, inr, ℕ, zero, suc, ◌<◌, List, [], ◌∷◌, ◌++◌, length, get_or, Contains, Ordering, sym, subst, arith, append_assoc}
-use Rattle.std.specs.declared.cmp.Ordering.TheVariants.{Less, Equal}
+use Rattle.std.proofs.Common.{◌≡◌, ◌⊎◌, inl, inr, ℕ, zero, suc, ◌<◌, List, [], ◌∷◌, ◌++◌, length, map, get_or, Contains, Ordering, refl, sym, ap, subst, arith, append_assoc, Less}
 use Rattle.std.specs.Cmp.{IsTotalOrder}
 use Rattle.std.specs.List.{AllByRecursion}
 use Rattle.std.specs.List.Sorted.{IsStrictlySortedBy, IsPermutation}
 use Rattle.std.proofs.lemmas.List.Sorted.{Contains-permutation}
 use Rattle.std.proofs.lemmas.Cmp.{tied_itself}
 use Rattle.lvish_calculus.specs.Handing.{IsAmong, NoRepeats}
-use Rattle.lvish_core.proofs.Listing.{among_first}
+use Rattle.lvish_core.specs.laws.Lists.{among_first}
 
 module _ {X : Type 0} where
   -- in two lists with one more between them
@@ -78,14 +77,26 @@ module _ {X : Type 0} where
   pub among_permuted : (x : X) (xs ys : List X) → IsPermutation xs ys → IsAmong x xs → IsAmong x ys
   among_permuted x xs ys p i = among_contains x ys (Contains-permutation xs ys x p (contains_among x xs i))
 
+  pub all_among : (Q : X → Type 0) (xs : List X) → AllByRecursion Q xs → (x : X) → IsAmong x xs → Q x
+  all_among Q [] a x i = absurd i
+  all_among Q (y ∷ ys) a x (inl e) = subst Q (sym e) a.0
+  all_among Q (y ∷ ys) a x (inr i) = all_among Q ys a.1 x i
+
+-- an element's value is among the values, and a value is that of an element
+module _ {X Y : Type 0} (f : X → Y) where
+  pub among_map : (x : X) (xs : List X) → IsAmong x xs → IsAmong (f x) (map f xs)
+  among_map x [] i = absurd i
+  among_map x (y ∷ ys) (inl e) = inl (ap f e)
+  among_map x (y ∷ ys) (inr i) = inr (among_map x ys i)
+
+  pub of_map : (y : Y) (xs : List X) → IsAmong y (map f xs) → (x : X) × IsAmong x xs × (f x ≡ y)
+  of_map y [] i = absurd i
+  of_map y (x ∷ xs) (inl e) = (x, inl refl, sym e)
+  of_map y (x ∷ xs) (inr i) = let r = of_map y xs i in (r.0, inr r.1, r.2)
+
 module _ {X : Type 0} {cmp : X → X → Ordering} (o : IsTotalOrder cmp) where
   not_above : (x : X) (xs : List X) → AllByRecursion (λ y. cmp x y ≡ Less) xs → IsAmong x xs → ⊥
-  not_above x [] a i = i
-  not_above x (y ∷ ys) a (inl e) =
-      let less : cmp x x ≡ Less = subst (λ z. cmp x z ≡ Less) (sym e) a.0 in
-      let equal : cmp x x ≡ Equal = tied_itself o x in
-      absurd cc
-  not_above x (y ∷ ys) a (inr i) = not_above x ys a.1 i
+  not_above x xs a i = let less = all_among (λ y. cmp x y ≡ Less) xs a x i in let equal = tied_itself o x in absurd cc
 
   -- what ascends doesn't repeat
   pub once_ascending : (xs : List X) → IsStrictlySortedBy cmp xs → NoRepeats xs

@@ -1,107 +1,49 @@
 -- The handlers that a task's step concerns, over any machine.
-use Rattle.std.proofs.Common.{◌≡◌, ◌↔◌, inl, inr, ◌+◌, ◌≤◌, ℕ, suc, Bool, true, false, List, [], ◌∷◌, ◌++◌, length, map, drop, Option, Some, None, Ordering, slice_get, refl, sym, ap, subst, ◌∙◌, arith, append-nil, length-append}
-use Rattle.std.specs.Prelude.{if◌then◌else◌, nat_eq, option_map}
-use Rattle.std.specs.declared.cmp.Ordering.TheVariants.{Less}
-use Rattle.std.specs.List.{AllByRecursion}
+use Rattle.std.proofs.Common.{◌≡◌, ◌↔◌, inl, inr, ◌+◌, ◌≤◌, ℕ, suc, Bool, true, false, List, [], ◌∷◌, ◌++◌, length, map, drop, Option, Some, None, Ordering, slice_get, refl, sym, ap, subst, ◌∙◌, arith, append-nil, length-append, if◌then◌else◌, nat_eq, option_map}
 use Rattle.std.specs.List.Sorted.{IsStrictlySortedBy}
 use Rattle.std.proofs.Math.Seq.{drop-append_seam}
 use Rattle.std.proofs.lemmas.Option.{slice_get_cases, slice_get_within}
 use Rattle.lvish_names.specs.NameOrder.{handler_cmp}
 use Rattle.lvish_lattice.specs.Lattice.{fresh_of}
 use Rattle.lvish_calculus.specs.declared.label.Label.{Label}
-use Rattle.lvish_calculus.specs.declared.label.Label.TheVariants.{Task as Act}
+use Rattle.lvish_calculus.specs.declared.label.Label.TheVariants.{Act}
 use Rattle.lvish_calculus.specs.declared.request.Request.{Request}
 use Rattle.lvish_calculus.specs.declared.request.Request.TheVariants.{Put, Get, Fork, Add, Freeze, Pause, End}
 use Rattle.lvish_calculus.specs.Machine.{Machine, IsLawful}
-use Rattle.lvish_calculus.specs.Calculus.{Name, Handler, Task, Absent, Live, Ended, Post, State, Configuration, Running, Error, Change, Outcome, Changes, Fails, Nothing, CanStep, after, outcome}
+use Rattle.lvish_calculus.specs.Calculus.{Task, Live, Ended, Post, State, Configuration, Running, Error, Change, Effect, Changes, Fails, Nothing, CanStep, after, effect}
+use Rattle.lvish_names.specs.Names.{Name, Handler}
 use Rattle.lvish_calculus.specs.Handing.{IsAmong}
 use Rattle.lvish_calculus.proofs.Names.{nat_eq-true}
 use Rattle.lvish_calculus.proofs.Runs.{nothing}
 use Rattle.lvish_calculus.proofs.Steps.{Makes, puts, gets, forks, adds, freezes, pauses, ends, hands, view}
 use Rattle.lvish_variable.specs.declared.entry.Entry.{Entry}
-use Rattle.lvish_variable.specs.Variable.{View as Variable, entries}
+use Rattle.lvish_variable.specs.Variable.{VariableView as Variable, entries}
 use Rattle.lvish_picture.proofs.Slots.{contained, among}
 use Rattle.lvish_handlers.specs.declared.held.Held.{Held}
 use Rattle.lvish_core.specs.declared.fault.Stepped.TheVariants.{Done as DoneStep}
 use Rattle.lvish_core.specs.declared.touched.Touched.{Touched}
-use Rattle.lvish_core.specs.declared.touched.Touched.TheVariants.{Put as Touches, Handed, Ended as EndedIn, Other}
-use Rattle.lvish_core.specs.Core.{View, IsStep, state}
-use Rattle.lvish_core.specs.Changes.{local_of, moved_in, brought, brings, put_brings, task_touches, touched_in, touching}
+use Rattle.lvish_core.specs.declared.touched.Touched.TheVariants.{Put as Touches, Ended as EndedIn}
+use Rattle.lvish_core.specs.Core.{CoreView, IsRunTo, IsStep, state}
+use Rattle.lvish_core.specs.declared.moved.Moved.{Moved}
+use Rattle.lvish_core.specs.Changes.{IsMoved, local_of, moved_in, brought, brings, put_brings, task_touches, touched_in, touching}
 use Rattle.lvish_core.specs.Reads.{AreHandlers, IsHeldAs}
-use Rattle.lvish_core.proofs.Goes.{at_state}
-use Rattle.lvish_core.proofs.Listing.{all_always}
-use Rattle.lvish_board.specs.Listed.{Concerns, by_handing, by_adding, by_putting, HasNext}
-use Rattle.lvish_board.specs.Left.{AreConcerned, AreThose, IsLogged, candidates, fresh_in, log_from, listed, most_added}
+use Rattle.lvish_core.specs.laws.Runs.{at_state}
+use Rattle.lvish_board.specs.Listed.{Concerns, by_handing, by_adding, by_putting}
+use Rattle.lvish_board.specs.Left.{AreConcerned, IsLogged, candidates, fresh_in, log_from, option_list, most_added}
+use Rattle.lvish_board.proofs.Among.{among_map, of_map}
+use Rattle.lvish_board.proofs.Blocked.{IsMade}
 use Rattle.lvish_board.proofs.Steps.{done_none, begins_well, stepped_from}
-
--- ---- those of a list
-
-module _ {X : Type 0} (P : X → Type 0) where
-  -- just those that P holds of
-  pub those_are : (xs those : List X) → AreThose P xs those → (x : X) → IsAmong x those ↔ (P x × IsAmong x xs)
-  those_are [] those none x = (λ i. (absurd (subst (λ ys. IsAmong x ys) none i), subst (λ ys. IsAmong x ys) none i), λ h. absurd h.1)
-  those_are (y ∷ ys) those (inl z) x =
-      let rest = those_are ys z.0 z.3 x in (
-        λ i. elim (subst (λ zs. IsAmong x zs) z.1 i) [
-          | inl e ↦ (subst P (sym e) z.2, inl e)
-          | inr j ↦ ((rest.0 j).0, inr (rest.0 j).1)
-        ],
-        λ h. subst (λ zs. IsAmong x zs) (sym z.1) (elim h.1 [
-          | inl e ↦ inl e
-          | inr j ↦ inr (rest.1 (h.0, j))
-        ]),
-      )
-  those_are (y ∷ ys) those (inr z) x =
-      let rest = those_are ys those z.1 x in (
-        λ i. ((rest.0 i).0, inr (rest.0 i).1),
-        λ h. elim h.1 [
-          | inl e ↦ absurd (z.0 (subst P e h.0))
-          | inr j ↦ rest.1 (h.0, j)
-        ],
-      )
-
-  all_among : (Q : X → Type 0) (xs : List X) → AllByRecursion Q xs → (x : X) → IsAmong x xs → Q x
-  all_among Q [] a x i = absurd i
-  all_among Q (y ∷ ys) a x (inl e) = subst Q (sym e) a.0
-  all_among Q (y ∷ ys) a x (inr i) = all_among Q ys a.1 x i
-
-  -- in the order of the list
-  pub those_sorted : (cmp : X → X → Ordering) (xs those : List X) → AreThose P xs those → IsStrictlySortedBy cmp xs → IsStrictlySortedBy cmp those
-  unfolding IsStrictlySortedBy
-  those_sorted cmp [] those none s = subst (λ ys. IsStrictlySortedBy cmp ys) (sym none) tt
-  those_sorted cmp (y ∷ ys) those (inl z) s =
-      let first : AllByRecursion (λ w. cmp y w ≡ Less) z.0 = all_always (λ w. cmp y w ≡ Less) z.0 (λ w i. all_among (λ v. cmp y v ≡ Less) ys s.0 w ((those_are ys z.0 z.3 w).0 i).1) in
-      subst (λ zs. IsStrictlySortedBy cmp zs) (sym z.1) (first, those_sorted cmp ys z.0 z.3 s.1)
-  those_sorted cmp (y ∷ ys) those (inr z) s = those_sorted cmp ys those z.1 s.1
-
-pub nothing_sorted : {X : Type 0} (cmp : X → X → Ordering) → IsStrictlySortedBy cmp []
-unfolding IsStrictlySortedBy
-nothing_sorted cmp = tt
-
-pub one_sorted : {X : Type 0} (cmp : X → X → Ordering) (x : X) → IsStrictlySortedBy cmp (x ∷ [])
-unfolding IsStrictlySortedBy
-one_sorted cmp x = (tt, tt)
-
--- an element's value is among the values
-among_map : {X Y : Type 0} (f : X → Y) (x : X) (xs : List X) → IsAmong x xs → IsAmong (f x) (map f xs)
-among_map f x [] i = absurd i
-among_map f x (y ∷ ys) (inl e) = inl (ap f e)
-among_map f x (y ∷ ys) (inr i) = inr (among_map f x ys i)
-
-among_names : {E : Type 0} (held : List (Held E)) (h : Handler E) → IsAmong h (map (λ k. k.name) held) → (k : Held E) × IsAmong k held × (k.name ≡ h)
-among_names [] h i = absurd i
-among_names (k ∷ ks) h (inl e) = (k, inl refl, sym e)
-among_names (k ∷ ks) h (inr i) = let r = among_names ks h i in (r.0, inr r.1, r.2)
+use Rattle.lvish_board.proofs.Those.{nothing_sorted, one_sorted}
 
 -- ---- what a done step of a task tells
 
 -- what the change of a task's step is by its request, beside the handlers that the request may concern
-data Told {P S E R A L : Type 0} (cmp : E → E → Ordering) (M : Machine S E R A L) (c : View P S E L) (handlers : List (Handler E)) (logged : ℕ) (q : Request S R L) (ch : Change S E L) : Type 0 where
+data Told {P S E R A L : Type 0} (cmp : E → E → Ordering) (M : Machine S E R A L) (c : CoreView P S E L) (handlers : List (Handler E)) (logged : ℕ) (q : Request S R L) (ch : Change S E L) : Type 0 where
   put : (v : ℕ) (d : S) → ch.joined ≡ Some (v, d) → ch.added ≡ None → AreConcerned cmp M c (Put v d) handlers logged → Told cmp M c handlers logged q ch
   add : (h : Handler E) (post : Post) → ch.joined ≡ None → ch.added ≡ Some (h, post) → handlers ≡ [] → most_added q ≡ 1 → Told cmp M c handlers logged q ch
   other : ch.joined ≡ None → ch.added ≡ None → handlers ≡ [] → Told cmp M c handlers logged q ch
 
-module _ {P S E R A L : Type 0} (cmp : E → E → Ordering) (M : Machine S E R A L) (c : View P S E L) (handlers : List (Handler E)) (logged : ℕ) where
+module _ {P S E R A L : Type 0} (cmp : E → E → Ordering) (M : Machine S E R A L) (c : CoreView P S E L) (handlers : List (Handler E)) (logged : ℕ) where
   same_local : (k : Task L) (o from : L) (f a p : ℕ) → k ≡ Live o f a p → local_of k ≡ Some from → o ≡ from
   same_local k o from f a p is at = let e : Some o ≡ Some from = sym (ap local_of is) ∙ at in cc
 
@@ -127,7 +69,7 @@ module _ {P S E R A L : Type 0} (cmp : E → E → Ordering) (M : Machine S E R 
 
 -- ---- what a step concerns, where it is no put
 
-abbrev IsNoPut : Touched → Type 0
+abbrev pub IsNoPut : Touched → Type 0
 IsNoPut x = (v : ℕ) → x ≡ Touches v → ⊥
 
 ends_no_put : (o : Option ℕ) → IsNoPut (touching (λ w. EndedIn w) o)
@@ -135,34 +77,23 @@ ends_no_put None v e = cc
 ends_no_put (Some w) v e = cc
 
 no_put : {S E R A L : Type 0} (M : Machine S E R A L) (s : State S E L) (own : Option (Name E × Task L)) → IsNoPut (touched_in M s None own)
-no_put M s None v e = cc
-no_put M s (Some (u, Live l f a p)) v e = cc
-no_put M s (Some (u, Absent)) v e = cc
 no_put M s (Some (u, Ended)) v e = ends_no_put _ v e
+no_put M s own v e = cc
 
-none_fresh : {S E : Type 0} (variables : List (Variable S E)) (logged : ℕ) (x : Touched) → IsNoPut x → fresh_in variables logged (Some x) ≡ []
+-- it brings no entries
+pub none_fresh : {S E : Type 0} (variables : List (Variable S E)) (logged : ℕ) (x : Touched) → IsNoPut x → (fresh_in variables logged (Some x) ≡ []) × IsLogged variables logged (Some x)
 none_fresh variables logged (Touches v) never = absurd (never v refl)
-none_fresh variables logged (Handed v) never = refl
-none_fresh variables logged (EndedIn v) never = refl
-none_fresh variables logged Other never = refl
-
-none_logged : {S E : Type 0} (variables : List (Variable S E)) (logged : ℕ) (x : Touched) → IsNoPut x → IsLogged variables logged (Some x)
-none_logged variables logged (Touches v) never = absurd (never v refl)
-none_logged variables logged (Handed v) never = tt
-none_logged variables logged (EndedIn v) never = tt
-none_logged variables logged Other never = tt
+none_fresh variables logged x never = (refl, tt)
 
 -- a put brings nothing to another variable
 put_other : {S E R A L : Type 0} (M : Machine S E R A L) (s : State S E L) (v u : ℕ) (d : S) (own : Option (Name E × Task L)) → nat_eq v u ≡ false → put_brings M s v (Some (u, d)) own ≡ []
-put_other M s v u d None e = refl
-put_other M s v u d (Some (w, Absent)) e = refl
-put_other M s v u d (Some (w, Ended)) e = refl
 put_other M s v u d (Some (w, Live l f a p)) e = ap (λ b. if b then entries w p (fresh_of M.join M.event_same M.events (s.content v) d) else []) e
+put_other M s v u d own e = refl
 
-module _ {P S E R A L : Type 0} (cmp : E → E → Ordering) (M : Machine S E R A L) (ok : IsLawful M) (c d : View P S E L) (t : Name E) (from : L) (handlers : List (Handler E)) (logged : ℕ) (step : IsStep M c (Act t) d DoneStep)
-    (at : local_of ((state M c).tasks t) ≡ Some from) (con : AreConcerned cmp M c (M.request from) handlers logged) where
-  abbrev done : Outcome S E L
-  done = outcome M (state M c) (Act t)
+module _ {P S E R A L : Type 0} (cmp : E → E → Ordering) (M : Machine S E R A L) (ok : IsLawful M) (c d : CoreView P S E L) (t : Name E) (from : L) (handlers : List (Handler E)) (logged : ℕ) (step : IsStep M c (Act t) d DoneStep)
+    (at : local_of ((state M c).tasks t) ≡ Some from) (con : AreConcerned cmp M c (M.request from) handlers logged) (long : length c.table.variables ≡ length d.table.variables) where
+  abbrev done : Effect S E L
+  done = effect M (state M c) (Act t)
 
   none : d.fault ≡ None
   none = done_none M c d (Act t) step
@@ -177,7 +108,7 @@ module _ {P S E R A L : Type 0} (cmp : E → E → Ordering) (M : Machine S E R 
   change : (ch : Change S E L) × (done ≡ Changes ch)
   change = by done refl
     where
-      by : (o : Outcome S E L) → done ≡ o → (ch : Change S E L) × (done ≡ Changes ch)
+      by : (o : Effect S E L) → done ≡ o → (ch : Change S E L) × (done ≡ Changes ch)
       by (Changes ch) e = (ch, e)
       by (Fails k v u) e = absurd (let z : Running (state M d) ≡ Error k v u = goes ∙ ap (after M (state M c)) e in let y : ⊥ = cc in y)
       by Nothing e = absurd (nothing M ok (state M c) (Act t) enabled e)
@@ -199,150 +130,142 @@ module _ {P S E R A L : Type 0} (cmp : E → E → Ordering) (M : Machine S E R 
   quiet : change.0.joined ≡ None → (fresh_in d.table.variables logged d.touched ≡ []) × IsLogged d.table.variables logged d.touched × ((v : ℕ) → d.touched ≡ Some (Touches v) → ⊥)
   quiet none_joined =
       let told_so : d.touched ≡ Some (touched_in M (state M c) None change.0.own) = touched_is ∙ ap (λ o. Some (touched_in M (state M c) o change.0.own)) none_joined in
-      let never = no_put M (state M c) change.0.own in (
-        subst (λ o. fresh_in d.table.variables logged o ≡ []) (sym told_so) (none_fresh d.table.variables logged _ never),
-        subst (λ o. IsLogged d.table.variables logged o) (sym told_so) (none_logged d.table.variables logged _ never),
-        λ v e. (let z : Some (touched_in M (state M c) None change.0.own) ≡ Some (Touches v) = sym told_so ∙ e in let y : touched_in M (state M c) None change.0.own ≡ Touches v = cc in never v y),
-      )
+      let never = no_put M (state M c) change.0.own in
+      let none = subst (λ o. (fresh_in d.table.variables logged o ≡ []) × IsLogged d.table.variables logged o) (sym told_so) (none_fresh d.table.variables logged _ never) in
+      (none.0, none.1, λ v e. (let z : Some (touched_in M (state M c) None change.0.own) ≡ Some (Touches v) = sym told_so ∙ e in let y : touched_in M (state M c) None change.0.own ≡ Touches v = cc in never v y))
 
   nothing_brought : change.0.joined ≡ None → (v : ℕ) → brought M (state M c) (Act t) v ≡ []
   nothing_brought none_joined v = brought_is v ∙ ap (λ o. put_brings M (state M c) v o change.0.own) none_joined
 
-  module _ (n : ℕ) (size : length c.table.variables ≡ n) (size_after : length d.table.variables ≡ n) where
-    touches : (u : ℕ) (q : S) → change.0.joined ≡ Some (u, q) → d.touched ≡ Some (Touches u)
-    touches u q j = touched_is ∙ ap (λ o. Some (touched_in M (state M c) o change.0.own)) j
+  touches : (u : ℕ) (q : S) → change.0.joined ≡ Some (u, q) → d.touched ≡ Some (Touches u)
+  touches u q j = touched_is ∙ ap (λ o. Some (touched_in M (state M c) o change.0.own)) j
 
-    -- the entries after those of before are what a put brought
-    put_fresh : (u : ℕ) (x : Variable S E) → slice_get c.table.variables u ≡ Some x → logged ≡ length x.log → d.touched ≡ Some (Touches u)
-        → (fresh_in d.table.variables logged d.touched ≡ brought M (state M c) (Act t) u) × IsLogged d.table.variables logged d.touched
-    put_fresh u x there count at_u = elim ((slice_get_cases d.table.variables u).1) [
-      | inl y ↦
-          let grown : y.0.log ≡ x.log ++ brought M (state M c) (Act t) u = step.logs u x y.0 there y.2 in
-          let rest : drop logged y.0.log ≡ brought M (state M c) (Act t) u = ap (λ k. drop k y.0.log) count ∙ ap (λ l. drop (length x.log) l) grown ∙ drop-append_seam x.log (brought M (state M c) (Act t) u) in
-          let long : length y.0.log ≡ length x.log + length (brought M (state M c) (Act t) u) = ap length grown ∙ length-append x.log (brought M (state M c) (Act t) u) in (
-            ap (λ o. fresh_in d.table.variables logged o) at_u ∙ ap (λ o. log_from logged o) y.2 ∙ rest,
-            subst (λ o. IsLogged d.table.variables logged o) (sym at_u) (y.0, y.2, omega (arith, count, long)),
-          )
-      | inr out ↦ absurd (let inside = slice_get_within c.table.variables u x there in omega (arith, inside, out.0, size, size_after))
-    ]
+  -- the entries after those of before are what a put brought
+  put_fresh : (u : ℕ) (x : Variable S E) → slice_get c.table.variables u ≡ Some x → logged ≡ length x.log → d.touched ≡ Some (Touches u)
+      → (fresh_in d.table.variables logged d.touched ≡ brought M (state M c) (Act t) u) × IsLogged d.table.variables logged d.touched
+  put_fresh u x there count at_u = elim ((slice_get_cases d.table.variables u).1) [
+    | inl y ↦
+        let grown : y.0.log ≡ x.log ++ brought M (state M c) (Act t) u = step.logs u x y.0 there y.2 in
+        let rest : drop logged y.0.log ≡ brought M (state M c) (Act t) u = ap (λ k. drop k y.0.log) count ∙ ap (λ l. drop (length x.log) l) grown ∙ drop-append_seam x.log (brought M (state M c) (Act t) u) in
+        let more : length y.0.log ≡ length x.log + length (brought M (state M c) (Act t) u) = ap length grown ∙ length-append x.log (brought M (state M c) (Act t) u) in (
+          ap (λ o. fresh_in d.table.variables logged o) at_u ∙ ap (λ o. log_from logged o) y.2 ∙ rest,
+          subst (λ o. IsLogged d.table.variables logged o) (sym at_u) (y.0, y.2, omega (arith, count, more)),
+        )
+    | inr out ↦ absurd (let inside = slice_get_within c.table.variables u x there in omega (arith, inside, out.0, long))
+  ]
 
-    pub is_logged : IsLogged d.table.variables logged d.touched
-    is_logged = elim tells [
-      | put v q j a k ↦ (put_fresh v k.4.0 k.4.1 k.4.2 (touches v q j)).1
-      | add h post j a nobody most ↦ (quiet j).1
-      | other j a nobody ↦ (quiet j).1
-    ]
+  is_logged : IsLogged d.table.variables logged d.touched
+  is_logged = elim tells [
+    | put v q j a k ↦ (put_fresh v k.4.0 k.4.1 k.4.2 (touches v q j)).1
+    | add h post j a nobody most ↦ (quiet j).1
+    | other j a nobody ↦ (quiet j).1
+  ]
 
-    pub fresh_is : (v : ℕ) → d.touched ≡ Some (Touches v) → fresh_in d.table.variables logged d.touched ≡ brought M (state M c) (Act t) v
-    fresh_is v e = elim tells [
-      | put u q j a k ↦
-          let both : Some (Touches u) ≡ Some (Touches v) = sym (touches u q j) ∙ e in
-          let same : u ≡ v = cc in
-          (put_fresh u k.4.0 k.4.1 k.4.2 (touches u q j)).0 ∙ ap (brought M (state M c) (Act t)) same
-      | add h post j a nobody most ↦ absurd ((quiet j).2 v e)
-      | other j a nobody ↦ absurd ((quiet j).2 v e)
-    ]
+  fresh_is : (v : ℕ) → d.touched ≡ Some (Touches v) → fresh_in d.table.variables logged d.touched ≡ brought M (state M c) (Act t) v
+  fresh_is v e = elim tells [
+    | put u q j a k ↦
+        let both : Some (Touches u) ≡ Some (Touches v) = sym (touches u q j) ∙ e in
+        let same : u ≡ v = cc in
+        (put_fresh u k.4.0 k.4.1 k.4.2 (touches u q j)).0 ∙ ap (brought M (state M c) (Act t)) same
+    | add h post j a nobody most ↦ absurd ((quiet j).2 v e)
+    | other j a nobody ↦ absurd ((quiet j).2 v e)
+  ]
 
-    -- where a put brought something, it was to its variable
-    put_there : (u v : ℕ) (q : S) → change.0.joined ≡ Some (u, q) → (brought M (state M c) (Act t) v ≡ [] → ⊥) → v ≡ u
-    put_there u v q j some = by (nat_eq v u) refl
-      where
-        by : (b : Bool) → nat_eq v u ≡ b → v ≡ u
-        by true e = nat_eq-true v u e
-        by false e = absurd (some (brought_is v ∙ ap (λ o. put_brings M (state M c) v o change.0.own) j ∙ put_other M (state M c) v u q change.0.own e))
+  -- where a put brought something, it was to its variable
+  put_there : (u v : ℕ) (q : S) → change.0.joined ≡ Some (u, q) → (brought M (state M c) (Act t) v ≡ [] → ⊥) → v ≡ u
+  put_there u v q j some = by (nat_eq v u) refl
+    where
+      by : (b : Bool) → nat_eq v u ≡ b → v ≡ u
+      by true e = nat_eq-true v u e
+      by false e = absurd (some (brought_is v ∙ ap (λ o. put_brings M (state M c) v o change.0.own) j ∙ put_other M (state M c) v u q change.0.own e))
 
-    put_concerns : (u : ℕ) (q : S) (held : List (Held E)) → change.0.joined ≡ Some (u, q) → change.0.added ≡ None → AreHandlers M c u held → handlers ≡ map (λ k. k.name) held
-        → (es : List (Entry E)) → es ≡ brought M (state M c) (Act t) u → (h : Handler E) → IsAmong h (candidates es handlers None) ↔ Concerns M c (Act t) h
-    put_concerns u q held j a are named [] none_here h = (
-      λ i. absurd i,
-      λ k. elim k [
-        | by_handing e same ↦ (let z : ⊥ = cc in z)
-        | by_adding added ↦ (let z : None ≡ Some h = sym (added_is ∙ ap (λ o. option_map (λ x. x.0) o) a) ∙ added in let y : ⊥ = cc in y)
-        | by_putting v on some ↦ some (ap (brought M (state M c) (Act t)) (put_there u v q j some) ∙ sym none_here)
-      ],
-    )
-    put_concerns u q held j a are named (x ∷ xs) here h = (
-      λ i.
-          let k = among_names held h (subst (λ hs. IsAmong h hs) (append-nil handlers ∙ named) i) in
-          let seat : IsHeldAs held h (record { pool = k.0.pool; procedure = k.0.procedure }) = record { handler = k.0; there = contained held k.0 k.1; named = k.2; pool = refl; procedure = refl } in
-          let on = (are.just h (record { pool = k.0.pool; procedure = k.0.procedure })).0 seat in
-          by_putting u (record { post = record { pool = k.0.pool; procedure = k.0.procedure }; is = on.0; of = on.1 }) (λ e. (let z : x ∷ xs ≡ [] = here ∙ e in let y : ⊥ = cc in y)),
-      λ k. elim k [
-        | by_handing e same ↦ absurd (let z : ⊥ = cc in z)
-        | by_adding added ↦ absurd (let z : None ≡ Some h = sym (added_is ∙ ap (λ o. option_map (λ y. y.0) o) a) ∙ added in let y : ⊥ = cc in y)
-        | by_putting v on some ↦
-            let same : v ≡ u = put_there u v q j some in
-            let seat = (are.just h on.post).1 (on.is, subst (λ w. M.pool_variable on.post.pool ≡ Some w) same on.of) in
-            let i : IsAmong h (map (λ y. y.name) held) = subst (λ g. IsAmong g (map (λ y. y.name) held)) seat.named (among_map (λ (y : Held E). y.name) seat.handler held (among held seat.handler seat.there)) in
-            subst (λ hs. IsAmong h hs) (sym (append-nil handlers ∙ named)) i
-      ],
-    )
+  put_concerns : (u : ℕ) (q : S) (held : List (Held E)) → change.0.joined ≡ Some (u, q) → change.0.added ≡ None → AreHandlers M c u held → handlers ≡ map (λ k. k.name) held
+      → (es : List (Entry E)) → es ≡ brought M (state M c) (Act t) u → (h : Handler E) → IsAmong h (candidates es handlers None) ↔ Concerns M c (Act t) h
+  put_concerns u q held j a are named [] none_here h = (
+    λ i. absurd i,
+    λ k. elim k [
+      | by_handing e same ↦ (let z : ⊥ = cc in z)
+      | by_adding added ↦ (let z : None ≡ Some h = sym (added_is ∙ ap (λ o. option_map (λ x. x.0) o) a) ∙ added in let y : ⊥ = cc in y)
+      | by_putting v on some ↦ some (ap (brought M (state M c) (Act t)) (put_there u v q j some) ∙ sym none_here)
+    ],
+  )
+  put_concerns u q held j a are named (x ∷ xs) here h = (
+    λ i.
+        let k = of_map (λ (y : Held E). y.name) h held (subst (λ hs. IsAmong h hs) (append-nil handlers ∙ named) i) in
+        let seat : IsHeldAs held h (record { pool = k.0.pool; procedure = k.0.procedure }) = record { handler = k.0; there = contained held k.0 k.1; named = k.2; pool = refl; procedure = refl } in
+        let on = (are.just h (record { pool = k.0.pool; procedure = k.0.procedure })).0 seat in
+        by_putting u (record { post = record { pool = k.0.pool; procedure = k.0.procedure }; is = on.0; of = on.1 }) (λ e. (let z : x ∷ xs ≡ [] = here ∙ e in let y : ⊥ = cc in y)),
+    λ k. elim k [
+      | by_handing e same ↦ absurd (let z : ⊥ = cc in z)
+      | by_adding added ↦ absurd (let z : None ≡ Some h = sym (added_is ∙ ap (λ o. option_map (λ y. y.0) o) a) ∙ added in let y : ⊥ = cc in y)
+      | by_putting v on some ↦
+          let same : v ≡ u = put_there u v q j some in
+          let seat = (are.just h on.post).1 (on.is, subst (λ w. M.pool_variable on.post.pool ≡ Some w) same on.of) in
+          let i : IsAmong h (map (λ y. y.name) held) = subst (λ g. IsAmong g (map (λ y. y.name) held)) seat.named (among_map (λ (y : Held E). y.name) seat.handler held (among held seat.handler seat.there)) in
+          subst (λ hs. IsAmong h hs) (sym (append-nil handlers ∙ named)) i
+    ],
+  )
 
-    quiet_concerns : change.0.joined ≡ None → (added : Option (Handler E)) → added ≡ (moved_in done).added → (h : Handler E) → IsAmong h (listed added) ↔ Concerns M c (Act t) h
-    quiet_concerns j None same h = (
-      λ i. absurd i,
-      λ k. elim k [
-        | by_handing e z ↦ (let y : ⊥ = cc in y)
-        | by_adding added ↦ (let z : None ≡ Some h = same ∙ added in let y : ⊥ = cc in y)
-        | by_putting v on some ↦ some (nothing_brought j v)
-      ],
-    )
-    quiet_concerns j (Some g) same h = (
-      λ i. elim i [
-        | inl e ↦ by_adding (sym same ∙ ap (λ x. Some x) (sym e))
-        | inr z ↦ absurd z
-      ],
-      λ k. elim k [
-        | by_handing e z ↦ absurd (let y : ⊥ = cc in y)
-        | by_adding added ↦ inl (let z : Some g ≡ Some h = same ∙ added in let y : h ≡ g = cc in y)
-        | by_putting v on some ↦ absurd (some (nothing_brought j v))
-      ],
-    )
+  quiet_concerns : change.0.joined ≡ None → (added : Option (Handler E)) → added ≡ (moved_in done).added → (h : Handler E) → IsAmong h (option_list added) ↔ Concerns M c (Act t) h
+  quiet_concerns j None same h = (
+    λ i. absurd i,
+    λ k. elim k [
+      | by_handing e z ↦ (let y : ⊥ = cc in y)
+      | by_adding added ↦ (let z : None ≡ Some h = same ∙ added in let y : ⊥ = cc in y)
+      | by_putting v on some ↦ some (nothing_brought j v)
+    ],
+  )
+  quiet_concerns j (Some g) same h = (
+    λ i. elim i [
+      | inl e ↦ by_adding (sym same ∙ ap (λ x. Some x) (sym e))
+      | inr z ↦ absurd z
+    ],
+    λ k. elim k [
+      | by_handing e z ↦ absurd (let y : ⊥ = cc in y)
+      | by_adding added ↦ inl (let z : Some g ≡ Some h = same ∙ added in let y : h ≡ g = cc in y)
+      | by_putting v on some ↦ absurd (some (nothing_brought j v))
+    ],
+  )
 
-    listed_sorted : (added : Option (Handler E)) → IsStrictlySortedBy (handler_cmp cmp) (listed added)
-    listed_sorted None = nothing_sorted (handler_cmp cmp)
-    listed_sorted (Some h) = one_sorted (handler_cmp cmp) h
+  listed_sorted : (added : Option (Handler E)) → IsStrictlySortedBy (handler_cmp cmp) (option_list added)
+  listed_sorted None = nothing_sorted (handler_cmp cmp)
+  listed_sorted (Some h) = one_sorted (handler_cmp cmp) h
 
-    -- just the candidates are concerned, and they are by name
-    concerned : (added : Option (Handler E)) → added ≡ (moved_in done).added
-        → ((h : Handler E) → IsAmong h (candidates (fresh_in d.table.variables logged d.touched) handlers added) ↔ Concerns M c (Act t) h) × IsStrictlySortedBy (handler_cmp cmp) (candidates (fresh_in d.table.variables logged d.touched) handlers added)
-    concerned added same = elim tells [
-      | put u q j a k ↦
-          let nobody : added ≡ None = same ∙ added_is ∙ ap (λ o. option_map (λ x. x.0) o) a in
-          subst (λ (o : Option (Handler E)). ((h : Handler E) → IsAmong h (candidates (fresh_in d.table.variables logged d.touched) handlers o) ↔ Concerns M c (Act t) h) × IsStrictlySortedBy (handler_cmp cmp) (candidates (fresh_in d.table.variables logged d.touched) handlers o)) (sym nobody) (
-            λ h. put_concerns u q k.0 j a k.1 k.3 (fresh_in d.table.variables logged d.touched) (put_fresh u k.4.0 k.4.1 k.4.2 (touches u q j)).0 h,
-            sorted (fresh_in d.table.variables logged d.touched) (subst (λ hs. IsStrictlySortedBy (handler_cmp cmp) hs) (sym k.3) k.2),
-          )
-      | add g post j a nobody most ↦ quietly j nobody
-      | other j a nobody ↦ quietly j nobody
-    ]
-      where
-        sorted : (es : List (Entry E)) → IsStrictlySortedBy (handler_cmp cmp) handlers → IsStrictlySortedBy (handler_cmp cmp) (candidates es handlers None)
-        sorted [] s = nothing_sorted (handler_cmp cmp)
-        sorted (x ∷ xs) s = subst (λ hs. IsStrictlySortedBy (handler_cmp cmp) hs) (sym (append-nil handlers)) s
+  -- just the candidates are concerned, and they are by name
+  concerned : (added : Option (Handler E)) → added ≡ (moved_in done).added
+      → ((h : Handler E) → IsAmong h (candidates (fresh_in d.table.variables logged d.touched) handlers added) ↔ Concerns M c (Act t) h) × IsStrictlySortedBy (handler_cmp cmp) (candidates (fresh_in d.table.variables logged d.touched) handlers added)
+  concerned added same = elim tells [
+    | put u q j a k ↦
+        let nobody : added ≡ None = same ∙ added_is ∙ ap (λ o. option_map (λ x. x.0) o) a in
+        subst (λ (o : Option (Handler E)). ((h : Handler E) → IsAmong h (candidates (fresh_in d.table.variables logged d.touched) handlers o) ↔ Concerns M c (Act t) h) × IsStrictlySortedBy (handler_cmp cmp) (candidates (fresh_in d.table.variables logged d.touched) handlers o)) (sym nobody) (
+          λ h. put_concerns u q k.0 j a k.1 k.3 (fresh_in d.table.variables logged d.touched) (put_fresh u k.4.0 k.4.1 k.4.2 (touches u q j)).0 h,
+          sorted (fresh_in d.table.variables logged d.touched) (subst (λ hs. IsStrictlySortedBy (handler_cmp cmp) hs) (sym k.3) k.2),
+        )
+    | add g post j a nobody most ↦ quietly j nobody
+    | other j a nobody ↦ quietly j nobody
+  ]
+    where
+      sorted : (es : List (Entry E)) → IsStrictlySortedBy (handler_cmp cmp) handlers → IsStrictlySortedBy (handler_cmp cmp) (candidates es handlers None)
+      sorted [] s = nothing_sorted (handler_cmp cmp)
+      sorted (x ∷ xs) s = subst (λ hs. IsStrictlySortedBy (handler_cmp cmp) hs) (sym (append-nil handlers)) s
 
-        quietly : change.0.joined ≡ None → handlers ≡ []
-            → ((h : Handler E) → IsAmong h (candidates (fresh_in d.table.variables logged d.touched) handlers added) ↔ Concerns M c (Act t) h) × IsStrictlySortedBy (handler_cmp cmp) (candidates (fresh_in d.table.variables logged d.touched) handlers added)
-        quietly j empty =
-            let only : listed added ≡ candidates (fresh_in d.table.variables logged d.touched) handlers added = sym (ap (λ es. candidates es handlers added) (quiet j).0) in
-            subst (λ hs. ((h : Handler E) → IsAmong h hs ↔ Concerns M c (Act t) h) × IsStrictlySortedBy (handler_cmp cmp) hs) only (λ h. quiet_concerns j added same h, listed_sorted added)
+      quietly : change.0.joined ≡ None → handlers ≡ []
+          → ((h : Handler E) → IsAmong h (candidates (fresh_in d.table.variables logged d.touched) handlers added) ↔ Concerns M c (Act t) h) × IsStrictlySortedBy (handler_cmp cmp) (candidates (fresh_in d.table.variables logged d.touched) handlers added)
+      quietly j empty =
+          let only : option_list added ≡ candidates (fresh_in d.table.variables logged d.touched) handlers added = sym (ap (λ es. candidates es handlers added) (quiet j).0) in
+          subst (λ hs. ((h : Handler E) → IsAmong h hs ↔ Concerns M c (Act t) h) × IsStrictlySortedBy (handler_cmp cmp) hs) only (λ h. quiet_concerns j added same h, listed_sorted added)
 
-    module _ (added : Option (Handler E)) (same : added ≡ (moved_in done).added) (hand : List (Handler E)) (those : AreThose (λ h. HasNext M d h) (candidates (fresh_in d.table.variables logged d.touched) handlers added) hand) where
-      -- those of them with something left are what the step concerned and has something left
-      pub hands_are : (h : Handler E) → IsAmong h hand ↔ (HasNext M d h × Concerns M c (Act t) h)
-      hands_are h =
-          let a = those_are (λ h. HasNext M d h) (candidates (fresh_in d.table.variables logged d.touched) handlers added) hand those h in
-          let k = (concerned added same).0 h in
-          (λ i. ((a.0 i).0, k.0 (a.0 i).1), λ z. a.1 (z.0, k.1 z.1))
+  -- what the board knows of the step
+  pub act_made : (labels : List (Label E)) → IsRunTo M c labels → (moved : Moved E L) → IsMoved M (state M c) (Act t) moved → (added : Option (Handler E)) → added ≡ moved.added → IsMade M cmp c (Act t) d logged handlers added moved
+  act_made labels leads moved is_moved added same =
+      let who = concerned added (same ∙ ap (λ m. m.added) is_moved) in
+      record { labels = labels; leads = leads; step = step; told = is_moved; long = long; is_logged = is_logged; fresh = fresh_is; concerned = who.0; by_name = who.1 }
 
-      pub hands_by_name : IsStrictlySortedBy (handler_cmp cmp) hand
-      hands_by_name = those_sorted (λ h. HasNext M d h) (handler_cmp cmp) (candidates (fresh_in d.table.variables logged d.touched) handlers added) hand those (concerned added same).1
-
-    -- no more is added than there is room for
-    pub few_added : (added : Option (Handler E)) → added ≡ (moved_in done).added → length (listed added) ≤ most_added (M.request from)
-    few_added None same = omega arith
-    few_added (Some h) same = elim tells [
-      | put u q j a k ↦ absurd (let z : Some h ≡ None = same ∙ added_is ∙ ap (λ o. option_map (λ x. x.0) o) a in let y : ⊥ = cc in y)
-      | add g post j a nobody most ↦ omega (arith, most)
-      | other j a nobody ↦ absurd (let z : Some h ≡ None = same ∙ added_is ∙ ap (λ o. option_map (λ x. x.0) o) a in let y : ⊥ = cc in y)
-    ]
+  -- no more is added than there is room for
+  pub few_added : (added : Option (Handler E)) → added ≡ (moved_in done).added → length (option_list added) ≤ most_added (M.request from)
+  few_added None same = omega arith
+  few_added (Some h) same = elim tells [
+    | put u q j a k ↦ absurd (let z : Some h ≡ None = same ∙ added_is ∙ ap (λ o. option_map (λ x. x.0) o) a in let y : ⊥ = cc in y)
+    | add g post j a nobody most ↦ omega (arith, most)
+    | other j a nobody ↦ absurd (let z : Some h ≡ None = same ∙ added_is ∙ ap (λ o. option_map (λ x. x.0) o) a in let y : ⊥ = cc in y)
+  ]

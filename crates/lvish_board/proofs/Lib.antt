@@ -13,5 +13,4 @@ mod Opening
 pub mod Sweeping
 pub mod Those
 pub mod Waking
-pub mod Wakened
 pub mod Woken

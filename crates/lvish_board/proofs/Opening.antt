@@ -3,19 +3,20 @@ use Rattle.std.proofs.Common.{◌≡◌, ◌≤◌, ℕ, List, [], length, Optio
 use Rattle.lvish_calculus.specs.Machine.{Machine}
 use Rattle.lvish_calculus.specs.Calculus.{Running, State, start}
 use Rattle.lvish_calculus.specs.Handing.{IsAmong, NoRepeats}
-use Rattle.lvish_core.specs.declared.fault.Fault.{Fault}
-use Rattle.lvish_core.specs.Core.{View, IsBegun, IsRunTo, at_fault, state}
-use Rattle.lvish_board.specs.declared.entry.Entry.{Entry}
-use Rattle.lvish_board.specs.Place.{Place}
-use Rattle.lvish_board.specs.Standing.{IsBlocked, IsSound, labels_of, tasks_of}
+use Rattle.lvish_core.specs.declared.fault.RunError.{RunError}
+use Rattle.lvish_core.specs.declared.limits.TheConstants.{MOST_STEPS}
+use Rattle.lvish_core.specs.Core.{CoreView, IsBegun, IsRunTo, at_fault, state}
+use Rattle.lvish_board.specs.declared.trace_entry.TraceEntry.{TraceEntry}
+use Rattle.lvish_board.specs.Place.{TaskPlace}
+use Rattle.lvish_board.specs.Standing.{IsBlocked, IsBoardSound, labels_of, tasks_of}
 
-unfailed : {S E L : Type 0} (s r : State S E L) (o : Option (Fault E)) → at_fault s o ≡ Running r → o ≡ None
+unfailed : {S E L : Type 0} (s r : State S E L) (o : Option (RunError E)) → at_fault s o ≡ Running r → o ≡ None
 unfailed s r None e = refl
 unfailed s r (Some f) e = absurd (let n : ⊥ = cc in n)
 
-pub opened : {P S E R A L : Type 0} (M : Machine S E R A L) (program : P) (budget : ℕ) (c : View P S E L) → IsBegun M program c
-    → (trace : List (Entry E)) → trace ≡ [] → (parked : List (Place E L)) → parked ≡ [] → budget ≤ 1000000
-    → IsSound M program budget (record { trace = trace; core = c; over = None; parked = parked })
+pub opened : {P S E R A L : Type 0} (M : Machine S E R A L) (program : P) (budget : ℕ) (c : CoreView P S E L) → IsBegun M program c
+    → (trace : List (TraceEntry E)) → trace ≡ [] → (parked : List (TaskPlace E L)) → parked ≡ [] → budget ≤ MOST_STEPS
+    → IsBoardSound M program budget (record { trace = trace; core = c; over = None; parked = parked })
 opened {E = E} {L = L} M program budget c begun trace none parked nobody bounded = record {
   program_is = begun.program;
   leads = subst (λ t. IsRunTo M c (labels_of t)) (sym none) begun.leads;
@@ -23,6 +24,6 @@ opened {E = E} {L = L} M program budget c begun trace none parked nobody bounded
   within = subst (λ t. length t ≤ budget) (sym none) (omega arith);
   bounded = bounded;
   over_is = unfailed (state M c) (start M) c.fault begun.at_start;
-  blocked = subst (λ ps. (p : Place E L) → IsAmong p ps → IsBlocked M c p) (sym nobody) (λ p i. absurd i);
+  blocked = subst (λ ps. (p : TaskPlace E L) → IsAmong p ps → IsBlocked M c p) (sym nobody) (λ p i. absurd i);
   once = subst (λ ps. NoRepeats (tasks_of ps)) (sym nobody) tt;
 }

@@ -3,7 +3,7 @@ use Rattle.std.proofs.Common.{◌≡◌, ◌⊎◌, ◌↔◌, inl, inr, ℕ, Li
 use Rattle.lvish_calculus.specs.declared.request.Request.{Request}
 use Rattle.lvish_calculus.specs.declared.request.Request.TheVariants.{Get, Freeze}
 use Rattle.lvish_calculus.specs.Handing.{IsAmong, NoRepeats}
-use Rattle.lvish_board.specs.Place.{Place}
+use Rattle.lvish_board.specs.Place.{TaskPlace}
 use Rattle.lvish_board.specs.Standing.{tasks_of}
 use Rattle.lvish_board.specs.Woken.{IsParkedBeside, IsWaiting}
 use Rattle.lvish_board.proofs.Steps.{of_task}
@@ -11,7 +11,7 @@ use Rattle.lvish_board.proofs.Waking.{task_among}
 
 module _ {E L : Type 0} where
   -- two of a list that repeats no task are one, or their tasks differ
-  apart : (q r : Place E L) (ps : List (Place E L)) → NoRepeats (tasks_of ps) → IsAmong q ps → IsAmong r ps → (q ≡ r) ⊎ (q.task ≡ r.task → ⊥)
+  apart : (q r : TaskPlace E L) (ps : List (TaskPlace E L)) → NoRepeats (tasks_of ps) → IsAmong q ps → IsAmong r ps → (q ≡ r) ⊎ (q.task ≡ r.task → ⊥)
   apart q r [] once i j = absurd i
   apart q r (p ∷ ps) once (inl e) (inl d) = inl (e ∙ sym d)
   apart q r (p ∷ ps) once (inl e) (inr j) = inr (λ same. once.0 (subst (λ t. IsAmong t (tasks_of ps)) (sym same ∙ ap (λ x. x.task) e) (task_among r ps j)))
@@ -19,7 +19,7 @@ module _ {E L : Type 0} where
   apart q r (p ∷ ps) once (inr i) (inr j) = apart q r ps once.1 i j
 
   -- what is parked already is parked beside the others
-  pub beside_itself : (p : Place E L) (ps : List (Place E L)) → NoRepeats (tasks_of ps) → ((q : Place E L) → IsAmong q ps → q.task ≡ p.task → q ≡ p) → IsAmong p.task (tasks_of ps) → IsParkedBeside ps p ps
+  pub beside_itself : (p : TaskPlace E L) (ps : List (TaskPlace E L)) → NoRepeats (tasks_of ps) → ((q : TaskPlace E L) → IsAmong q ps → q.task ≡ p.task → q ≡ p) → IsAmong p.task (tasks_of ps) → IsParkedBeside ps p ps
   beside_itself p ps once same there =
       let r = of_task p.task ps there in
       let here : IsAmong p ps = subst (λ x. IsAmong x ps) (same r.0 r.1 r.2) r.1 in
@@ -37,7 +37,7 @@ module _ {E L : Type 0} where
       }
 
   -- where none of its task was parked, one more is
-  pub beside_others : (p : Place E L) (ps qs : List (Place E L)) → (IsAmong p.task (tasks_of ps) → ⊥) → ((q : Place E L) → IsAmong q qs ↔ ((q ≡ p) ⊎ IsAmong q ps)) → IsParkedBeside ps p qs
+  pub beside_others : (p : TaskPlace E L) (ps qs : List (TaskPlace E L)) → (IsAmong p.task (tasks_of ps) → ⊥) → ((q : TaskPlace E L) → IsAmong q qs ↔ ((q ≡ p) ⊎ IsAmong q ps)) → IsParkedBeside ps p qs
   beside_others p ps qs absent one = record {
     each = λ q. (
       λ i. elim ((one q).0 i) [

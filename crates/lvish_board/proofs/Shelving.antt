@@ -1,16 +1,14 @@
 -- A list under a key is written, and the others stay.
-use Rattle.std.proofs.Common.{◌≡◌, inl, inr, true, cond, List, [], ◌∷◌, ◌++◌, Some, Ordering, refl, sym, ap, subst, ◌∙◌}
-use Rattle.std.specs.declared.cmp.Ordering.TheVariants.{Less, Equal, Greater}
+use Rattle.std.proofs.Common.{◌≡◌, inl, inr, true, cond, List, [], ◌∷◌, ◌++◌, Some, Ordering, refl, sym, ap, subst, ◌∙◌, Less, Equal, Greater, is_eq}
 use Rattle.std.specs.Global.{Vec}
 use Rattle.std.specs.Cmp.{IsTotalOrder}
-use Rattle.std.specs.Ordering.{is_eq}
 use Rattle.std.specs.Map.{lookup}
 use Rattle.std.specs.BTreeMap.{BTreeMap, get, is_at}
 use Rattle.std.proofs.lemmas.Bool.{cases_Bool}
 use Rattle.std.proofs.lemmas.Cmp.{tied_itself}
 use Rattle.lvish_calculus.specs.Handing.{IsAmong}
-use Rattle.lvish_core.proofs.Listing.{among_last}
-use Rattle.lvish_board.specs.Shelved.{shelf, items_of}
+use Rattle.lvish_core.specs.laws.Lists.{among_last}
+use Rattle.lvish_board.specs.Shelved.{shelf, list_items}
 
 pub tied : (o : Ordering) → is_eq o ≡ true → o ≡ Equal
 tied Less e = absurd cc
@@ -33,12 +31,12 @@ module _ {K : Type 0} (cmp : K → K → Ordering) (o : IsTotalOrder cmp) where
       | inl e ↦
           let was : get cmp m q ≡ Some v = sym (alike k q (tied (cmp k q) e) m.entries) ∙ at in
           let is : get cmp n q ≡ Some w = updates q ∙ ap (λ b. cond b (Some w) (get cmp m q)) e in
-          subst (λ s. IsAmong x (items_of s)) (sym is) (more (subst (λ s. IsAmong x (items_of s)) was i))
+          subst (λ s. IsAmong x (list_items s)) (sym is) (more (subst (λ s. IsAmong x (list_items s)) was i))
       | inr e ↦
           let is : get cmp n q ≡ get cmp m q = updates q ∙ ap (λ b. cond b (Some w) (get cmp m q)) e in
-          subst (λ s. IsAmong x (items_of s)) (sym is) i
+          subst (λ s. IsAmong x (list_items s)) (sym is) i
     ]
 
     -- and the list that is written is there
     pub shelf_written : shelf cmp n k ≡ w.items
-    shelf_written = ap (λ s. items_of s) (updates k ∙ ap (λ r. cond (is_eq r) (Some w) (get cmp m k)) (tied_itself o k))
+    shelf_written = ap (λ s. list_items s) (updates k ∙ ap (λ r. cond (is_eq r) (Some w) (get cmp m k)) (tied_itself o k))

@@ -1,47 +1,39 @@
 -- What a step is to a board, over any machine.
-use Rattle.std.proofs.Common.{◌≡◌, inl, inr, ◌<◌, ◌+◌, ℕ, suc, List, [], ◌∷◌, ◌++◌, length, false, is_some, Option, Some, None, refl, sym, ap, subst, ◌∙◌, arith, length-append, option_and_then}
+use Rattle.std.proofs.Common.{◌≡◌, inl, inr, ◌<◌, ◌+◌, ℕ, List, [], ◌∷◌, ◌++◌, length, false, is_some, Option, Some, None, refl, sym, ap, subst, ◌∙◌, arith, length-append, option_and_then}
 use Rattle.std.proofs.lemmas.Bool.{false≢true}
+use Rattle.std.proofs.lemmas.List.{length-map, map_push}
 use Rattle.lvish_calculus.specs.declared.label.Label.{Label}
-use Rattle.lvish_calculus.specs.declared.label.Label.TheVariants.{Task as Act}
+use Rattle.lvish_calculus.specs.declared.label.Label.TheVariants.{Act}
 use Rattle.lvish_calculus.specs.declared.request.ErrorKind.{ErrorKind}
 use Rattle.lvish_calculus.specs.Machine.{Machine, IsLawful}
-use Rattle.lvish_calculus.specs.Calculus.{Name, Task, Absent, Live, Ended, IsLive, is_live, State, Configuration, Running, Error, Outcome, Changes, Fails, Nothing, IsReadyTask, IsEnded, CanStep, after, changed, next, outcome, with_task}
+use Rattle.lvish_calculus.specs.Calculus.{Task, Absent, Live, Ended, IsLive, is_live, State, Configuration, Running, Error, Effect, Changes, Fails, Nothing, IsReadyTask, CanStep, after, changed, next, effect, with_task}
+use Rattle.lvish_names.specs.Names.{Name}
 use Rattle.lvish_calculus.specs.Handing.{IsAmong, NoRepeats}
 use Rattle.lvish_calculus.specs.Waiting.{HasWaiting}
-use Rattle.lvish_calculus.proofs.Blame.{blamed}
+use Rattle.lvish_calculus.proofs.Steps.{blamed, view}
 use Rattle.lvish_calculus.proofs.Names.{with_task-same}
 use Rattle.lvish_calculus.proofs.Runs.{nothing}
 use Rattle.lvish_calculus.proofs.Sound.{acts_live}
-use Rattle.lvish_calculus.proofs.Steps.{view}
-use Rattle.lvish_core.specs.declared.fault.Fault.{Fault}
+use Rattle.lvish_core.specs.declared.fault.RunError.{RunError}
 use Rattle.lvish_core.specs.declared.fault.Stepped.{Stepped}
 use Rattle.lvish_core.specs.declared.fault.Stepped.TheVariants.{Done as DoneStep, Error as ErrorStep}
-use Rattle.lvish_core.specs.Core.{View, IsRunTo, IsStep, CanTake, state, picture, at_fault, says}
+use Rattle.lvish_core.specs.Core.{CoreView, IsRunTo, IsStep, CanTake, state, picture, at_fault, says}
 use Rattle.lvish_core.specs.Changes.{local_of, moved_in}
 use Rattle.lvish_core.specs.Reads.{HasRunning, AreDrained}
 use Rattle.lvish_core.specs.Waiting.{EndsByCounts}
-use Rattle.lvish_core.proofs.Goes.{at_state, running_same}
-use Rattle.lvish_board.specs.declared.entry.Entry.{Entry}
+use Rattle.lvish_core.specs.laws.Runs.{at_state, running_same}
+use Rattle.lvish_board.specs.declared.trace_entry.TraceEntry.{TraceEntry}
 use Rattle.lvish_board.specs.declared.outcome.Outcome.{Outcome as Over}
 use Rattle.lvish_board.specs.declared.outcome.Outcome.TheVariants.{Ended as EndedOver}
 use Rattle.lvish_board.specs.Acts.{entry_of}
-use Rattle.lvish_board.specs.Place.{Place}
+use Rattle.lvish_board.specs.Place.{TaskPlace}
 use Rattle.lvish_board.specs.Woken.{IsParkedBeside}
-use Rattle.lvish_board.specs.Standing.{Standing, labels_of, tasks_of, IsBlocked, IsCurrent, IsSound, OverIs}
-
-pub labels_append : {E : Type 0} (es : List (Entry E)) (e : Entry E) → labels_of (es ++ e ∷ []) ≡ labels_of es ++ e.label ∷ []
-labels_append [] e = refl
-labels_append (x ∷ es) e = ap (λ ls. x.label ∷ ls) (labels_append es e)
+use Rattle.lvish_board.specs.Standing.{Standing, labels_of, tasks_of, IsBlocked, IsCurrent, IsBoardSound, OverIs}
+use Rattle.lvish_board.proofs.Among.{of_map}
 
 -- a task of places is that of one of them
-pub of_task : {E L : Type 0} (t : Name E) (ps : List (Place E L)) → IsAmong t (tasks_of ps) → (p : Place E L) × IsAmong p ps × (p.task ≡ t)
-of_task t [] a = absurd a
-of_task t (p ∷ ps) (inl e) = (p, inl refl, sym e)
-of_task t (p ∷ ps) (inr a) = let r = of_task t ps a in (r.0, inr r.1, r.2)
-
-count_tasks : {E L : Type 0} (ps : List (Place E L)) → length (tasks_of ps) ≡ length ps
-count_tasks [] = refl
-count_tasks (p ∷ ps) = ap suc (count_tasks ps)
+pub of_task : {E L : Type 0} (t : Name E) (ps : List (TaskPlace E L)) → IsAmong t (tasks_of ps) → (p : TaskPlace E L) × IsAmong p ps × (p.task ≡ t)
+of_task {E} {L} t ps a = of_map (λ (p : TaskPlace E L). p.task) t ps a
 
 pub live_there : {L : Type 0} (k : Task L) (l : L) → local_of k ≡ Some l → IsLive k
 live_there (Live m f a p) l e = is_live
@@ -50,7 +42,7 @@ live_there Ended l e = absurd cc
 
 module _ {P S E R A L : Type 0} (M : Machine S E R A L) where
   -- the parked tasks wait
-  waiting : (c : View P S E L) (ps : List (Place E L)) → c.fault ≡ None → ((p : Place E L) → IsAmong p ps → IsBlocked M c p) → NoRepeats (tasks_of ps) → HasWaiting M (state M c) (length ps)
+  waiting : (c : CoreView P S E L) (ps : List (TaskPlace E L)) → c.fault ≡ None → ((p : TaskPlace E L) → IsAmong p ps → IsBlocked M c p) → NoRepeats (tasks_of ps) → HasWaiting M (state M c) (length ps)
   waiting c ps none blocked once = record {
     names = tasks_of ps;
     once = once;
@@ -63,20 +55,14 @@ module _ {P S E R A L : Type 0} (M : Machine S E R A L) where
         let b = blocked r.0 r.1 in
         let able : IsReadyTask M (state M c) ((state M c).tasks r.0.task) = subst (λ u. IsReadyTask M (state M c) ((state M c).tasks u)) (sym r.2) ready in
         b.blocked (subst (λ (q : Configuration S E L). CanStep M q (Act r.0.task)) (sym (at_state M c none)) able, tt);
-    count = count_tasks ps;
+    count = length-map ps (λ (p : TaskPlace E L). p.task);
   }
 
-  -- where as many tasks are parked as run and every handler is drained, it is an end
-  pub ended : EndsByCounts P M → (c : View P S E L) (xs : List (Label E)) (ps : List (Place E L)) → IsRunTo M c xs → c.fault ≡ None → ((p : Place E L) → IsAmong p ps → IsBlocked M c p) → NoRepeats (tasks_of ps)
-      → (n : ℕ) → HasRunning M c n → length ps ≡ n → AreDrained c.table → IsEnded M (picture M c)
-  ended ends c xs ps run none blocked once n running same drained =
-      (ends c xs n run none running (subst (λ k. HasWaiting M (state M c) k) same (waiting c ps none blocked once))).1 drained
-
   -- the same board, over in another way
-  pub kept_over : (program : P) (budget : ℕ) (trace : List (Entry E)) (c : View P S E L) (over after : Option (Over E)) (ps : List (Place E L))
-      → IsSound M program budget (record { trace = trace; core = c; over = over; parked = ps })
+  pub kept_over : (program : P) (budget : ℕ) (trace : List (TraceEntry E)) (c : CoreView P S E L) (over after : Option (Over E)) (ps : List (TaskPlace E L))
+      → IsBoardSound M program budget (record { trace = trace; core = c; over = over; parked = ps })
       → OverIs M budget (record { trace = trace; core = c; over = after; parked = ps }) after
-      → IsSound M program budget (record { trace = trace; core = c; over = after; parked = ps })
+      → IsBoardSound M program budget (record { trace = trace; core = c; over = after; parked = ps })
   kept_over program budget trace c over after ps s o = record {
     program_is = s.program_is;
     leads = s.leads;
@@ -89,23 +75,23 @@ module _ {P S E R A L : Type 0} (M : Machine S E R A L) where
   }
 
   -- a board that isn't over has no error
-  pub no_fault : (program : P) (budget : ℕ) (s : Standing P S E L) → IsSound M program budget s → s.over ≡ None → s.core.fault ≡ None
+  pub no_fault : (program : P) (budget : ℕ) (s : Standing P S E L) → IsBoardSound M program budget s → s.over ≡ None → s.core.fault ≡ None
   no_fault program budget s k none = subst (λ o. OverIs M budget s o) none k.over_is
 
-  -- a board that is over as it ends
-  pub settled : EndsByCounts P M → (program : P) (budget : ℕ) (trace : List (Entry E)) (c : View P S E L) (over : Option (Over E)) (ps : List (Place E L))
-      → IsSound M program budget (record { trace = trace; core = c; over = over; parked = ps }) → over ≡ None
+  -- where as many tasks are parked as run and every handler is drained, the board is at an end
+  pub settled : EndsByCounts P M → (program : P) (budget : ℕ) (trace : List (TraceEntry E)) (c : CoreView P S E L) (over : Option (Over E)) (ps : List (TaskPlace E L))
+      → IsBoardSound M program budget (record { trace = trace; core = c; over = over; parked = ps }) → over ≡ None
       → (n : ℕ) → HasRunning M c n → length ps ≡ n → AreDrained c.table
-      → IsSound M program budget (record { trace = trace; core = c; over = Some EndedOver; parked = ps })
+      → IsBoardSound M program budget (record { trace = trace; core = c; over = Some EndedOver; parked = ps })
   settled ends program budget trace c over ps k none n running same drained =
       let fine = no_fault program budget (record { trace = trace; core = c; over = over; parked = ps }) k none in
-      kept_over program budget trace c over (Some EndedOver) ps k (ended ends c (labels_of trace) ps k.leads fine k.blocked k.once n running same drained)
+      kept_over program budget trace c over (Some EndedOver) ps k ((ends c (labels_of trace) n k.leads fine running (subst (λ m. HasWaiting M (state M c) m) same (waiting c ps fine k.blocked k.once))).1 drained)
 
   -- one more parked
-  pub kept_parked : (program : P) (budget : ℕ) (trace : List (Entry E)) (c : View P S E L) (over : Option (Over E)) (ps qs : List (Place E L)) (p : Place E L)
-      → IsSound M program budget (record { trace = trace; core = c; over = over; parked = ps })
+  pub kept_parked : (program : P) (budget : ℕ) (trace : List (TraceEntry E)) (c : CoreView P S E L) (over : Option (Over E)) (ps qs : List (TaskPlace E L)) (p : TaskPlace E L)
+      → IsBoardSound M program budget (record { trace = trace; core = c; over = over; parked = ps })
       → IsCurrent M c p → (CanTake M c (Act p.task) → ⊥) → IsParkedBeside ps p qs → NoRepeats (tasks_of qs) → over ≡ None
-      → IsSound M program budget (record { trace = trace; core = c; over = over; parked = qs })
+      → IsBoardSound M program budget (record { trace = trace; core = c; over = over; parked = qs })
   kept_parked program budget trace c over ps qs p s current blocked beside once none =
       let fine = no_fault program budget (record { trace = trace; core = c; over = over; parked = ps }) s none in
       record {
@@ -123,18 +109,18 @@ module _ {P S E R A L : Type 0} (M : Machine S E R A L) where
       }
 
   -- a step more
-  pub kept_step : (program : P) (budget : ℕ) (trace longer : List (Entry E)) (c d : View P S E L) (over after : Option (Over E)) (ps qs : List (Place E L)) (l : Label E) (worker : ℕ) (said : Stepped)
-      → IsSound M program budget (record { trace = trace; core = c; over = over; parked = ps })
+  pub kept_step : (program : P) (budget : ℕ) (trace longer : List (TraceEntry E)) (c d : CoreView P S E L) (over after : Option (Over E)) (ps qs : List (TaskPlace E L)) (l : Label E) (worker : ℕ) (said : Stepped)
+      → IsBoardSound M program budget (record { trace = trace; core = c; over = over; parked = ps })
       → IsStep M c l d said → length trace < budget → longer ≡ trace ++ entry_of worker l ∷ []
       → OverIs M budget (record { trace = longer; core = d; over = after; parked = qs }) after
-      → ((p : Place E L) → IsAmong p qs → IsBlocked M d p) → NoRepeats (tasks_of qs)
-      → IsSound M program budget (record { trace = longer; core = d; over = after; parked = qs })
+      → ((p : TaskPlace E L) → IsAmong p qs → IsBlocked M d p) → NoRepeats (tasks_of qs)
+      → IsBoardSound M program budget (record { trace = longer; core = d; over = after; parked = qs })
   kept_step program budget trace longer c d over after ps qs l worker said s step room long o blocked once =
       let len : length (trace ++ entry_of worker l ∷ []) ≡ length trace + 1 = length-append trace (entry_of worker l ∷ []) in
       let count : length longer ≡ length trace + 1 = ap length long ∙ len in
       record {
         program_is = step.program ∙ s.program_is;
-        leads = subst (λ zs. IsRunTo M d zs) (sym (ap labels_of long ∙ labels_append trace (entry_of worker l))) (step.leads (labels_of trace) s.leads);
+        leads = subst (λ zs. IsRunTo M d zs) (sym (ap labels_of long ∙ map_push (λ (e : TraceEntry E). e.label) trace (entry_of worker l))) (step.leads (labels_of trace) s.leads);
         counted = step.steps ∙ ap (λ n. n + 1) s.counted ∙ sym count;
         within = omega (arith, count, room);
         bounded = s.bounded;
@@ -144,43 +130,40 @@ module _ {P S E R A L : Type 0} (M : Machine S E R A L) where
       }
 
   -- without an error before it, a step has an error just where it says so
-  pub done_none : (c d : View P S E L) (l : Label E) → IsStep M c l d DoneStep → d.fault ≡ None
+  pub done_none : (c d : CoreView P S E L) (l : Label E) → IsStep M c l d DoneStep → d.fault ≡ None
   done_none c d l step = by d.fault refl
     where
-      by : (f : Option (Fault E)) → d.fault ≡ f → d.fault ≡ None
+      by : (f : Option (RunError E)) → d.fault ≡ f → d.fault ≡ None
       by None e = e
       by (Some f) e = absurd (subst (λ q. says (at_fault (state M d) q) DoneStep) e step.answer)
 
-  pub error_some : (c d : View P S E L) (l : Label E) (kind : ErrorKind) → IsStep M c l d (ErrorStep kind) → (f : Fault E) × (d.fault ≡ Some f) × (f.kind ≡ kind)
+  pub error_some : (c d : CoreView P S E L) (l : Label E) (kind : ErrorKind) → IsStep M c l d (ErrorStep kind) → (f : RunError E) × (d.fault ≡ Some f) × (f.kind ≡ kind)
   error_some c d l kind step = by d.fault refl
     where
-      by : (g : Option (Fault E)) → d.fault ≡ g → (f : Fault E) × (d.fault ≡ Some f) × (f.kind ≡ kind)
+      by : (g : Option (RunError E)) → d.fault ≡ g → (f : RunError E) × (d.fault ≡ Some f) × (f.kind ≡ kind)
       by None e = absurd (subst (λ q. says (at_fault (state M d) q) (ErrorStep kind)) e step.answer)
       by (Some f) e = (f, e, subst (λ q. says (at_fault (state M d) q) (ErrorStep kind)) e step.answer)
 
   -- nothing is enabled after an error
-  pub begins_well : (c d : View P S E L) (l : Label E) (said : Stepped) → IsStep M c l d said → c.fault ≡ None
+  pub begins_well : (c d : CoreView P S E L) (l : Label E) (said : Stepped) → IsStep M c l d said → c.fault ≡ None
   begins_well c d l said step = by c.fault refl
     where
-      by : (f : Option (Fault E)) → c.fault ≡ f → c.fault ≡ None
+      by : (f : Option (RunError E)) → c.fault ≡ f → c.fault ≡ None
       by None e = e
       by (Some f) e = absurd (subst (λ q. CanStep M (at_fault (state M c) q) l) e step.enabled.0)
 
-  pub stepped_from : (c d : View P S E L) (l : Label E) (said : Stepped) → IsStep M c l d said → picture M d ≡ after M (state M c) (outcome M (state M c) l)
+  pub stepped_from : (c d : CoreView P S E L) (l : Label E) (said : Stepped) → IsStep M c l d said → picture M d ≡ after M (state M c) (effect M (state M c) l)
   stepped_from c d l said step = step.stepped ∙ ap (λ (q : Configuration S E L). next M q l) (at_state M c (begins_well c d l said step))
 
   -- the error of a task's step is that task's
-  pub error_own : (c d : View P S E L) (t : Name E) (kind : ErrorKind) → IsStep M c (Act t) d (ErrorStep kind) → d.fault ≡ Some (record { kind = kind; variable = option_and_then (λ f. f.variable) d.fault; task = t })
+  pub error_own : (c d : CoreView P S E L) (t : Name E) (kind : ErrorKind) → IsStep M c (Act t) d (ErrorStep kind) → d.fault ≡ Some (record { kind = kind; variable = option_and_then (λ f. f.variable) d.fault; task = t })
   error_own c d t kind step =
       let f = error_some c d (Act t) kind step in
-      let from : Error f.0.kind f.0.variable f.0.task ≡ after M (state M c) (outcome M (state M c) (Act t)) = sym (ap (at_fault (state M d)) f.1) ∙ stepped_from c d (Act t) (ErrorStep kind) step in
-      let own : t ≡ f.0.task = by f.0 (outcome M (state M c) (Act t)) refl from in
-      f.1 ∙ ap (λ x. Some x) (fields f.0 kind t f.2 (sym own)) ∙ ap (λ v. Some (record { kind = kind; variable = v; task = t })) (sym (ap (λ o. option_and_then (λ (z : Fault E). z.variable) o) f.1))
+      let from : Error f.0.kind f.0.variable f.0.task ≡ after M (state M c) (effect M (state M c) (Act t)) = sym (ap (at_fault (state M d)) f.1) ∙ stepped_from c d (Act t) (ErrorStep kind) step in
+      let own : t ≡ f.0.task = by f.0 (effect M (state M c) (Act t)) refl from in
+      f.1 ∙ (λ i. Some (record { kind = f.2 i; variable = f.0.variable; task = sym own i })) ∙ ap (λ v. Some (record { kind = kind; variable = v; task = t })) (sym (ap (λ o. option_and_then (λ (z : RunError E). z.variable) o) f.1))
     where
-      fields : (f : Fault E) (kind : ErrorKind) (t : Name E) → f.kind ≡ kind → f.task ≡ t → f ≡ record { kind = kind; variable = f.variable; task = t }
-      fields f kind t k u = ap (λ x. record { kind = x; variable = f.variable; task = f.task }) k ∙ ap (λ x. record { kind = kind; variable = f.variable; task = x }) u
-
-      by : (f : Fault E) (o : Outcome S E L) → outcome M (state M c) (Act t) ≡ o → Error f.kind f.variable f.task ≡ after M (state M c) (outcome M (state M c) (Act t)) → t ≡ f.task
+      by : (f : RunError E) (o : Effect S E L) → effect M (state M c) (Act t) ≡ o → Error f.kind f.variable f.task ≡ after M (state M c) (effect M (state M c) (Act t)) → t ≡ f.task
       by f (Fails k v u) e z =
           let same : Error f.kind f.variable f.task ≡ Error k v u = z ∙ ap (after M (state M c)) e in
           let task : f.task ≡ u = cc in
@@ -190,16 +173,16 @@ module _ {P S E R A L : Type 0} (M : Machine S E R A L) where
 
   module _ (ok : IsLawful M) where
     -- the state in which the acting task goes on is what is told
-    pub own_told : (c d : View P S E L) (t : Name E) → IsStep M c (Act t) d DoneStep → local_of ((state M d).tasks t) ≡ (moved_in (outcome M (state M c) (Act t))).own
-    own_told c d t step = by (outcome M (state M c) (Act t)) refl
+    pub own_told : (c d : CoreView P S E L) (t : Name E) → IsStep M c (Act t) d DoneStep → local_of ((state M d).tasks t) ≡ (moved_in (effect M (state M c) (Act t))).own
+    own_told c d t step = by (effect M (state M c) (Act t)) refl
       where
         none : d.fault ≡ None
         none = done_none c d (Act t) step
 
-        from : Running (state M d) ≡ after M (state M c) (outcome M (state M c) (Act t))
+        from : Running (state M d) ≡ after M (state M c) (effect M (state M c) (Act t))
         from = sym (at_state M d none) ∙ stepped_from c d (Act t) DoneStep step
 
-        by : (o : Outcome S E L) → outcome M (state M c) (Act t) ≡ o → local_of ((state M d).tasks t) ≡ (moved_in (outcome M (state M c) (Act t))).own
+        by : (o : Effect S E L) → effect M (state M c) (Act t) ≡ o → local_of ((state M d).tasks t) ≡ (moved_in (effect M (state M c) (Act t))).own
         by (Changes ch) e =
             let same : state M d ≡ changed M ch (state M c) = running_same (from ∙ ap (after M (state M c)) e) in
             let k = acts_live M ok (state M c) (Act t) ch (view M ok (state M c) (Act t) ch e) t refl in

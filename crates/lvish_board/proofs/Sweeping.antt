@@ -1,15 +1,14 @@
 -- Tasks are woken by the names of a list, from its last on.
-use Rattle.std.proofs.Common.{◌≡◌, ◌⊎◌, inl, inr, ℕ, ◌+◌, ◌-◌, ◌<◌, ◌≤◌, List, [], ◌∷◌, length, get_or, take, refl, sym, ap, subst, ◌∙◌, arith}
+use Rattle.std.proofs.Common.{◌≡◌, ◌⊎◌, inl, inr, ℕ, ◌+◌, ◌-◌, ◌<◌, ◌≤◌, List, [], ◌∷◌, length, get_or, take, refl, sym, ap, subst, ◌∙◌, arith, swap_remove, slice_set, slice_index_or}
 use Rattle.std.specs.Global.{Vec}
 use Rattle.std.specs.Vec.{vec_capacity}
-use Rattle.std.specs.List.{swap_remove, slice_set, slice_index_or}
 use Rattle.std.proofs.lemmas.List.{take_more, take-take, take-set}
 use Rattle.std.proofs.lemmas.List.Sorted.{IsPermutation-swap_remove, length_permutation}
 use Rattle.std.proofs.Math.Seq.{take-length}
-use Rattle.lvish_calculus.specs.Calculus.{Name}
+use Rattle.lvish_names.specs.Names.{Name}
 use Rattle.lvish_calculus.specs.Handing.{IsAmong}
-use Rattle.lvish_core.proofs.Listing.{either_among}
-use Rattle.lvish_board.specs.Place.{Place}
+use Rattle.lvish_core.specs.laws.Lists.{either_among}
+use Rattle.lvish_board.specs.Place.{TaskPlace}
 use Rattle.lvish_board.specs.Standing.{tasks_of}
 use Rattle.lvish_board.specs.Waking.{Wakes}
 use Rattle.lvish_board.proofs.Among.{among_permuted}
@@ -37,46 +36,28 @@ module _ {X : Type 0} where
     | inr j ↦ j
   ]
 
-module _ {E L : Type 0} (Can : Place E L → Type 0) where
+module _ {E L : Type 0} (Can : TaskPlace E L → Type 0) where
   -- the task's name is on the list, but isn't left to be asked
-  abbrev pub IsSwept : List (Name E) → List (Name E) → Place E L → Type 0
+  abbrev pub IsSwept : List (Name E) → List (Name E) → TaskPlace E L → Type 0
   IsSwept all rest p = IsAmong p.task all × (IsAmong p.task rest → ⊥)
 
-  pub sweep_begins : (all rest : List (Name E)) (old before : List (Place E L)) → rest ≡ all → Wakes Can (IsSwept all rest) old old before before
-  sweep_begins all rest old before e = wakes_none Can (IsSwept all rest) old before (λ p i may can. may.1 (subst (λ ts. IsAmong p.task ts) (sym e) may.0))
-
-  pub sweeps_on : (all rest less : List (Name E)) (t : Name E) (old mid new before between after : List (Place E L)) → Wakes Can (IsSwept all rest) old mid before between → Wakes Can (λ p. p.task ≡ t) mid new between after
-      → ((u : Name E) → IsAmong u rest → (u ≡ t) ⊎ IsAmong u less) → Wakes Can (IsSwept all less) old new before after
-  sweeps_on all rest less t old mid new before between after w z more = wakes_then Can (IsSwept all less) (IsSwept all rest) (λ p. p.task ≡ t) old mid new before between after w z
-      (λ p i j one two may can.
-      one (
-        may.0,
-        λ k. elim (more p.task k) [
-          | inl e ↦ two e can
-          | inr m ↦ may.1 m
-        ],
-      ) can)
-
-  pub sweep_ends : (all rest : List (Name E)) (old new before after : List (Place E L)) → Wakes Can (IsSwept all rest) old new before after → rest ≡ [] → Wakes Can (λ p. IsAmong p.task all) old new before after
-  sweep_ends all rest old new before after w e = wakes_fewer Can (λ p. IsAmong p.task all) (IsSwept all rest) old new before after w (λ p i may. (may, λ k. subst (λ ts. IsAmong p.task ts) e k))
-
 -- of a list of names those from a place on were asked
-pub record IsSweeping {E L : Type 0} (Can : Place E L → Type 0) (all names : List (Name E)) (next : ℕ) (old new : List (Place E L)) (before after : Vec (Place E L)) : Type 0 where
+pub record IsSweeping {E L : Type 0} (Can : TaskPlace E L → Type 0) (all names : List (Name E)) (next : ℕ) (old new : List (TaskPlace E L)) (before after : Vec (TaskPlace E L)) : Type 0 where
   pub short : next ≤ length names
   pub wakes : Wakes Can (IsSwept Can all (take next names)) old new before.items after.items
-  pub left : (p : Place E L) → IsAmong p new → IsAmong p.task all → IsAmong p.task names
+  pub left : (p : TaskPlace E L) → IsAmong p new → IsAmong p.task all → IsAmong p.task names
   pub capacity : vec_capacity after ≡ vec_capacity before
 
-module _ {E L : Type 0} (Can : Place E L → Type 0) where
-  pub begun : (all : List (Name E)) (next : ℕ) (old : List (Place E L)) (before : Vec (Place E L)) → next ≡ length all → IsSweeping Can all all next old old before before
+module _ {E L : Type 0} (Can : TaskPlace E L → Type 0) where
+  pub begun : (all : List (Name E)) (next : ℕ) (old : List (TaskPlace E L)) (before : Vec (TaskPlace E L)) → next ≡ length all → IsSweeping Can all all next old old before before
   begun all next old before e = record {
     short = omega arith;
-    wakes = sweep_begins Can all (take next all) old before.items (ap (λ n. take n all) e ∙ take-length all);
+    wakes = wakes_none Can (IsSwept Can all (take next all)) old before.items (λ p i may can. may.1 (subst (λ ts. IsAmong p.task ts) (sym (ap (λ n. take n all) e ∙ take-length all)) may.0));
     left = λ p i a. a;
     capacity = refl;
   }
 
-  module _ (all names : List (Name E)) (next n : ℕ) (t : Name E) (old mid new : List (Place E L)) (before between after : Vec (Place E L)) (one : next ≡ n + 1) (is : t ≡ get_or names n t) (s : IsSweeping Can all names next old mid before between) (w : Wakes Can (λ p. p.task ≡ t) mid new between.items after.items) (cap : vec_capacity after ≡ vec_capacity between) where
+  module _ (all names : List (Name E)) (next n : ℕ) (t : Name E) (old mid new : List (TaskPlace E L)) (before between after : Vec (TaskPlace E L)) (one : next ≡ n + 1) (is : t ≡ get_or names n t) (s : IsSweeping Can all names next old mid before between) (w : Wakes Can (λ p. p.task ≡ t) mid new between.items after.items) (cap : vec_capacity after ≡ vec_capacity between) where
     inside : n < length names
     inside = let short = s.short in omega arith
 
@@ -84,7 +65,14 @@ module _ {E L : Type 0} (Can : Place E L → Type 0) where
     fewer u i = one_fewer u t names n inside is (subst (λ m. IsAmong u (take m names)) one i)
 
     wakes_before : Wakes Can (IsSwept Can all (take n names)) old new before.items after.items
-    wakes_before = sweeps_on Can all (take next names) (take n names) t old mid new before.items between.items after.items s.wakes w fewer
+    wakes_before = wakes_then Can (IsSwept Can all (take n names)) (IsSwept Can all (take next names)) (λ p. p.task ≡ t) old mid new before.items between.items after.items s.wakes w (λ p i j one two may can.
+        one (
+          may.0,
+          λ k. elim (fewer p.task k) [
+            | inl e ↦ two e can
+            | inr m ↦ may.1 m
+          ],
+        ) can)
 
     -- the name stays on the list
     pub stays_swept : IsSweeping Can all names n old new before after
@@ -110,7 +98,7 @@ module _ {E L : Type 0} (Can : Place E L → Type 0) where
           capacity = cap ∙ s.capacity;
         }
 
-  pub swept : (all names : List (Name E)) (next : ℕ) (old new : List (Place E L)) (before after : Vec (Place E L)) → next ≤ 0 → IsSweeping Can all names next old new before after → Wakes Can (λ p. IsAmong p.task all) old new before.items after.items
+  pub swept : (all names : List (Name E)) (next : ℕ) (old new : List (TaskPlace E L)) (before after : Vec (TaskPlace E L)) → next ≤ 0 → IsSweeping Can all names next old new before after → Wakes Can (λ p. IsAmong p.task all) old new before.items after.items
   swept all names next old new before after none s =
       let zero : next ≡ 0 = omega arith in
-      sweep_ends Can all (take next names) old new before.items after.items s.wakes (ap (λ n. take n names) zero)
+      wakes_fewer Can (λ p. IsAmong p.task all) (IsSwept Can all (take next names)) old new before.items after.items s.wakes (λ p i may. (may, λ k. subst (λ ts. IsAmong p.task ts) (ap (λ n. take n names) zero) k))

@@ -1,17 +1,14 @@
 -- Whom a put's entries wake, one entry after another.
 use Rattle.std.proofs.Common.{◌≡◌, ◌⊎◌, inl, inr, ℕ, zero, suc, List, [], ◌∷◌, ◌++◌, Option, Some, None, Contains, refl, sym, ap, subst, ◌∙◌, arith}
+use Rattle.std.proofs.lemmas.List.{map-append}
 use Rattle.std.proofs.lemmas.List.Elements.{Contains-append_cases}
 use Rattle.lvish_calculus.specs.declared.request.Request.{Request}
 use Rattle.lvish_calculus.specs.declared.request.Request.TheVariants.{Get, Freeze}
 use Rattle.lvish_variable.specs.declared.entry.Entry.{Entry}
 use Rattle.lvish_variable.specs.Variable.{logged}
-use Rattle.lvish_core.specs.declared.touched.Touched.TheVariants.{Put, Handed, Ended, Other}
+use Rattle.lvish_core.specs.declared.touched.Touched.TheVariants.{Put, Handed, Ended}
 use Rattle.lvish_board.specs.Shelved.{WaitsAt}
 use Rattle.lvish_board.specs.Woken.{MayAnswer, MayWake}
-
-logged_more : {E : Type 0} (xs ys : List (Entry E)) → logged (xs ++ ys) ≡ logged xs ++ logged ys
-logged_more [] ys = refl
-logged_more (x ∷ xs) ys = ap (λ l. x.event ∷ l) (logged_more xs ys)
 
 only : {E : Type 0} (e x : E) → Contains (e ∷ []) x → e ≡ x
 only e x (zero, lt, same) = same
@@ -25,7 +22,7 @@ module _ {E W : Type 0} (spot_of : E → W) where
   at_more : (k : Option W) (es : List (Entry E)) (e : Entry E) → MayAnswer spot_of k (es ++ e ∷ []) → MayAnswer spot_of k es ⊎ (k ≡ Some (spot_of e.event))
   at_more None es e may = inl tt
   at_more (Some w) es e may =
-      elim (Contains-append_cases (logged es) (e.event ∷ []) may.event (subst (λ l. Contains l may.event) (logged_more es (e ∷ [])) may.there)) [
+      elim (Contains-append_cases (logged es) (e.event ∷ []) may.event (subst (λ l. Contains l may.event) (map-append (λ (x : Entry E). x.event) es (e ∷ [])) may.there)) [
         | inl old ↦ inl (record { event = may.event; there = old; at = may.at })
         | inr last ↦ inr (ap (λ x. Some x) (sym (ap spot_of (only e.event may.event last) ∙ may.at)))
       ]
@@ -52,10 +49,3 @@ module _ {S E R L W : Type 0} (spot_of : E → W) (watched : R → Option W) whe
   pub may_hand : (v : ℕ) (es fs : List (Entry E)) (q : Request S R L) → MayWake spot_of watched (Some (Handed v)) es q → MayWake spot_of watched (Some (Handed v)) fs q
   may_hand v es fs (Freeze w pools) may = may
   may_hand v es fs q may = absurd may
-
-  -- what concerns no variable wakes nobody
-  pub may_none : (es : List (Entry E)) (q : Request S R L) → MayWake spot_of watched None es q → ⊥
-  may_none es q may = may
-
-  pub may_other : (es : List (Entry E)) (q : Request S R L) → MayWake spot_of watched (Some Other) es q → ⊥
-  may_other es q may = may

@@ -1,7 +1,7 @@
 -- A task at a local state.
-use Rattle.lvish_calculus.specs.Calculus.{Name}
+use Rattle.lvish_names.specs.Names.{Name}
 
 -- a task and the local state in which it stood
-pub record Place (E L : Type 0) : Type 0 where
+pub record TaskPlace (E L : Type 0) : Type 0 where
   pub task : Name E
   pub from : L

@@ -7,24 +7,24 @@ use Rattle.std.specs.Option.{option_cmp}
 use Rattle.std.specs.Ordering.{nat_cmp, ordering_then}
 use Rattle.lvish_calculus.specs.declared.request.Request.{Request}
 use Rattle.lvish_calculus.specs.declared.request.Request.TheVariants.{Get, Freeze}
-use Rattle.lvish_calculus.specs.Calculus.{Name}
+use Rattle.lvish_names.specs.Names.{Name}
 use Rattle.lvish_calculus.specs.Handing.{IsAmong}
 
 -- what lies in a list: nothing where there is none
-abbrev pub items_of : {T : Type 0} → Option (Vec T) → List T
-items_of None = []
-items_of (Some v) = v.items
+abbrev pub list_items : {T : Type 0} → Option (Vec T) → List T
+list_items None = []
+list_items (Some v) = v.items
 
 -- what lies under the key
 abbrev pub shelf : {K T : Type 0} → (K → K → Ordering) → BTreeMap K (Vec T) → K → List T
-shelf cmp lists k = items_of (get cmp lists k)
+shelf cmp lists k = list_items (get cmp lists k)
 
 -- there is a list with room for one more
 abbrev pub HasRoom : {T : Type 0} → Option (Vec T) → Type 0
 HasRoom None = ⊥
 HasRoom (Some v) = vec_len v < vec_capacity v
 
--- variables and the spots at them: by variable, and at each variable first those who wait at none
+-- variables and the spots at them: by variable, and at each variable first the gets that wait at none
 abbrev pub by_spot : {W : Type 0} → (W → W → Ordering) → (ℕ × Option W) → (ℕ × Option W) → Ordering
 by_spot cmp x y = ordering_then (nat_cmp x.0 y.0) (option_cmp cmp x.1 y.1)
 

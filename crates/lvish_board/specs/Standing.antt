@@ -1,38 +1,40 @@
 -- What a board stands for.
 use Rattle.std.specs.Prelude.{◌≡◌, ◌≤◌, ℕ, List, [], map, length, Option, None, Some}
+use Rattle.lvish_core.specs.declared.limits.TheConstants.{MOST_STEPS}
 use Rattle.lvish_calculus.specs.declared.label.Label.{Label}
-use Rattle.lvish_calculus.specs.declared.label.Label.TheVariants.{Task as Act}
+use Rattle.lvish_calculus.specs.declared.label.Label.TheVariants.{Act}
 use Rattle.lvish_calculus.specs.Machine.{Machine}
-use Rattle.lvish_calculus.specs.Calculus.{Name, IsEnded}
+use Rattle.lvish_calculus.specs.Calculus.{IsEnded}
+use Rattle.lvish_names.specs.Names.{Name}
 use Rattle.lvish_calculus.specs.Handing.{IsAmong, NoRepeats}
-use Rattle.lvish_core.specs.Core.{View, IsRunTo, IsBegun, CanTake, picture, state}
+use Rattle.lvish_core.specs.Core.{CoreView, IsRunTo, IsBegun, CanTake, picture, state}
 use Rattle.lvish_core.specs.Changes.{local_of}
-use Rattle.lvish_board.specs.Place.{Place}
-use Rattle.lvish_board.specs.declared.entry.Entry.{Entry}
+use Rattle.lvish_board.specs.Place.{TaskPlace}
+use Rattle.lvish_board.specs.declared.trace_entry.TraceEntry.{TraceEntry}
 use Rattle.lvish_board.specs.declared.outcome.Outcome.{Outcome}
 use Rattle.lvish_board.specs.declared.outcome.Outcome.TheVariants.{Ended, Error, Budget}
 
 -- what contracts see of a board: the trace of its steps, its core, how it is over, and the tasks that are parked
 pub record Standing (P S E L : Type 0) : Type 0 where
-  pub trace : List (Entry E)
-  pub core : View P S E L
+  pub trace : List (TraceEntry E)
+  pub core : CoreView P S E L
   pub over : Option (Outcome E)
-  pub parked : List (Place E L)
+  pub parked : List (TaskPlace E L)
 
 -- the labels of a trace
-abbrev pub labels_of : {E : Type 0} → List (Entry E) → List (Label E)
+abbrev pub labels_of : {E : Type 0} → List (TraceEntry E) → List (Label E)
 labels_of trace = map (λ e. e.label) trace
 
 -- the tasks of places
-abbrev pub tasks_of : {E L : Type 0} → List (Place E L) → List (Name E)
+abbrev pub tasks_of : {E L : Type 0} → List (TaskPlace E L) → List (Name E)
 tasks_of places = map (λ p. p.task) places
 
 -- the task is at this local state
-abbrev pub IsCurrent : {P S E R A L : Type 0} → Machine S E R A L → View P S E L → Place E L → Type 0
+abbrev pub IsCurrent : {P S E R A L : Type 0} → Machine S E R A L → CoreView P S E L → TaskPlace E L → Type 0
 IsCurrent M c p = local_of ((state M c).tasks p.task) ≡ Some p.from
 
--- the task is at this local state, and can't go on
-pub record IsBlocked {P S E R A L : Type 0} (M : Machine S E R A L) (c : View P S E L) (p : Place E L) : Type 0 where
+-- the task is at this local state, and is blocked there
+pub record IsBlocked {P S E R A L : Type 0} (M : Machine S E R A L) (c : CoreView P S E L) (p : TaskPlace E L) : Type 0 where
   pub current : IsCurrent M c p
   pub blocked : CanTake M c (Act p.task) → ⊥
 
@@ -45,14 +47,14 @@ OverIs {E = E} M budget s (Some Budget) = (length s.trace ≡ budget) × ((l : L
 
 -- what every board keeps: its trace is a run of the program, no longer than the budget, in which handlers are handed events in the order of their introduction; its core is where this run leads;
 -- the parked tasks are blocked, and none is parked twice
-pub record IsSound {P S E R A L : Type 0} (M : Machine S E R A L) (program : P) (budget : ℕ) (s : Standing P S E L) : Type 0 where
+pub record IsBoardSound {P S E R A L : Type 0} (M : Machine S E R A L) (program : P) (budget : ℕ) (s : Standing P S E L) : Type 0 where
   pub program_is : s.core.program ≡ program
   pub leads : IsRunTo M s.core (labels_of s.trace)
   pub counted : s.core.steps ≡ length s.trace
   pub within : length s.trace ≤ budget
-  pub bounded : budget ≤ 1000000
+  pub bounded : budget ≤ MOST_STEPS
   pub over_is : OverIs M budget s s.over
-  pub blocked : (p : Place E L) → IsAmong p s.parked → IsBlocked M s.core p
+  pub blocked : (p : TaskPlace E L) → IsAmong p s.parked → IsBlocked M s.core p
   pub once : NoRepeats (tasks_of s.parked)
 
 -- a board before any step

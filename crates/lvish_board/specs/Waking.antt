@@ -1,19 +1,19 @@
--- Waking by stretches, of tasks by their names.
+-- Waking one task after another, by their names.
 use Rattle.std.specs.Prelude.{◌≡◌, ◌+◌, List, ◌++◌, length}
 use Rattle.std.specs.List.{AllByRecursion}
-use Rattle.lvish_calculus.specs.Calculus.{Name}
+use Rattle.lvish_names.specs.Names.{Name}
 use Rattle.lvish_calculus.specs.Handing.{NoRepeats}
-use Rattle.lvish_board.specs.Place.{Place}
+use Rattle.lvish_board.specs.Place.{TaskPlace}
 use Rattle.lvish_board.specs.Standing.{tasks_of}
 use Rattle.lvish_board.specs.Woken.{IsWoken}
 
 -- each lies under the name of its task
-abbrev pub AreNamed : {E L : Type 0} → List (Name E × Place E L) → Type 0
+abbrev pub AreNamed : {E L : Type 0} → List (Name E × TaskPlace E L) → Type 0
 AreNamed entries = AllByRecursion (λ e. e.0 ≡ e.1.task) entries
 
--- from the list of parked tasks those that can go on were moved behind the ones before: all that may
-pub record Wakes {E L : Type 0} (Can : Place E L → Type 0) (May : Place E L → Type 0) (old new before after : List (Place E L)) : Type 0 where
-  pub more : List (Place E L)
+-- the parked tasks that may be woken and can go on were moved behind those woken before
+pub record Wakes {E L : Type 0} (Can : TaskPlace E L → Type 0) (May : TaskPlace E L → Type 0) (old new before after : List (TaskPlace E L)) : Type 0 where
+  pub more : List (TaskPlace E L)
   pub adds : after ≡ before ++ more
   pub woken : IsWoken Can May old new more
   pub count : length after + length new ≡ length before + length old

@@ -7,33 +7,33 @@ use Rattle.lvish_variable.specs.declared.entry.Entry.{Entry}
 use Rattle.lvish_core.specs.declared.touched.Touched.{Touched}
 use Rattle.lvish_core.specs.declared.touched.Touched.TheVariants.{Put, Handed, Ended}
 use Rattle.lvish_core.specs.Spots.{HasSpot}
-use Rattle.lvish_board.specs.Place.{Place}
+use Rattle.lvish_board.specs.Place.{TaskPlace}
 
 -- a read that waits at a spot can be woken by an event of this spot, and one that waits at none by any
 abbrev pub MayAnswer : {E W : Type 0} → (E → W) → Option W → List (Entry E) → Type 0
 MayAnswer spot_of None fresh = Unit {0}
 MayAnswer spot_of (Some w) fresh = HasSpot spot_of w fresh
 
--- what a step concerned, with the entries that it brought to the log, can wake the request: a put the gets from its variable that wait at a spot of an entry, or at none; a handing, and the end of a task in one of a variable's pools, the freezes of that variable
+-- what a step concerned, with the entries that it brought to the log, can wake the request's task: a put can wake the gets from its variable that wait at a spot of an entry, or at none; a handing, or the end of a task in one of a variable's pools, the freezes of that variable
 abbrev pub MayWake : {S E R L W : Type 0} → (E → W) → (R → Option W) → Option Touched → List (Entry E) → Request S R L → Type 0
 MayWake spot_of watched (Some (Put v)) fresh (Get w r) = (w ≡ v) × MayAnswer spot_of (watched r) fresh
 MayWake spot_of watched (Some (Handed v)) fresh (Freeze w pools) = w ≡ v
 MayWake spot_of watched (Some (Ended v)) fresh (Freeze w pools) = w ≡ v
 MayWake spot_of watched touched fresh r = ⊥
 
--- a request for which a task may wait
+-- a request at which a task can be blocked
 abbrev pub IsWaiting : {S R L : Type 0} → Request S R L → Type 0
 IsWaiting (Get v r) = Unit {0}
 IsWaiting (Freeze v pools) = Unit {0}
 IsWaiting _ = ⊥
 
 -- those that were parked, and this one in place of any at its task
-pub record IsParkedBeside {E L : Type 0} (old : List (Place E L)) (p : Place E L) (new : List (Place E L)) : Type 0 where
-  pub each : (q : Place E L) → IsAmong q new ↔ ((q ≡ p) ⊎ (IsAmong q old × (q.task ≡ p.task → ⊥)))
+pub record IsParkedBeside {E L : Type 0} (old : List (TaskPlace E L)) (p : TaskPlace E L) (new : List (TaskPlace E L)) : Type 0 where
+  pub each : (q : TaskPlace E L) → IsAmong q new ↔ ((q ≡ p) ⊎ (IsAmong q old × (q.task ≡ p.task → ⊥)))
 
--- of the parked tasks the woken ones can go on, and are parked no longer; of the others, which stay, none can that may have been woken
-pub record IsWoken {E L : Type 0} (Can : Place E L → Type 0) (May : Place E L → Type 0) (old new woken : List (Place E L)) : Type 0 where
-  pub were : (p : Place E L) → IsAmong p woken → IsAmong p old × Can p
-  pub stay : (p : Place E L) → IsAmong p new → IsAmong p old × (IsAmong p woken → ⊥)
-  pub split : (p : Place E L) → IsAmong p old → IsAmong p woken ⊎ IsAmong p new
-  pub left : (p : Place E L) → IsAmong p new → May p → Can p → ⊥
+-- the woken tasks can go on, and are parked no longer; the others stay, and none of them that may have been woken can go on
+pub record IsWoken {E L : Type 0} (Can : TaskPlace E L → Type 0) (May : TaskPlace E L → Type 0) (old new woken : List (TaskPlace E L)) : Type 0 where
+  pub were : (p : TaskPlace E L) → IsAmong p woken → IsAmong p old × Can p
+  pub stay : (p : TaskPlace E L) → IsAmong p new → IsAmong p old × (IsAmong p woken → ⊥)
+  pub split : (p : TaskPlace E L) → IsAmong p old → IsAmong p woken ⊎ IsAmong p new
+  pub left : (p : TaskPlace E L) → IsAmong p new → May p → Can p → ⊥

@@ -17,9 +17,9 @@ pub struct Asked<P: Program, J: Named<P>> {
 
 impl<P: Program, J: Named<P>> Model for Asked<P, J> {
     ghost use Rattle.std.specs.Prelude.{◌≡◌};
-    ghost use Rattle.lvish_board.specs.Place.{Place};
+    ghost use Rattle.lvish_board.specs.Place.{TaskPlace};
 
-    ghost Value = { Place P.Lat.Event P.Local };
+    ghost Value = { TaskPlace P.Lat.Event P.Local };
 
     ghost view = { λ a. a.ticket };
 
@@ -60,7 +60,7 @@ impl<P: Program, J: Named<P>> Asked<P, J> {
         &self.asks
     }
 
-    /// The task's name, let go of all else.
+    /// The task's name; all else is dropped.
     pub(crate) fn into_task(self) -> TaskName<<P::Lat as Lattice>::Event>
         ensures { result ≡ self.task }
     {

@@ -1,32 +1,32 @@
 ghost use Rattle.std.specs.Prelude.{◌≡◌, ◌≤◌, IfOk, option_copied};
-ghost use Rattle.lvish_calculus.specs.Calculus.{main};
+ghost use Rattle.lvish_names.specs.Names.{main};
 ghost use Rattle.lvish_board.specs.declared.work.Work.TheVariants.{Stretch};
-ghost use Rattle.lvish_board.specs.Standing.{IsSound, IsOpened};
+ghost use Rattle.lvish_board.specs.Standing.{IsBoardSound, IsOpened};
 
 mod act;
 mod hand;
 mod make;
 mod settle;
 
-use crate::entry::Entry;
 use crate::named::Named;
 use crate::outcome::Outcome;
 use crate::parked::Parked;
 use crate::room::Room;
 use crate::ticket::Ticket;
+use crate::trace_entry::TraceEntry;
 use crate::work::Work;
 use lvish_calculus::{Meaning, Program};
-use lvish_core::Core;
+use lvish_core::{Core, MOST_STEPS};
 use lvish_lattice::Lattice;
 use lvish_names::TaskName;
 use std::alloc::{AllocError, Global};
 use std::marker::Model;
 
-/// A core, the trace of its steps, and the tasks that wait.
+/// A core, the trace of its steps, and the parked tasks.
 #[derive(Drop)]
 pub struct Board<'p, P: Program, J: Named<P>> {
     core: Core<'p, P>,
-    trace: Vec<Entry<<P::Lat as Lattice>::Event>>,
+    trace: Vec<TraceEntry<<P::Lat as Lattice>::Event>>,
     budget: u64,
     over: Option<Outcome<<P::Lat as Lattice>::Event>>,
     parked: Parked<P, J>,
@@ -36,13 +36,13 @@ pub struct Board<'p, P: Program, J: Named<P>> {
 impl<'p, P: Program, J: Named<P>> Model for Board<'p, P, J> {
     ghost use Rattle.std.specs.Prelude.{◌≡◌};
     ghost use Rattle.lvish_calculus.specs.Program.{machine_of};
-    ghost use Rattle.lvish_board.specs.Standing.{Standing, IsSound};
+    ghost use Rattle.lvish_board.specs.Standing.{Standing, IsBoardSound};
 
     ghost Value = { Standing P P.Lat P.Lat.Event P.Local };
 
     ghost view = { λ b. record { trace = b.trace.items; core = b.core; over = b.over; parked = b.parked } };
 
-    ghost invariant = { λ b. (b.budget ≡ J.budget) × IsSound (machine_of P.Lat.eq P.Lat.Event.eq P.Lat.Event.cmp P.Lat.least P.Lat.joined P.Lat.events_of P.Lat.answer_of (P.functions J.program)) J.program J.budget (record { trace = b.trace.items; core = b.core; over = b.over; parked = b.parked }) };
+    ghost invariant = { λ b. (b.budget ≡ J.budget) × IsBoardSound (machine_of P.Lat.eq P.Lat.Event.eq P.Lat.Event.cmp P.Lat.least P.Lat.joined P.Lat.events_of P.Lat.answer_of (P.functions J.program)) J.program J.budget (record { trace = b.trace.items; core = b.core; over = b.over; parked = b.parked }) };
 }
 
 impl<'p, P: Program, J: Named<P>> Board<'p, P, J> {
@@ -58,7 +58,7 @@ impl<'p, P: Program, J: Named<P>> Board<'p, P, J> {
     ) -> Result<(Board<'p, P, J>, Work<P, J>), AllocError>
         requires program { program.now ≡ J.program }
         requires budget { budget ≡ J.budget }
-        requires bounded { J.budget ≤ 1000000 }
+        requires bounded { J.budget ≤ MOST_STEPS }
         ensures board { IfOk result (λ r. IsOpened (⟦<P as Meaning>⟧.machine J.program) J.program r.0) }
         ensures first { IfOk result (λ r. r.1 ≡ Stretch (record { task = main; from = (P.functions J.program).start })) }
     {
@@ -79,15 +79,15 @@ impl<'p, P: Program, J: Named<P>> Board<'p, P, J> {
     /// How the board is over; `None` where it isn't.
     pub fn over(&self) -> Option<&Outcome<<P::Lat as Lattice>::Event>>
         ensures over { option_copied result ≡ self.now.over }
-        ensures sound { IsSound (⟦<P as Meaning>⟧.machine J.program) J.program J.budget self.now }
+        ensures sound { IsBoardSound (⟦<P as Meaning>⟧.machine J.program) J.program J.budget self.now }
     {
         self.over.as_ref()
     }
 
     /// The steps that were made, in their order.
-    pub fn trace(&self) -> &[Entry<<P::Lat as Lattice>::Event>]
+    pub fn trace(&self) -> &[TraceEntry<<P::Lat as Lattice>::Event>]
         ensures trace { result.now ≡ self.now.trace }
-        ensures sound { IsSound (⟦<P as Meaning>⟧.machine J.program) J.program J.budget self.now }
+        ensures sound { IsBoardSound (⟦<P as Meaning>⟧.machine J.program) J.program J.budget self.now }
     {
         &self.trace
     }
@@ -95,13 +95,13 @@ impl<'p, P: Program, J: Named<P>> Board<'p, P, J> {
     /// The core, to which the trace leads.
     pub fn core(&self) -> &Core<'p, P>
         ensures core { result.now ≡ self.now.core }
-        ensures sound { IsSound (⟦<P as Meaning>⟧.machine J.program) J.program J.budget self.now }
+        ensures sound { IsBoardSound (⟦<P as Meaning>⟧.machine J.program) J.program J.budget self.now }
     {
         &self.core
     }
 
     /// The steps that were made, in their order, without a copy.
-    pub fn into_trace(self) -> Vec<Entry<<P::Lat as Lattice>::Event>>
+    pub fn into_trace(self) -> Vec<TraceEntry<<P::Lat as Lattice>::Event>>
         ensures { result.items ≡ self.entry.trace }
     {
         let Board {

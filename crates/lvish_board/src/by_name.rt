@@ -1,23 +1,23 @@
-//! The tasks that wait, by name.
+//! The parked tasks, by name.
 
 ghost use Rattle.std.specs.Prelude.{◌≡◌, ◌+◌, ◌≤◌, ◌↔◌, ◌⊎◌, [], true, IfOk, IfErr, IsTrue, length, vec_len, vec_capacity};
-ghost use Rattle.lvish_calculus.specs.declared.label.Label.TheVariants.{Task};
+ghost use Rattle.lvish_calculus.specs.declared.label.Label.TheVariants.{Act};
 ghost use Rattle.lvish_calculus.specs.Handing.{IsAmong, NoRepeats};
-ghost use Rattle.lvish_board.specs.Place.{Place};
+ghost use Rattle.lvish_board.specs.Place.{TaskPlace};
 ghost use Rattle.lvish_board.specs.Standing.{tasks_of};
 ghost use Rattle.lvish_board.specs.Waking.{Wakes};
 
 use crate::asked::Asked;
 use crate::named::Named;
 use lvish_calculus::Program;
-use lvish_core::{Core, Runs};
+use lvish_core::{Core, CoreMeaning};
 use lvish_lattice::Lattice;
 use lvish_names::TaskName;
 use std::alloc::Global;
 use std::collections::BTreeMap;
 use std::marker::Model;
 
-/// The tasks that wait, each once, by name.
+/// The parked tasks, each once, by name.
 #[derive(Drop)]
 pub(crate) struct ByName<P: Program, J: Named<P>> {
     asked: BTreeMap<TaskName<<P::Lat as Lattice>::Event>, Asked<P, J>>,
@@ -28,10 +28,10 @@ impl<P: Program, J: Named<P>> Model for ByName<P, J> {
     ghost use Rattle.std.specs.List.Sorted.{IsStrictlySortedBy};
     ghost use Rattle.std.specs.BTreeMap.{keys, values};
     ghost use Rattle.lvish_names.specs.NameOrder.{name_cmp};
-    ghost use Rattle.lvish_board.specs.Place.{Place};
+    ghost use Rattle.lvish_board.specs.Place.{TaskPlace};
     ghost use Rattle.lvish_board.specs.Waking.{AreNamed};
 
-    ghost Value = { List (Place P.Lat.Event P.Local) };
+    ghost Value = { List (TaskPlace P.Lat.Event P.Local) };
 
     ghost view = { λ b. values b.asked };
 
@@ -48,35 +48,35 @@ impl<P: Program, J: Named<P>> ByName<P, J> {
         }
     }
 
-    /// How many tasks wait.
+    /// How many tasks are parked.
     pub(crate) fn len(&self) -> usize
         ensures { result ≡ length self.now }
     {
         self.asked.len()
     }
 
-    /// No task waits twice.
+    /// No task is parked twice.
     pub(crate) fn each_waits_once(&self)
         ensures { NoRepeats (tasks_of self.now) }
     {
         let _waiting = self.asked.len();
     }
 
-    /// Whether the task of this name waits.
+    /// Whether the task of this name is parked.
     pub(crate) fn has(&self, name: &TaskName<<P::Lat as Lattice>::Event>) -> bool
         ensures { IsTrue result ↔ IsAmong name.now (tasks_of self.now) }
     {
         self.asked.contains_key(name)
     }
 
-    /// Keeps a task that isn't there.
+    /// Parks a task that isn't there.
     ///
     /// # Errors
     ///
-    /// Where there is no room for it, what was to be kept; nothing has changed.
+    /// Where there is no room for it, what was to be parked; nothing has changed.
     pub(crate) fn insert(&mut self, asked: Asked<P, J>) -> Result<(), Asked<P, J>>
         requires { IsAmong asked.task (tasks_of self.old) → ⊥ }
-        ensures ok { IfOk result (λ _. (q : Place P.Lat.Event P.Local) → IsAmong q self.new ↔ ((q ≡ asked) ⊎ IsAmong q self.old)) }
+        ensures ok { IfOk result (λ _. (q : TaskPlace P.Lat.Event P.Local) → IsAmong q self.new ↔ ((q ≡ asked) ⊎ IsAmong q self.old)) }
         ensures err { IfErr result (λ a. (a ≡ asked) × (self.new ≡ self.old)) }
         ensures once { NoRepeats (tasks_of self.old) → NoRepeats (tasks_of self.new) }
     {
@@ -89,7 +89,8 @@ impl<P: Program, J: Named<P>> ByName<P, J> {
         }
     }
 
-    /// Gives the task away if it waits and can go on. Answers false where it waits and can't.
+    /// Takes the task out if it is parked and can go on. Answers false where it is parked and stays
+    /// blocked.
     pub(crate) fn wake(
         &mut self,
         core: &Core<'_, P>,
@@ -97,9 +98,9 @@ impl<P: Program, J: Named<P>> ByName<P, J> {
         woken: &mut Vec<Asked<P, J>>,
     ) -> bool
         requires program { core.now.program ≡ J.program }
-        requires current { (p : Place P.Lat.Event P.Local) → IsAmong p self.old → ⟦<P as Runs>⟧.local_in core.now p.task ≡ Some p.from }
+        requires current { (p : TaskPlace P.Lat.Event P.Local) → IsAmong p self.old → ⟦<P as CoreMeaning>⟧.local_in core.now p.task ≡ Some p.from }
         requires room { vec_len woken.old + length self.old ≤ vec_capacity woken.old }
-        ensures wakes { Wakes (λ p. ⟦<P as Runs>⟧.can_take core.now (Task p.task)) (λ p. p.task ≡ name.now) self.old self.new woken.old.items woken.new.items }
+        ensures wakes { Wakes (λ p. ⟦<P as CoreMeaning>⟧.can_take core.now (Act p.task)) (λ p. p.task ≡ name.now) self.old self.new woken.old.items woken.new.items }
         ensures gone { IsTrue result → IsAmong name.now (tasks_of self.new) → ⊥ }
         ensures capacity { vec_capacity woken.new ≡ vec_capacity woken.old }
     {
@@ -115,7 +116,7 @@ impl<P: Program, J: Named<P>> ByName<P, J> {
         true
     }
 
-    /// Gives away those of these tasks that can go on, and leaves the names of the others.
+    /// Takes out those of these tasks that can go on, and leaves the names of the others.
     pub(crate) fn wake_each(
         &mut self,
         core: &Core<'_, P>,
@@ -123,10 +124,10 @@ impl<P: Program, J: Named<P>> ByName<P, J> {
         woken: &mut Vec<Asked<P, J>>,
     )
         requires program { core.now.program ≡ J.program }
-        requires current { (p : Place P.Lat.Event P.Local) → IsAmong p self.old → ⟦<P as Runs>⟧.local_in core.now p.task ≡ Some p.from }
+        requires current { (p : TaskPlace P.Lat.Event P.Local) → IsAmong p self.old → ⟦<P as CoreMeaning>⟧.local_in core.now p.task ≡ Some p.from }
         requires room { vec_len woken.old + length self.old ≤ vec_capacity woken.old }
-        ensures wakes { Wakes (λ p. ⟦<P as Runs>⟧.can_take core.now (Task p.task)) (λ p. IsAmong p.task names.old.items) self.old self.new woken.old.items woken.new.items }
-        ensures left { (p : Place P.Lat.Event P.Local) → IsAmong p self.new → IsAmong p.task names.old.items → IsAmong p.task names.new.items }
+        ensures wakes { Wakes (λ p. ⟦<P as CoreMeaning>⟧.can_take core.now (Act p.task)) (λ p. IsAmong p.task names.old.items) self.old self.new woken.old.items woken.new.items }
+        ensures left { (p : TaskPlace P.Lat.Event P.Local) → IsAmong p self.new → IsAmong p.task names.old.items → IsAmong p.task names.new.items }
         ensures capacity { vec_capacity woken.new ≡ vec_capacity woken.old }
     {
         let mut next = names.len();

@@ -1,4 +1,4 @@
-//! The board: a core, the trace of its steps, and the tasks that wait, in one value that a lock can
+//! The board: a core, the trace of its steps, and the parked tasks, in one value that a lock can
 //! hold.
 //!
 //! Workers run the local statements of a [`Ticket`] by themselves ([`stretch`]); what the task then
@@ -10,19 +10,18 @@
 //! let Work::Stretch(ticket) = first else { .. };
 //! let Ok(asked) = stretch(alloc, &program, ticket) else { .. };
 //! match board.act(alloc, 0, asked) {
-//!     Act::Next(more) | Act::Gone(more) => .. // all of it is to be done, in any order
-//!     Act::Parked => .. // the board keeps it, and lists it once it can go on
-//!     Act::Over => .. // `board.over()` says how
+//!     Acted::Next(more) | Acted::Gone(more) => .. // all of it is to be done, in any order
+//!     Acted::Parked => .. // the board parks it, and lists it once it can go on
+//!     Acted::Over => .. // `board.over()` says how
 //!     ..
 //! }
 //! ```
 #![tactic(auto)]
 
-mod act;
+mod acted;
 mod asked;
 mod board;
 mod by_name;
-mod entry;
 mod list;
 mod named;
 mod outcome;
@@ -30,13 +29,14 @@ mod parked;
 mod room;
 mod shelves;
 mod ticket;
+mod trace_entry;
 mod work;
 
-pub use act::Act;
+pub use acted::Acted;
 pub use asked::{Asked, stretch};
 pub use board::Board;
-pub use entry::Entry;
 pub use named::Named;
 pub use outcome::Outcome;
 pub use ticket::Ticket;
+pub use trace_entry::TraceEntry;
 pub use work::Work;

@@ -2,10 +2,10 @@
 
 ghost use Rattle.std.specs.Prelude.{◌≡◌, ◌<◌, ◌≤◌, ◌+◌, ◌++◌, [], length, vec_len, vec_capacity};
 ghost use Rattle.lvish_calculus.specs.Handing.{IsAmong, NoRepeats};
-ghost use Rattle.lvish_board.specs.Place.{Place};
+ghost use Rattle.lvish_board.specs.Place.{TaskPlace};
 ghost use Rattle.lvish_board.specs.Standing.{tasks_of};
 ghost use Rattle.lvish_board.specs.Listed.{HasNext, stretches, acts};
-ghost use Rattle.lvish_board.specs.Left.{AddsHandings, IsLeft, IsListOf, IsLogged, candidates, fresh_in, own_ticket, made_ticket, listed};
+ghost use Rattle.lvish_board.specs.Left.{AddsHandings, IsLeft, IsListOf, IsLogged, candidates, fresh_in, own_ticket, made_ticket, option_list};
 
 use crate::asked::Asked;
 use crate::named::Named;
@@ -14,7 +14,7 @@ use crate::room::{Room, given};
 use crate::ticket::Ticket;
 use crate::work::Work;
 use lvish_calculus::{Meaning, Program};
-use lvish_core::{Core, Made, Moved, Runs, Touched};
+use lvish_core::{Core, CoreMeaning, Made, Moved, Touched};
 use lvish_lattice::Lattice;
 use lvish_names::HandlerName;
 use lvish_variable::Entry;
@@ -22,7 +22,7 @@ use std::alloc::Global;
 
 /// What a step leaves by itself: the tickets of its tasks, and a handler that it added.
 #[derive(Drop)]
-pub(crate) struct Left<P: Program, J: Named<P>> {
+pub(crate) struct OwnWork<P: Program, J: Named<P>> {
     pub own: Option<Ticket<P, J>>,
     pub made: Option<Ticket<P, J>>,
     pub added: Option<HandlerName<<P::Lat as Lattice>::Event>>,
@@ -32,7 +32,7 @@ pub(crate) struct Left<P: Program, J: Named<P>> {
 pub(crate) fn left_by<P: Program, J: Named<P>>(
     asked: Asked<P, J>,
     moved: Moved<<P::Lat as Lattice>::Event, P::Local>,
-) -> Left<P, J>
+) -> OwnWork<P, J>
     ensures own { result.own ≡ own_ticket asked.task moved.own }
     ensures made { result.made ≡ made_ticket moved.made }
     ensures added { result.added ≡ moved.added }
@@ -42,7 +42,7 @@ pub(crate) fn left_by<P: Program, J: Named<P>>(
         Some(local) => Some(Ticket::new(asked.into_task(), local)),
         None => None,
     };
-    Left {
+    OwnWork {
         own,
         made: ticket_of(made),
         added,
@@ -61,7 +61,7 @@ pub(crate) fn ticket_of<P: Program, J: Named<P>>(
     }
 }
 
-/// The entries that the last step brought, where the log of its variable had so many before it.
+/// The entries that the last step brought; `logged` is the length of its variable's log before it.
 fn fresh<'c, P: Program>(
     core: &'c Core<'_, P>,
     logged: usize,
@@ -78,29 +78,29 @@ fn fresh<'c, P: Program>(
 /// The work that a step leaves: the tickets, the parked tasks that it woke, by name, and of the
 /// handlers that it concerned those with something left.
 ///
-/// In `room` are the handlers that a put may concern; the log of its variable had so many entries
+/// `room` has the handlers that a put may concern; `logged` is the length of its variable's log
 /// before the step.
 pub(crate) fn leave<P: Program, J: Named<P>>(
     alloc: Global,
     core: &Core<'_, P>,
     parked: &mut Parked<P, J>,
-    left: Left<P, J>,
+    left: OwnWork<P, J>,
     room: &mut Room<P, J>,
     logged: usize,
 ) -> Vec<Work<P, J>>
     requires program { core.now.program ≡ J.program }
     requires logged { IsLogged core.now.table.variables logged core.now.touched }
-    requires current { (p : Place P.Lat.Event P.Local) → IsAmong p parked.old → ⟦<P as Runs>⟧.local_in core.now p.task ≡ Some p.from }
+    requires current { (p : TaskPlace P.Lat.Event P.Local) → IsAmong p parked.old → ⟦<P as CoreMeaning>⟧.local_in core.now p.task ≡ Some p.from }
     requires empty { (room.old.list.items ≡ []) × (room.old.woken.items ≡ []) }
-    requires list_room { 2 + length parked.old + (length room.old.hands.items + length (listed left.added)) ≤ vec_capacity room.old.list }
+    requires list_room { 2 + length parked.old + (length room.old.hands.items + length (option_list left.added)) ≤ vec_capacity room.old.list }
     requires woken_room { length parked.old ≤ vec_capacity room.old.woken }
-    requires hands_room { length room.old.hands.items + length (listed left.added) ≤ vec_capacity room.old.hands }
+    requires hands_room { length room.old.hands.items + length (option_list left.added) ≤ vec_capacity room.old.hands }
     ensures left { IsLeft P.Lat.Event.cmp (⟦<P as Meaning>⟧.machine core.now.program) P.Lat.spot_of P.Lat.watched core.now logged left.own left.made left.added room.old.hands.items parked.old parked.new result.items }
     ensures once { NoRepeats (tasks_of parked.old) → NoRepeats (tasks_of parked.new) }
 {
     let entries = fresh(core, logged);
     parked.wake(core, entries, &mut room.woken);
-    let Left { own, made, added } = left;
+    let OwnWork { own, made, added } = left;
     keep_candidates(entries, &mut room.hands, added);
     let woken = given(alloc, &mut room.woken);
     let hands = given(alloc, &mut room.hands);
@@ -115,9 +115,9 @@ fn keep_candidates<E: Drop>(
     hands: &mut Vec<HandlerName<E>>,
     added: Option<HandlerName<E>>,
 )
-    requires room { length hands.old.items + length (listed added) ≤ vec_capacity hands.old }
+    requires room { length hands.old.items + length (option_list added) ≤ vec_capacity hands.old }
     ensures are { hands.new.items ≡ candidates entries.now hands.old.items added }
-    ensures few { vec_len hands.new ≤ length hands.old.items + length (listed added) }
+    ensures few { vec_len hands.new ≤ length hands.old.items + length (option_list added) }
 {
     if entries.is_empty() {
         hands.clear();
@@ -127,7 +127,7 @@ fn keep_candidates<E: Drop>(
     }
 }
 
-/// Makes the empty list that of this work.
+/// Fills the empty list with this work.
 fn list_work<P: Program, J: Named<P>>(
     core: &Core<'_, P>,
     list: &mut Vec<Work<P, J>>,
@@ -149,7 +149,7 @@ fn list_work<P: Program, J: Named<P>>(
 /// Lists the ticket, if there is one.
 fn list_ticket<P: Program, J: Named<P>>(list: &mut Vec<Work<P, J>>, ticket: Option<Ticket<P, J>>)
     requires room { vec_len list.old < vec_capacity list.old }
-    ensures items { list.new.items ≡ list.old.items ++ stretches (listed ticket) }
+    ensures items { list.new.items ≡ list.old.items ++ stretches (option_list ticket) }
     ensures capacity { vec_capacity list.new ≡ vec_capacity list.old }
     ensures len { vec_len list.new ≤ vec_len list.old + 1 }
 {

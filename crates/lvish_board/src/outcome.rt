@@ -12,6 +12,6 @@ pub enum Outcome<E> {
         variable: Option<usize>,
         task: TaskName<E>,
     },
-    /// As many steps as the budget were made, and something is enabled.
+    /// As many steps as the budget allows were made, and something is enabled.
     Budget,
 }

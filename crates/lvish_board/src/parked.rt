@@ -1,12 +1,12 @@
-//! The tasks that wait.
+//! The parked tasks.
 
 ghost use Rattle.std.specs.Prelude.{◌≡◌, ◌+◌, ◌≤◌, ◌⊎◌, [], None, Some, Option, IfOk, IfErr, OnOk, length, vec_len, vec_capacity};
 ghost use Rattle.std.specs.List.Sorted.{IsPermutation, IsSortedBy, IsStrictlySortedBy};
 ghost use Rattle.std.specs.Ordering.{is_lt};
 ghost use Rattle.lvish_names.specs.NameOrder.{name_cmp};
-ghost use Rattle.lvish_calculus.specs.declared.label.Label.TheVariants.{Task};
+ghost use Rattle.lvish_calculus.specs.declared.label.Label.TheVariants.{Act};
 ghost use Rattle.lvish_calculus.specs.Handing.{IsAmong, NoRepeats};
-ghost use Rattle.lvish_board.specs.Place.{Place};
+ghost use Rattle.lvish_board.specs.Place.{TaskPlace};
 ghost use Rattle.lvish_board.specs.Standing.{tasks_of};
 ghost use Rattle.lvish_board.specs.Waking.{Wakes};
 ghost use Rattle.lvish_board.specs.Shelved.{WaitsAt};
@@ -18,7 +18,7 @@ use crate::by_name::ByName;
 use crate::named::Named;
 use crate::shelves::Shelves;
 use lvish_calculus::{Program, Request};
-use lvish_core::{Core, Runs, Touched};
+use lvish_core::{Core, CoreMeaning, Touched};
 use lvish_lattice::{Lattice, Reads};
 use lvish_names::TaskName;
 use lvish_variable::Entry;
@@ -26,7 +26,7 @@ use std::alloc::Global;
 use std::cmp::Ordering;
 use std::marker::Model;
 
-/// The tasks that wait, each once, and on one list each.
+/// The parked tasks, each once, and on one list each.
 #[derive(Drop)]
 pub(crate) struct Parked<P: Program, J: Named<P>> {
     tasks: ByName<P, J>,
@@ -39,14 +39,14 @@ pub(crate) struct Parked<P: Program, J: Named<P>> {
 impl<P: Program, J: Named<P>> Model for Parked<P, J> {
     ghost use Rattle.std.specs.Prelude.{List};
     ghost use Rattle.lvish_calculus.specs.Handing.{IsAmong};
-    ghost use Rattle.lvish_board.specs.Place.{Place};
+    ghost use Rattle.lvish_board.specs.Place.{TaskPlace};
     ghost use Rattle.lvish_board.specs.Shelved.{IsOnItsList};
 
-    ghost Value = { List (Place P.Lat.Event P.Local) };
+    ghost Value = { List (TaskPlace P.Lat.Event P.Local) };
 
     ghost view = { λ p. p.tasks };
 
-    ghost invariant = { λ p. (q : Place P.Lat.Event P.Local) → IsAmong q p.tasks → IsOnItsList P.Lat.Spot.cmp P.Lat.watched p.gets.lists p.freezes.lists ((P.functions J.program).request q.from) q.task };
+    ghost invariant = { λ p. (q : TaskPlace P.Lat.Event P.Local) → IsAmong q p.tasks → IsOnItsList P.Lat.Spot.cmp P.Lat.watched p.gets.lists p.freezes.lists ((P.functions J.program).request q.from) q.task };
 }
 
 impl<P: Program, J: Named<P>> Parked<P, J> {
@@ -61,21 +61,21 @@ impl<P: Program, J: Named<P>> Parked<P, J> {
         }
     }
 
-    /// How many tasks wait.
+    /// How many tasks are parked.
     pub(crate) fn len(&self) -> usize
         ensures { result ≡ length self.now }
     {
         self.tasks.len()
     }
 
-    /// Keeps a task that waits, in place of any at its name.
+    /// Parks a task, in place of any at its name.
     ///
     /// # Errors
     ///
-    /// Where there is no room for it, what was to be kept; nothing has changed.
+    /// Where there is no room for it, what was to be parked; nothing has changed.
     pub(crate) fn park(&mut self, alloc: Global, asked: Asked<P, J>) -> Result<(), Asked<P, J>>
         requires waiting { IsWaiting ((P.functions J.program).request asked.from) }
-        requires same { (q : Place P.Lat.Event P.Local) → IsAmong q self.old → q.task ≡ asked.task → q ≡ asked }
+        requires same { (q : TaskPlace P.Lat.Event P.Local) → IsAmong q self.old → q.task ≡ asked.task → q ≡ asked }
         ensures ok { IfOk result (λ _. IsParkedBeside self.old asked self.new) }
         ensures once { NoRepeats (tasks_of self.old) → NoRepeats (tasks_of self.new) }
         ensures err { IfErr result (λ a. (a ≡ asked) × (self.new ≡ self.old)) }
@@ -109,7 +109,7 @@ impl<P: Program, J: Named<P>> Parked<P, J> {
         Ok(())
     }
 
-    /// Gives away the tasks that the last step woke, in the order of their names: these entries are
+    /// Takes out the tasks that the last step woke, in the order of their names: these entries are
     /// what it brought to the log of its variable.
     pub(crate) fn wake(
         &mut self,
@@ -118,10 +118,10 @@ impl<P: Program, J: Named<P>> Parked<P, J> {
         woken: &mut Vec<Asked<P, J>>,
     )
         requires program { core.now.program ≡ J.program }
-        requires current { (p : Place P.Lat.Event P.Local) → IsAmong p self.old → ⟦<P as Runs>⟧.local_in core.now p.task ≡ Some p.from }
+        requires current { (p : TaskPlace P.Lat.Event P.Local) → IsAmong p self.old → ⟦<P as CoreMeaning>⟧.local_in core.now p.task ≡ Some p.from }
         requires empty { woken.old.items ≡ [] }
         requires room { length self.old ≤ vec_capacity woken.old }
-        ensures woken { IsWoken (λ p. ⟦<P as Runs>⟧.can_take core.now (Task p.task)) (λ p. MayWake P.Lat.spot_of P.Lat.watched core.now.touched fresh.now ((P.functions core.now.program).request p.from)) self.old self.new woken.new.items }
+        ensures woken { IsWoken (λ p. ⟦<P as CoreMeaning>⟧.can_take core.now (Act p.task)) (λ p. MayWake P.Lat.spot_of P.Lat.watched core.now.touched fresh.now ((P.functions core.now.program).request p.from)) self.old self.new woken.new.items }
         ensures by_name { IsStrictlySortedBy (name_cmp P.Lat.Event.cmp) (tasks_of woken.new.items) }
         ensures once { NoRepeats (tasks_of self.old) → NoRepeats (tasks_of self.new) }
         ensures few { vec_len woken.new ≤ length self.old }
@@ -137,7 +137,7 @@ impl<P: Program, J: Named<P>> Parked<P, J> {
         sort_by_task(woken);
     }
 
-    /// Gives away the gets that these entries of the variable's log woke.
+    /// Takes out the gets that these entries of the variable's log woke.
     fn wake_gets(
         &mut self,
         core: &Core<'_, P>,
@@ -146,9 +146,9 @@ impl<P: Program, J: Named<P>> Parked<P, J> {
         woken: &mut Vec<Asked<P, J>>,
     )
         requires program { core.now.program ≡ J.program }
-        requires current { (p : Place P.Lat.Event P.Local) → IsAmong p self.old → ⟦<P as Runs>⟧.local_in core.now p.task ≡ Some p.from }
+        requires current { (p : TaskPlace P.Lat.Event P.Local) → IsAmong p self.old → ⟦<P as CoreMeaning>⟧.local_in core.now p.task ≡ Some p.from }
         requires room { vec_len woken.old + length self.old ≤ vec_capacity woken.old }
-        ensures { Wakes (λ p. ⟦<P as Runs>⟧.can_take core.now (Task p.task)) (λ p. MayWake P.Lat.spot_of P.Lat.watched (Some (Put variable)) fresh.now ((P.functions core.now.program).request p.from)) self.old self.new woken.old.items woken.new.items }
+        ensures { Wakes (λ p. ⟦<P as CoreMeaning>⟧.can_take core.now (Act p.task)) (λ p. MayWake P.Lat.spot_of P.Lat.watched (Some (Put variable)) fresh.now ((P.functions core.now.program).request p.from)) self.old self.new woken.old.items woken.new.items }
     {
         self.wake_at(core, (variable, None), woken);
         for entry in fresh {
@@ -157,7 +157,7 @@ impl<P: Program, J: Named<P>> Parked<P, J> {
         }
     }
 
-    /// Gives away the gets that wait here and can go on.
+    /// Takes out the gets that wait here and can go on.
     fn wake_at(
         &mut self,
         core: &Core<'_, P>,
@@ -165,9 +165,9 @@ impl<P: Program, J: Named<P>> Parked<P, J> {
         woken: &mut Vec<Asked<P, J>>,
     )
         requires program { core.now.program ≡ J.program }
-        requires current { (p : Place P.Lat.Event P.Local) → IsAmong p self.old → ⟦<P as Runs>⟧.local_in core.now p.task ≡ Some p.from }
+        requires current { (p : TaskPlace P.Lat.Event P.Local) → IsAmong p self.old → ⟦<P as CoreMeaning>⟧.local_in core.now p.task ≡ Some p.from }
         requires room { vec_len woken.old + length self.old ≤ vec_capacity woken.old }
-        ensures wakes { Wakes (λ p. ⟦<P as Runs>⟧.can_take core.now (Task p.task)) (λ p. WaitsAt P.Lat.watched key ((P.functions core.now.program).request p.from)) self.old self.new woken.old.items woken.new.items }
+        ensures wakes { Wakes (λ p. ⟦<P as CoreMeaning>⟧.can_take core.now (Act p.task)) (λ p. WaitsAt P.Lat.watched key ((P.functions core.now.program).request p.from)) self.old self.new woken.old.items woken.new.items }
         ensures capacity { vec_capacity woken.new ≡ vec_capacity woken.old }
     {
         if let Some(names) = self.gets.lists.get_mut(&key) {
@@ -175,12 +175,12 @@ impl<P: Program, J: Named<P>> Parked<P, J> {
         }
     }
 
-    /// Gives away the freezes of the variable that can go on.
+    /// Takes out the freezes of the variable that can go on.
     fn wake_freezes(&mut self, core: &Core<'_, P>, variable: usize, woken: &mut Vec<Asked<P, J>>)
         requires program { core.now.program ≡ J.program }
-        requires current { (p : Place P.Lat.Event P.Local) → IsAmong p self.old → ⟦<P as Runs>⟧.local_in core.now p.task ≡ Some p.from }
+        requires current { (p : TaskPlace P.Lat.Event P.Local) → IsAmong p self.old → ⟦<P as CoreMeaning>⟧.local_in core.now p.task ≡ Some p.from }
         requires room { vec_len woken.old + length self.old ≤ vec_capacity woken.old }
-        ensures { Wakes (λ p. ⟦<P as Runs>⟧.can_take core.now (Task p.task)) (λ p. MayWake P.Lat.spot_of P.Lat.watched (Some (Handed variable)) [] ((P.functions core.now.program).request p.from)) self.old self.new woken.old.items woken.new.items }
+        ensures { Wakes (λ p. ⟦<P as CoreMeaning>⟧.can_take core.now (Act p.task)) (λ p. MayWake P.Lat.spot_of P.Lat.watched (Some (Handed variable)) [] ((P.functions core.now.program).request p.from)) self.old self.new woken.old.items woken.new.items }
     {
         if let Some(names) = self.freezes.lists.get_mut(&variable) {
             self.tasks.wake_each(core, names, woken);

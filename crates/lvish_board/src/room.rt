@@ -7,7 +7,7 @@ use crate::asked::Asked;
 use crate::named::Named;
 use crate::work::Work;
 use lvish_calculus::{Meaning, Program, Request};
-use lvish_core::{Core, Runs};
+use lvish_core::{Core, CoreMeaning};
 use lvish_handlers::Held;
 use lvish_lattice::{Lattice, Plain};
 use lvish_names::HandlerName;
@@ -15,7 +15,7 @@ use std::alloc::{AllocError, Global};
 use std::mem;
 
 /// Room for the work of a step, taken before it, so that nothing is refused after it. A board keeps
-/// it from step to step, so that a step takes no more of it where enough is there.
+/// it from step to step, so that a step takes memory only where there isn't enough room.
 #[derive(Drop)]
 pub(crate) struct Room<P: Program, J: Named<P>> {
     pub list: Vec<Work<P, J>>,
@@ -34,7 +34,7 @@ impl<P: Program, J: Named<P>> Room<P, J> {
         }
     }
 
-    /// Empty, with room for two tickets, for so many parked tasks, and for so many handlers.
+    /// Empties it, with room for two tickets, this many parked tasks and this many handlers.
     ///
     /// # Errors
     ///
@@ -91,7 +91,7 @@ impl<P: Program, J: Named<P>> Room<P, J> {
     }
 }
 
-/// Gives away what is in the buffer: in a list of its own, so that the buffer keeps its room, where
+/// Takes out what is in the buffer: in a list of its own, so that the buffer keeps its room, where
 /// there is memory for one, else with the buffer.
 pub(crate) fn given<T: Drop>(alloc: Global, buffer: &mut Vec<T>) -> Vec<T>
     ensures { result.items ≡ buffer.old.items }

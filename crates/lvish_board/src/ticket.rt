@@ -16,9 +16,9 @@ pub struct Ticket<P: Program, J: Named<P>> {
 }
 
 impl<P: Program, J: Named<P>> Model for Ticket<P, J> {
-    ghost use Rattle.lvish_board.specs.Place.{Place};
+    ghost use Rattle.lvish_board.specs.Place.{TaskPlace};
 
-    ghost Value = { Place P.Lat.Event P.Local };
+    ghost Value = { TaskPlace P.Lat.Event P.Local };
 
     ghost view = { λ t. record { task = t.task; from = t.from } };
 }
@@ -54,7 +54,7 @@ impl<P: Program, J: Named<P>> Ticket<P, J> {
         Ok(Ticket::new(task, from))
     }
 
-    /// The task's name, let go of the local state.
+    /// The task's name; the local state is dropped.
     pub(crate) fn into_task(self) -> TaskName<<P::Lat as Lattice>::Event>
         ensures { result ≡ self.task }
     {

@@ -2,17 +2,18 @@
 
 ghost use Rattle.std.specs.Prelude.{◌≡◌, ◌≤◌};
 
+use crate::board_row::BoardRow;
 use crate::naming::{Naming, Of};
-use crate::row::Row;
-use crate::table::{write_calls, write_run, write_steps};
+use crate::two_boards::{write_calls, write_run, write_steps};
+use lvish_core::MOST_STEPS;
 use lvish_script::read_script;
-use lvish_task::Code;
+use lvish_task::ScriptCode;
 use std::alloc::{AllocError, Global};
 use std::marker::Brand;
 
 /// What is asked of a board.
 #[derive(Clone, Copy)]
-pub enum Asks<'t> {
+pub enum BoardQuestion<'t> {
     /// What it answers to the calls of these lines.
     Calls(&'t str),
     /// What it comes to, all of its work done in the order of this seed.
@@ -22,7 +23,7 @@ pub enum Asks<'t> {
 }
 
 /// The answer to a row's question, which is about boards of its script.
-pub fn answer_of(alloc: Global, row: Row<'_>) -> Result<String, AllocError> {
+pub fn answer_of(alloc: Global, row: BoardRow<'_>) -> Result<String, AllocError> {
     let code = code_of(alloc, row.script)?;
     let mut text = String::new(alloc);
     write_answer(alloc, &code, &mut text, row)?;
@@ -30,18 +31,18 @@ pub fn answer_of(alloc: Global, row: Row<'_>) -> Result<String, AllocError> {
 }
 
 /// The script's code. Where it is no script, there is none, as for want of memory.
-fn code_of(alloc: Global, script: &str) -> Result<Code, AllocError> {
+fn code_of(alloc: Global, script: &str) -> Result<ScriptCode, AllocError> {
     match read_script(alloc, script.as_bytes()) {
-        Ok(script) => Code::new(alloc, &script),
+        Ok(script) => ScriptCode::new(alloc, &script),
         Err(_fault) => Err(AllocError),
     }
 }
 
 fn write_answer(
     alloc: Global,
-    code: &Code,
+    code: &ScriptCode,
     text: &mut String,
-    row: Row<'_>,
+    row: BoardRow<'_>,
 ) -> Result<(), AllocError> {
     let words: Vec<&str> = row.question.split_whitespace().collect(alloc)?;
     match words.as_slice() {
@@ -50,10 +51,16 @@ fn write_answer(
             code,
             text,
             number(budget),
-            Asks::Calls(row.expected),
+            BoardQuestion::Calls(row.expected),
         ),
         ["trace", budget, seed] => {
-            write_one(alloc, code, text, number(budget), Asks::Trace(number(seed)))
+            write_one(
+                alloc,
+                code,
+                text,
+                number(budget),
+                BoardQuestion::Trace(number(seed)),
+            )
         }
         ["runs", budgets, seeds] => write_runs(alloc, code, text, span(budgets), span(seeds)),
         _ => text.push_str("no such question"),
@@ -73,7 +80,7 @@ fn span(word: &str) -> (u64, u64) {
 /// A line for each run with one of these budgets and one of these seeds.
 fn write_runs(
     alloc: Global,
-    code: &Code,
+    code: &ScriptCode,
     text: &mut String,
     budgets: (u64, u64),
     seeds: (u64, u64),
@@ -83,7 +90,7 @@ fn write_runs(
             if !text.is_empty() {
                 text.push_str("\n")?;
             }
-            write_one(alloc, code, text, budget, Asks::Run(seed))?;
+            write_one(alloc, code, text, budget, BoardQuestion::Run(seed))?;
         }
     }
     Ok(())
@@ -92,12 +99,12 @@ fn write_runs(
 /// What a board with this budget answers.
 fn write_one(
     alloc: Global,
-    code: &Code,
+    code: &ScriptCode,
     text: &mut String,
     budget: u64,
-    asks: Asks<'_>,
+    asks: BoardQuestion<'_>,
 ) -> Result<(), AllocError> {
-    if budget > 1_000_000 {
+    if budget > MOST_STEPS {
         return text.push_str("no such budget");
     }
     write_named::<Brand>(alloc, code, text, budget, asks)
@@ -105,18 +112,22 @@ fn write_one(
 
 fn write_named<N: Naming>(
     alloc: Global,
-    code: &Code,
+    code: &ScriptCode,
     text: &mut String,
     budget: u64,
-    asks: Asks<'_>,
+    asks: BoardQuestion<'_>,
 ) -> Result<(), AllocError>
     requires program { code.now ≡ N.code }
     requires budget { budget ≡ N.budget }
-    requires bounded { N.budget ≤ 1000000 }
+    requires bounded { N.budget ≤ MOST_STEPS }
 {
     match asks {
-        Asks::Calls(lines) => write_calls::<Code, Of<N>>(alloc, code, text, budget, lines),
-        Asks::Run(seed) => write_run::<Code, Of<N>>(alloc, code, text, budget, seed),
-        Asks::Trace(seed) => write_steps::<Code, Of<N>>(alloc, code, text, budget, seed),
+        BoardQuestion::Calls(lines) => write_calls::<ScriptCode, Of<N>>(
+            alloc, code, text, budget, lines,
+        ),
+        BoardQuestion::Run(seed) => write_run::<ScriptCode, Of<N>>(alloc, code, text, budget, seed),
+        BoardQuestion::Trace(seed) => write_steps::<ScriptCode, Of<N>>(
+            alloc, code, text, budget, seed,
+        ),
     }
 }

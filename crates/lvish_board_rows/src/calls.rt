@@ -2,8 +2,9 @@
 
 ghost use Rattle.std.specs.Prelude.{◌≡◌, ◌≤◌};
 
-use lvish_board::{Act, Board, Named, Ticket, Work, stretch};
+use lvish_board::{Acted, Board, Named, Ticket, Work, stretch};
 use lvish_calculus::Program;
+use lvish_core::MOST_STEPS;
 use lvish_names::{HandlerName, TaskName};
 use std::alloc::{AllocError, Global};
 
@@ -15,7 +16,7 @@ pub fn opened<P: Program, J: Named<P>>(
 ) -> Result<(Board<'_, P, J>, Work<P, J>), AllocError>
     requires program { program.now ≡ J.program }
     requires budget { budget ≡ J.budget }
-    requires bounded { J.budget ≤ 1000000 }
+    requires bounded { J.budget ≤ MOST_STEPS }
 {
     match Board::new(alloc, program, budget) {
         Ok(opened) => Ok(opened),
@@ -55,7 +56,7 @@ pub fn told<P: Program, J: Named<P>>(
     program: &P,
     board: &mut Board<'_, P, J>,
     work: Work<P, J>,
-) -> Act<P, J>
+) -> Acted<P, J>
     requires { program.now ≡ J.program }
 {
     let worker = board.trace().len() % 3;
@@ -72,11 +73,11 @@ fn told_ticket<P: Program, J: Named<P>>(
     board: &mut Board<'_, P, J>,
     worker: usize,
     ticket: Ticket<P, J>,
-) -> Act<P, J>
+) -> Acted<P, J>
     requires { program.now ≡ J.program }
 {
     match stretch(alloc, program, ticket) {
         Ok(asked) => board.act(alloc, worker, asked),
-        Err(ticket) => Act::Memory(Work::Stretch(ticket)),
+        Err(ticket) => Acted::Memory(Work::Stretch(ticket)),
     }
 }

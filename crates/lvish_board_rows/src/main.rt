@@ -4,19 +4,19 @@
 #![tactic(auto)]
 
 mod answer;
+mod board_at_work;
+mod board_row;
 mod calls;
-mod left;
 mod naming;
-mod order;
 mod refused;
-mod row;
 mod rows;
-mod seat;
-mod table;
 mod text;
+mod two_boards;
 mod work;
+mod work_left;
+mod work_order;
 
-use row::Tried;
+use board_row::BoardScore;
 use rows::try_file;
 use std::process::ExitCode;
 use std::{env, fs, io};
@@ -52,7 +52,7 @@ fn try_all(rt: &HostRuntime, files: &[String], refuses: bool) -> io::Result<bool
 }
 
 /// What came of a file, with a line for it.
-fn try_one(rt: &HostRuntime, file: &str, refuses: bool) -> io::Result<Tried> {
+fn try_one(rt: &HostRuntime, file: &str, refuses: bool) -> io::Result<BoardScore> {
     let text = fs::read_to_string(rt, file)?;
     let tried = try_file(rt, file, text.as_str(), refuses)?;
     if refuses {

@@ -1,21 +1,21 @@
 //! A board's program and budget, named by a type that a call picks.
 
 use lvish_board::Named;
-use lvish_task::Code;
+use lvish_task::ScriptCode;
 use std::marker::{Brand, PhantomData};
 
 /// Which code a board runs, and how many steps it may make. A call picks them.
 pub trait Naming {
     ghost use Rattle.std.specs.Prelude.{ℕ};
-    ghost use Rattle.lvish_task.specs.declared.code.Code.{Code};
+    ghost use Rattle.lvish_task.specs.declared.script_code.ScriptCode.{ScriptCode};
 
-    ghost code: { Code };
+    ghost code: { ScriptCode };
 
     ghost budget: { ℕ };
 }
 
 impl Naming for Brand {
-    ghost use Rattle.lvish_board_rows.specs.NoCode.{no_code};
+    ghost use Rattle.lvish_task.specs.NoCode.{no_code};
 
     ghost code = { no_code };
 
@@ -27,7 +27,7 @@ pub struct Of<N: Naming> {
     of: PhantomData<N>,
 }
 
-impl<N: Naming> Named<Code> for Of<N> {
+impl<N: Naming> Named<ScriptCode> for Of<N> {
     ghost program = { N.code };
 
     ghost budget = { N.budget };

@@ -2,7 +2,7 @@
 //! refused then.
 
 use crate::answer::answer_of;
-use crate::row::{Row, Tried};
+use crate::board_row::{BoardRow, BoardScore};
 use lvish_refusals::{is_spared, refuse};
 use std::alloc::AllocError;
 use std::io;
@@ -14,8 +14,8 @@ const MOST_GROWTHS: u64 = 1_000_000;
 /// Refuses each growth of a row's answer in its turn.
 pub fn refuse_row<R: AllocGlobal + Files + Print>(
     rt: &R,
-    row: Row<'_>,
-    tried: &mut Tried,
+    row: BoardRow<'_>,
+    tried: &mut BoardScore,
 ) -> io::Result<()> {
     for number in 1..MOST_GROWTHS {
         refuse(rt, number)?;
@@ -40,7 +40,7 @@ pub fn refuse_row<R: AllocGlobal + Files + Print>(
 /// board asked for, want of memory, and then what is expected.
 fn is_right<R: AllocGlobal>(
     rt: &R,
-    row: Row<'_>,
+    row: BoardRow<'_>,
     answer: Result<String, AllocError>,
     is_last: bool,
 ) -> Result<bool, AllocError> {

@@ -1,20 +1,20 @@
 //! The rows of a file, one after the other.
 
 use crate::answer::answer_of;
+use crate::board_row::{BoardRow, BoardScore};
 use crate::refused::refuse_row;
-use crate::row::{Row, Tried};
 use std::io;
 use std::rt::Files;
 
-/// Tries the rows of a file, with a line for each that is answered otherwise than it may be. What
+/// Tries the rows of a file, with a line for each whose answer isn't one that it may have. What
 /// stands above the first is a comment.
 pub fn try_file<R: AllocGlobal + Files + Print>(
     rt: &R,
     file: &str,
     text: &str,
     refuses: bool,
-) -> io::Result<Tried> {
-    let mut tried = Tried {
+) -> io::Result<BoardScore> {
+    let mut tried = BoardScore {
         good: 0,
         growths: 0,
         others: 0,
@@ -31,13 +31,13 @@ fn try_example<R: AllocGlobal + Files + Print>(
     file: &str,
     example: &str,
     refuses: bool,
-    tried: &mut Tried,
+    tried: &mut BoardScore,
 ) -> io::Result<()> {
     let (head, questions) = example.split_once("\n-- ").unwrap_or((example, ""));
     let (name, script) = head.split_once('\n').unwrap_or((head, ""));
     for part in questions.split("\n-- ") {
         let (question, expected) = part.split_once('\n').unwrap_or((part, ""));
-        let row = Row {
+        let row = BoardRow {
             file,
             name,
             script,
@@ -52,9 +52,9 @@ fn try_example<R: AllocGlobal + Files + Print>(
 /// Tries a row: as it is, or once for each growth of its answer.
 fn try_row<R: AllocGlobal + Files + Print>(
     rt: &R,
-    row: Row<'_>,
+    row: BoardRow<'_>,
     refuses: bool,
-    tried: &mut Tried,
+    tried: &mut BoardScore,
 ) -> io::Result<()> {
     if refuses {
         return refuse_row(rt, row, tried);

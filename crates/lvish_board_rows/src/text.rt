@@ -1,6 +1,6 @@
 //! Boards, as text.
 
-use lvish_board::{Board, Entry, Named, Outcome};
+use lvish_board::{Board, Named, Outcome, TraceEntry};
 use lvish_calculus::{Label, Program};
 use lvish_core::Core;
 use lvish_lattice::{Lattice, Numbered};
@@ -28,7 +28,10 @@ pub fn write_outcome<E: Numbered>(
 }
 
 /// Each step of a trace, with the worker that made it.
-pub fn write_trace<E: Numbered>(text: &mut String, trace: &[Entry<E>]) -> Result<(), AllocError> {
+pub fn write_trace<E: Numbered>(
+    text: &mut String,
+    trace: &[TraceEntry<E>],
+) -> Result<(), AllocError> {
     for entry in trace {
         write!(text, " | {} ", entry.worker)?;
         write_label(text, &entry.label)?;
@@ -39,7 +42,7 @@ pub fn write_trace<E: Numbered>(text: &mut String, trace: &[Entry<E>]) -> Result
 /// What a step is.
 pub fn write_label<E: Numbered>(text: &mut String, label: &Label<E>) -> Result<(), AllocError> {
     match label {
-        Label::Task(name) => write!(text, "run {name}"),
+        Label::Act(name) => write!(text, "run {name}"),
         Label::Hand(name, event) => write!(text, "hand {name}:{}:{}", event.key(), event.number()),
     }
 }

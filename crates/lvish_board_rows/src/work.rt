@@ -78,7 +78,7 @@ fn is_for<P: Program, J: Named<P>>(
     label: &Label<<P::Lat as Lattice>::Event>,
 ) -> bool {
     match label {
-        Label::Task(name) => is_of_task(work, name),
+        Label::Act(name) => is_of_task(work, name),
         Label::Hand(name, _) => is_of_handler(work, name),
     }
 }

@@ -1,7 +1,7 @@
 -- Names in a list, and how many names a property holds of.
-use Rattle.std.proofs.Common.{◌≡◌, ◌⊎◌, ◌↔◌, inl, inr, ℕ, suc, ◌+◌, ◌-◌, ◌≤◌, Bool, true, false, List, [], ◌∷◌, length, if◌then◌else◌, refl, sym, ap, ◌∙◌, subst, arith}
-use Rattle.std.proofs.lemmas.Bool.{both_ways}
-use Rattle.lvish_calculus.specs.Calculus.{Name, same_name}
+use Rattle.std.proofs.Common.{◌≡◌, ◌⊎◌, ◌↔◌, inl, inr, ℕ, suc, ◌+◌, ◌-◌, ◌≤◌, Bool, true, List, [], ◌∷◌, length, if◌then◌else◌, refl, sym, ap, ◌∙◌, subst, arith}
+use Rattle.std.proofs.lemmas.Bool.{both_ways, cases_Bool}
+use Rattle.lvish_names.specs.Names.{Name, same_name}
 use Rattle.lvish_calculus.specs.Handing.{IsAmong, NoRepeats}
 use Rattle.lvish_calculus.proofs.Names.{cases_name, same_name-true, same_name-refl}
 
@@ -28,48 +28,38 @@ module _ {E : Type 0} (eq : E → E → Bool) (is : (a b : E) → (eq a b ≡ tr
 
   pub among_without : (t u : Name E) (us : List (Name E)) → IsAmong u (without t us) → IsAmong u us
   among_without t u [] h = h
-  among_without t u (x ∷ us) h = by (λ z. among_without t u us z) (same_name eq x t) h
-    where
-      by : (IsAmong u (without t us) → IsAmong u us) → (b : Bool) → IsAmong u (if b then us else x ∷ without t us) → IsAmong u (x ∷ us)
-      by ih true h = inr h
-      by ih false (inl e) = inl e
-      by ih false (inr h) = inr (ih h)
+  among_without t u (x ∷ us) h = elim (cases_Bool (same_name eq x t)) [
+    | inl b ↦ inr (rw b at h)
+    | inr b ↦ elim (rw b at h) [ inl e ↦ inl e | inr z ↦ inr (among_without t u us z) ]
+  ]
 
   pub stays_among : (t u : Name E) (us : List (Name E)) → (u ≡ t → ⊥) → IsAmong u us → IsAmong u (without t us)
   stays_among t u [] ne h = h
-  stays_among t u (x ∷ us) ne h = by (λ z. stays_among t u us ne z) (same_name eq x t) refl h
-    where
-      by : (IsAmong u us → IsAmong u (without t us)) → (b : Bool) → same_name eq x t ≡ b → IsAmong u (x ∷ us) → IsAmong u (if b then us else x ∷ without t us)
-      by ih true e (inl q) = absurd (ne (q ∙ same_name-true eq is x t e))
-      by ih true e (inr h) = h
-      by ih false e (inl q) = inl q
-      by ih false e (inr h) = inr (ih h)
+  stays_among t u (x ∷ us) ne h = elim (cases_Bool (same_name eq x t)) [
+    | inl b ↦ rw b (elim h [ inl q ↦ absurd (ne (q ∙ same_name-true eq is x t b)) | inr z ↦ z ])
+    | inr b ↦ rw b (elim h [ inl q ↦ inl q | inr z ↦ inr (stays_among t u us ne z) ])
+  ]
 
   pub once_without : (t : Name E) (us : List (Name E)) → NoRepeats us → NoRepeats (without t us)
   once_without t [] h = h
-  once_without t (x ∷ us) h = by (once_without t us h.1) (same_name eq x t)
-    where
-      by : NoRepeats (without t us) → (b : Bool) → NoRepeats (if b then us else x ∷ without t us)
-      by ih true = h.1
-      by ih false = (λ z. h.0 (among_without t x us z), ih)
+  once_without t (x ∷ us) h = elim (cases_Bool (same_name eq x t)) [
+    | inl b ↦ rw b h.1
+    | inr b ↦ rw b (λ z. h.0 (among_without t x us z), once_without t us h.1)
+  ]
 
   pub gone : (t : Name E) (us : List (Name E)) → NoRepeats us → IsAmong t (without t us) → ⊥
   gone t [] once h = h
-  gone t (x ∷ us) once h = by (λ z. gone t us once.1 z) (same_name eq x t) refl h
-    where
-      by : (IsAmong t (without t us) → ⊥) → (b : Bool) → same_name eq x t ≡ b → IsAmong t (if b then us else x ∷ without t us) → ⊥
-      by ih true e h = once.0 (subst (λ z. IsAmong z us) (sym (same_name-true eq is x t e)) h)
-      by ih false e (inl q) = both_ways _ e (subst (λ z. same_name eq z t ≡ true) q (same_name-refl eq is t))
-      by ih false e (inr h) = ih h
+  gone t (x ∷ us) once h = elim (cases_Bool (same_name eq x t)) [
+    | inl b ↦ once.0 (subst (λ z. IsAmong z us) (sym (same_name-true eq is x t b)) (rw b at h))
+    | inr b ↦ elim (rw b at h) [ inl q ↦ both_ways _ b (subst (λ z. same_name eq z t ≡ true) q (same_name-refl eq is t)) | inr z ↦ gone t us once.1 z ]
+  ]
 
   pub one_less : (t : Name E) (us : List (Name E)) → IsAmong t us → length us ≡ suc (length (without t us))
   one_less t [] h = absurd h
-  one_less t (x ∷ us) h = by (λ z. one_less t us z) (same_name eq x t) refl h
-    where
-      by : (IsAmong t us → length us ≡ suc (length (without t us))) → (b : Bool) → same_name eq x t ≡ b → IsAmong t (x ∷ us) → suc (length us) ≡ suc (length (if b then us else x ∷ without t us))
-      by ih true e h = refl
-      by ih false e (inl q) = absurd (both_ways _ e (subst (λ z. same_name eq z t ≡ true) q (same_name-refl eq is t)))
-      by ih false e (inr h) = ap suc (ih h)
+  one_less t (x ∷ us) h = elim (cases_Bool (same_name eq x t)) [
+    | inl b ↦ rw b refl
+    | inr b ↦ rw b (elim h [ inl q ↦ absurd (both_ways _ b (subst (λ z. same_name eq z t ≡ true) q (same_name-refl eq is t))) | inr z ↦ ap suc (one_less t us z) ])
+  ]
 
   module _ (P Q : Name E → Type 0) (n : ℕ) where
     pub count_more : (t : Name E) → (P t → ⊥) → Q t → ((u : Name E) → (u ≡ t → ⊥) → P u ↔ Q u) → Count P n → Count Q (n + 1)

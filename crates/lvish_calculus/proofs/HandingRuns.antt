@@ -1,16 +1,21 @@
--- The runs of the handing example, computed.
-use Rattle.std.proofs.Common.{◌≡◌, ◌⊎◌, ℕ, Bool, true, false, ◌||◌, List, [], ◌∷◌, ◌++◌, Some, None, refl, sym, subst, ap, ◌∙◌, arith, inl, inr, nat_eq, Contains, append_assoc, append-nil}
+-- The runs of the examples of handing and of waiting, computed.
+use Rattle.std.proofs.Common.{◌≡◌, ◌⊎◌, ℕ, zero, suc, true, false, ◌||◌, List, [], ◌∷◌, ◌++◌, Some, None, refl, sym, subst, ap, ◌∙◌, arith, inl, inr, nat_eq, Contains}
 use Rattle.std.proofs.lemmas.Bool.{cases_Bool, both_ways}
 use Rattle.std.proofs.lemmas.Map.Views.{list_any-from_Contains}
 use Rattle.std.specs.Cmp.{nat_eq_equiv}
-use Rattle.lvish_calculus.specs.Machine.{Machine, IsBelow}
-use Rattle.lvish_calculus.specs.Calculus.{State, Configuration, Running, Error, Label, Hand, IsRun, step, Name, main, handed, Handler, Post, Act, IsLive, IsOn, IsQuiet, IsToHand, Ended, Absent, same_name, same_handler, handler_of}
+use Rattle.std.specs.Ordering.{nat_cmp, is_le}
+use Rattle.lvish_calculus.specs.Machine.{IsLawful, Freeze, Add}
+use Rattle.lvish_calculus.specs.Calculus.{State, Label, Hand, Post, Act, IsLive, IsOn, IsQuiet, IsToHand, Ended, Absent, is_live}
+use Rattle.lvish_names.specs.Names.{Name, main, handed, Handler, same_name, same_handler, handler_of}
 use Rattle.lvish_calculus.specs.Laws.{Reaches}
-use Rattle.lvish_calculus.specs.Handing.{IsCoreRun, IsNoLater}
-use Rattle.lvish_calculus.specs.Examples.{Set, over_sets, LeadsTo, EndsAs, numbers, HandingAt, handing, copier, in_put_order, one_first, handing_end}
+use Rattle.lvish_calculus.specs.Handing.{HandsOldestFirst, IsNoLater}
+use Rattle.lvish_calculus.specs.Examples.{Set, over_sets, EndsAs, numbers, HandingAt, adding, freezing, handing_asks, handing_pool, handing, copier, in_put_order, one_first, handing_end}
+use Rattle.lvish_calculus.specs.WaitingExamples.{IsBlockedAfter, IsEnabledAfter, EndsHolding, over_counters, LevelAt, level_functions, reader, until_fork, until_one, until_three, level_run, three_and_two, one_unhanded, one_running, both_copied, NestingAt, nesting, nesting_pool, the_outer, both_pools, outer_task, inner_task, outer, inner, outer_running, inner_running, inner_ended, frozen_before, frozen_after, nesting_end}
 use Rattle.lvish_calculus.proofs.Names.{cases_handler, same_handler-other, nat_eq-true}
 use Rattle.lvish_calculus.proofs.Sound.{some_is}
-use Rattle.lvish_calculus.proofs.WorkedRuns.{by_names, nat_same, ended_dead, absent_dead, ends}
+use Rattle.lvish_calculus.proofs.CoreRuns.{no_later_one, no_later_new, core_none, core_acts, core_hand}
+use Rattle.lvish_calculus.proofs.FromTraits.{sets_lawful}
+use Rattle.lvish_calculus.proofs.WorkedRuns.{by_names, nat_same, ended_dead, absent_dead, to_hand, ends, IsOver, is_end, none_live, no_handler}
 
 abbrev pub three_copied : Name ℕ
 three_copied = handed main 1 3
@@ -21,9 +26,7 @@ one_copied = handed main 1 1
 -- of s, which has 1 and 3, the one handler was handed both
 pub record IsDrained (c : State Set ℕ HandingAt) : Type 0 where
   pub content : numbers (c.content 0) ≡ 1 ∷ 3 ∷ []
-  pub post : Post
-  pub is : c.handlers copier ≡ Some post
-  pub pool : post.pool ≡ 0
+  pub is : c.handlers copier ≡ Some (record { pool = 0; procedure = 0 })
   pub others : (h : Handler ℕ) → same_handler nat_eq h copier ≡ false → c.handlers h ≡ None
   pub one : c.handled copier 1 ≡ true
   pub three : c.handled copier 3 ≡ true
@@ -41,8 +44,7 @@ all_handled : (c : State Set ℕ HandingAt) → IsDrained c → (h : Handler ℕ
 all_handled c d h e v on below = elim (cases_handler nat_eq nat_same h copier) [
   | inr ne ↦ let z : Some on.post ≡ None = sym on.is ∙ d.others h (same_handler-other nat_eq nat_same h copier ne) in cc
   | inl here ↦
-      let same_post : on.post ≡ d.post = some_is (sym on.is ∙ ap c.handlers here ∙ d.is) in
-      let pool : on.post.pool ≡ 0 = ap (λ (p : Post). p.pool) same_post ∙ d.pool in
+      let pool : on.post.pool ≡ 0 = ap (λ (p : Post). p.pool) (some_is (sym on.is ∙ ap c.handlers here ∙ d.is)) in
       let v_is : 0 ≡ v = some_is (subst (λ p. handing.pool_variable p ≡ Some v) pool on.of) in
       let e_is : (e ≡ 1) ⊎ (e ≡ 3) = one_or_three e (subst (λ xs. Contains xs e) d.content (subst (λ w. Contains (numbers (c.content w)) e) (sym v_is) below)) in
       subst (λ k. c.handled k e ≡ true) (sym here) (elim e_is [
@@ -67,206 +69,253 @@ can_freeze c d three one others = record {
     dead = by_names main three_copied one_copied (λ n. (h : Handler ℕ) → handler_of n ≡ Some h → IsLive (c.tasks n) → ⊥)
         (λ h e live. let z : ⊥ = cc in absurd z) (λ h e. ended_dead _ three) (λ h e. ended_dead _ one) (λ n p q r h e. absent_dead _ (others n p q r))
 
-in_put_order_runs : (c : State Set ℕ HandingAt) × LeadsTo handing in_put_order (Running c)
-in_put_order_runs = (
-  _,
-  (
-    tt,
-    (
-      tt,
-      (
-        tt,
-        (
-          record { variable = 0; on = record { post = record { pool = 0; procedure = 0 }; is = refl; of = refl }; below = (1, omega arith, refl); unhandled = refl },
-          (
-            tt,
-            (
-              tt,
-              (
-                record { variable = 0; on = record { post = record { pool = 0; procedure = 0 }; is = refl; of = refl }; below = (0, omega arith, refl); unhandled = refl },
-                (
-                  tt,
-                  (
-                    tt,
-                    (can_freeze _ (record { content = refl; post = record { pool = 0; procedure = 0 }; is = refl; pool = refl; others = λ h z. simp z refl; one = refl; three = refl }) refl refl (λ n a b c. simp (a, b, c) refl), (tt, refl)),
-                  ),
-                ),
-              ),
-            ),
-          ),
-        ),
-      ),
-    ),
-  ),
-)
-
 pub in_put_order_ends : EndsAs handing in_put_order handing_end
-unfolding in_put_order_runs
-in_put_order_ends = ends handing _ _ main three_copied one_copied _ in_put_order_runs.1
+in_put_order_ends = ends handing _ _ main three_copied one_copied _
+    (tt, (tt, (tt, (to_hand 0 0 0 refl refl (1, omega arith, refl) refl, (tt, (tt, (to_hand 0 0 0 refl refl (0, omega arith, refl) refl, (tt, (tt, (can_freeze _ (record { content = refl; is = refl; others = λ h z. simp z refl; one = refl; three = refl }) refl refl (λ n a b c. simp (a, b, c) refl), (tt, refl)))))))))))
     (record { first = refl; second = refl; third = refl; others = λ n a b c. simp (a, b, c) refl })
-    (nothing_to_hand _ (record { content = refl; post = record { pool = 0; procedure = 0 }; is = refl; pool = refl; others = λ h z. simp z refl; one = refl; three = refl }))
+    (nothing_to_hand _ (record { content = refl; is = refl; others = λ h z. simp z refl; one = refl; three = refl }))
     refl
-
-one_first_runs : (c : State Set ℕ HandingAt) × LeadsTo handing one_first (Running c)
-one_first_runs = (
-  _,
-  (
-    tt,
-    (
-      tt,
-      (
-        tt,
-        (
-          record { variable = 0; on = record { post = record { pool = 0; procedure = 0 }; is = refl; of = refl }; below = (0, omega arith, refl); unhandled = refl },
-          (
-            tt,
-            (
-              tt,
-              (
-                record { variable = 0; on = record { post = record { pool = 0; procedure = 0 }; is = refl; of = refl }; below = (1, omega arith, refl); unhandled = refl },
-                (
-                  tt,
-                  (
-                    tt,
-                    (can_freeze _ (record { content = refl; post = record { pool = 0; procedure = 0 }; is = refl; pool = refl; others = λ h z. simp z refl; one = refl; three = refl }) refl refl (λ n a b c. simp (a, b, c) refl), (tt, refl)),
-                  ),
-                ),
-              ),
-            ),
-          ),
-        ),
-      ),
-    ),
-  ),
-)
 
 pub one_first_ends : EndsAs handing one_first handing_end
-unfolding one_first_runs
-one_first_ends = ends handing _ _ main three_copied one_copied _ one_first_runs.1
+one_first_ends = ends handing _ _ main three_copied one_copied _
+    (tt, (tt, (tt, (to_hand 0 0 0 refl refl (0, omega arith, refl) refl, (tt, (tt, (to_hand 0 0 0 refl refl (1, omega arith, refl) refl, (tt, (tt, (can_freeze _ (record { content = refl; is = refl; others = λ h z. simp z refl; one = refl; three = refl }) refl refl (λ n a b c. simp (a, b, c) refl), (tt, refl)))))))))))
     (record { first = refl; second = refl; third = refl; others = λ n a b c. simp (a, b, c) refl })
-    (nothing_to_hand _ (record { content = refl; post = record { pool = 0; procedure = 0 }; is = refl; pool = refl; others = λ h z. simp z refl; one = refl; three = refl }))
+    (nothing_to_hand _ (record { content = refl; is = refl; others = λ h z. simp z refl; one = refl; three = refl }))
     refl
 
-pub not_core : IsCoreRun (over_sets handing) one_first → ⊥
+not_one : Contains {X = ℕ} (3 ∷ []) 1 → ⊥
+not_one one = both_ways _ refl (list_any-from_Contains nat_eq_equiv 1 (3 ∷ []) one)
+
+pub not_core : HandsOldestFirst (over_sets handing) one_first → ⊥
 not_core core =
     let first = core (Act main ∷ Act main ∷ Act main ∷ []) _ copier 1 refl _ (tt, (tt, (tt, refl))) 0 (record { post = record { pool = 0; procedure = 0 }; is = refl; of = refl }) 3 (1, omega arith, refl) refl in
-    let later : Contains (3 ∷ []) 1 = first.0 (Act main ∷ Act main ∷ []) (Act main ∷ []) _ refl (tt, (tt, refl)) (0, omega arith, refl) in
-    absurd (both_ways _ refl (list_any-from_Contains nat_eq_equiv 1 (3 ∷ []) later))
+    absurd (not_one (first.0 (Act main ∷ Act main ∷ []) (Act main ∷ []) _ refl (tt, (tt, refl)) (0, omega arith, refl)))
 
--- one run leads to one configuration
-runs_same : {S E R A L : Type 0} (M : Machine S E R A L) (d a b : Configuration S E L) (ls : List (Label E)) → IsRun M d ls a → IsRun M d ls b → a ≡ b
-runs_same M d a b [] r s = sym r ∙ s
-runs_same M (Running c) a b (l ∷ ls) r s = runs_same M (step M c l) a b ls r.1 s.1
-runs_same M (Error kind v t) a b (l ∷ ls) r s = absurd r
+freezes_own : (l : HandingAt) (v : ℕ) (pools : List ℕ) → handing_asks l ≡ Freeze v pools → (p : ℕ) → Contains pools p → handing_pool p ≡ Some v
+freezes_own freezing v pools e p z = of_s v (cc) p (subst (λ q. Contains q p) (let ps : 0 ∷ [] ≡ pools = cc in sym ps) z)
+  where
+    of_s : (v : ℕ) → 0 ≡ v → (p : ℕ) → Contains (0 ∷ []) p → handing_pool p ≡ Some v
+    of_s v vv p (zero, lt, e) = ap handing_pool (sym e) ∙ ap Some vv
+    of_s v vv p (suc k, lt, e) = absurd (omega (arith, lt))
+freezes_own l v pools e p z = absurd (cc e)
 
-state_is : (c d : State Set ℕ HandingAt) (p : List (Label ℕ)) → Reaches (over_sets handing) p c → Reaches (over_sets handing) p d → c ≡ d
-state_is c d p r s = let e : Running c ≡ Running d = runs_same (over_sets handing) _ (Running c) (Running d) p r s in cc
+adds_known : (l : HandingAt) (p proc : ℕ) → handing_asks l ≡ Add p proc → (v : ℕ) × (handing_pool p ≡ Some v)
+adds_known adding p proc e = let pp : 0 ≡ p = cc in (0, ap handing_pool (sym pp))
+adds_known l p proc e = absurd (cc e)
 
--- what holds at each handing of a run, with the steps before it
-abbrev AllHandings : (List (Label ℕ) → Handler ℕ → ℕ → Type 0) → List (Label ℕ) → List (Label ℕ) → Type 0
-AllHandings P done [] = Unit {0}
-AllHandings P done (Act t ∷ ls) = AllHandings P (done ++ Act t ∷ []) ls
-AllHandings P done (Hand h e ∷ ls) = P done h e × AllHandings P (done ++ Hand h e ∷ []) ls
-
-goes_on : (P : List (Label ℕ) → Type 0) (done p : List (Label ℕ)) (l k : Label ℕ) → l ≡ k → P ((done ++ l ∷ []) ++ p) → P (done ++ k ∷ p)
-goes_on P done p l k e x = subst P (append_assoc done (l ∷ []) p ∙ ap (λ (m : Label ℕ). done ++ m ∷ p) e) x
-
-each_handing : (P : List (Label ℕ) → Handler ℕ → ℕ → Type 0) (done ls p s : List (Label ℕ)) (h : Handler ℕ) (e : ℕ) → AllHandings P done ls → ls ≡ p ++ Hand h e ∷ s → P (done ++ p) h e
-each_handing P done [] [] s h e all eq = absurd cc
-each_handing P done [] (y ∷ p) s h e all eq = absurd cc
-each_handing P done (Act t ∷ ls) [] s h e all eq = absurd cc
-each_handing P done (Act t ∷ ls) (y ∷ p) s h e all eq =
-    let l : Act t ≡ y = cc in
-    goes_on (λ q. P q h e) done p (Act t) y l (each_handing P (done ++ Act t ∷ []) ls p s h e all cc)
-each_handing P done (Hand g x ∷ ls) [] s h e all eq =
-    let a : g ≡ h = cc in
-    let b : x ≡ e = cc in
-    subst (λ q. P q h e) (sym (append-nil done)) (subst (λ y. P done h y) b (subst (λ k. P done k x) a all.0))
-each_handing P done (Hand g x ∷ ls) (y ∷ p) s h e all eq =
-    let l : Hand g x ≡ y = cc in
-    goes_on (λ q. P q h e) done p (Hand g x) y l (each_handing P (done ++ Hand g x ∷ []) ls p s h e all.1 cc)
-
--- what holds after each of the first steps of a run
-abbrev AfterEach : (List (Label ℕ) → Type 0) → List (Label ℕ) → List (Label ℕ) → Type 0
-AfterEach P done [] = P done
-AfterEach P done (l ∷ ls) = P done × AfterEach P (done ++ l ∷ []) ls
-
-each_prefix : (P : List (Label ℕ) → Type 0) (done ls q r : List (Label ℕ)) → AfterEach P done ls → ls ≡ q ++ r → P (done ++ q)
-each_prefix P done [] [] r all eq = subst P (sym (append-nil done)) all
-each_prefix P done [] (y ∷ q) r all eq = absurd cc
-each_prefix P done (l ∷ ls) [] r all eq = subst P (sym (append-nil done)) all.0
-each_prefix P done (l ∷ ls) (y ∷ q) r all eq =
-    let k : l ≡ y = cc in
-    goes_on P done q l y k (each_prefix P (done ++ l ∷ []) ls q r all.1 cc)
+pub handing_lawful : IsLawful (over_sets handing)
+handing_lawful = sets_lawful handing freezes_own adds_known
 
 -- e came to s no later than x, and is the lesser if they came at once
 abbrev ComesFirst : List (Label ℕ) → ℕ → ℕ → Type 0
 ComesFirst p e x = IsNoLater (over_sets handing) p 0 e x × (IsNoLater (over_sets handing) p 0 x e → (over_sets handing).event_le e x ≡ true)
 
--- the handing of e to h after the steps p is one of a core run
-abbrev IsFirstAt : List (Label ℕ) → Handler ℕ → ℕ → State Set ℕ HandingAt → ℕ → Type 0
-IsFirstAt p h e c v = (x : ℕ) → IsBelow (over_sets handing) x (c.content v) → c.handled h x ≡ false
-    → IsNoLater (over_sets handing) p v e x × (IsNoLater (over_sets handing) p v x e → (over_sets handing).event_le e x ≡ true)
+itself_first : (p : List (Label ℕ)) (e x : ℕ) → x ≡ e → is_le (nat_cmp e e) ≡ true → ComesFirst p e x
+itself_first p e x z le = subst (λ y. ComesFirst p e y) (sym z) (λ q r c eq reached there. there, λ no_later. le)
 
-abbrev HandsFirst : List (Label ℕ) → Handler ℕ → ℕ → Type 0
-HandsFirst p h e = (c : State Set ℕ HandingAt) → Reaches (over_sets handing) p c → (v : ℕ) → IsOn (over_sets handing) c h v → IsFirstAt p h e c v
+-- main has put 3, and then 1
+abbrev put_both : List (Label ℕ)
+put_both = Act main ∷ Act main ∷ Act main ∷ []
 
-hands_first : (p : List (Label ℕ)) (e : ℕ) (d : State Set ℕ HandingAt) → Reaches (over_sets handing) p d → d.handlers copier ≡ Some (record { pool = 0; procedure = 0 }) → IsFirstAt p copier e d 0 → HandsFirst p copier e
-hands_first p e d there is first c reached v on =
-    let same : d ≡ c = state_is d c p there reached in
-    let post : on.post ≡ record { pool = 0; procedure = 0 } = some_is (sym on.is ∙ ap (λ (s : State Set ℕ HandingAt). s.handlers copier) (sym same) ∙ is) in
-    let pool : on.post.pool ≡ 0 = ap (λ (q : Post). q.pool) post in
-    let v_is : 0 ≡ v = some_is (subst (λ q. handing.pool_variable q ≡ Some v) pool on.of) in
-    subst (λ w. IsFirstAt p copier e c w) v_is (subst (λ s. IsFirstAt p copier e s 0) same first)
+-- 3 came before 1
+three_first : ComesFirst put_both 3 1
+three_first =
+    let put_three : List (Label ℕ) = Act main ∷ Act main ∷ [] in
+    let new : IsNoLater (over_sets handing) put_three 0 3 1 = no_later_new (over_sets handing) handing_lawful put_three (Act main) _ _ (tt, (tt, refl)) (tt, (tt, (tt, refl))) 0 3 1 not_one in (
+      no_later_one (over_sets handing) handing_lawful put_three (Act main) _ _ (tt, (tt, refl)) (tt, (tt, (tt, refl))) 0 3 1 new (1, omega arith, refl),
+      λ no_later. absurd (not_one (no_later put_three (Act main ∷ []) _ refl (tt, (tt, refl)) (0, omega arith, refl))),
+    )
 
--- 3 came no later than 1
-abbrev ThreeWithOne : List (Label ℕ) → Type 0
-ThreeWithOne q = (c : State Set ℕ HandingAt) → Reaches (over_sets handing) q c → Contains (numbers (c.content 0)) 1 → Contains (numbers (c.content 0)) 3
+abbrev three_handed : List (Label ℕ)
+three_handed = Act main ∷ Act main ∷ Act main ∷ Hand copier 3 ∷ []
 
-three_with_one : (q : List (Label ℕ)) (d : State Set ℕ HandingAt) → Reaches (over_sets handing) q d → (Contains (numbers (d.content 0)) 1 → Contains (numbers (d.content 0)) 3) → ThreeWithOne q
-three_with_one q d there f c reached = subst (λ (s : State Set ℕ HandingAt). Contains (numbers (s.content 0)) 1 → Contains (numbers (s.content 0)) 3) (state_is d c q there reached) f
-
-none_there : {x : ℕ} → Contains [] x → ⊥
-none_there z = absurd (omega (arith, z.1))
-
-three_no_later : AfterEach ThreeWithOne [] (Act main ∷ Act main ∷ Act main ∷ [])
-three_no_later = (
-  three_with_one [] _ refl (λ z. absurd (none_there z)),
-  (
-    three_with_one (Act main ∷ []) _ (tt, refl) (λ z. absurd (none_there z)),
-    (three_with_one (Act main ∷ Act main ∷ []) _ (tt, (tt, refl)) (λ z. (0, omega arith, refl)), three_with_one (Act main ∷ Act main ∷ Act main ∷ []) _ (tt, (tt, (tt, refl))) (λ z. (1, omega arith, refl))),
-  ),
-)
-
-three_is_first : HandsFirst (Act main ∷ Act main ∷ Act main ∷ []) copier 3
-three_is_first = hands_first _ 3 _ (tt, (tt, (tt, refl))) refl (λ x below unhandled. elim (one_or_three x below) [
-  | inl z ↦ subst (λ y. ComesFirst (Act main ∷ Act main ∷ Act main ∷ []) 3 y) (sym z) (
-    λ q r c eq. each_prefix ThreeWithOne [] _ q r three_no_later eq c,
-    λ no_later. let one : Contains (3 ∷ []) 1 = no_later (Act main ∷ Act main ∷ []) (Act main ∷ []) _ refl (tt, (tt, refl)) (0, omega arith, refl) in
-        absurd (both_ways _ refl (list_any-from_Contains nat_eq_equiv 1 (3 ∷ []) one)),
-  )
-  | inr z ↦ subst (λ y. ComesFirst (Act main ∷ Act main ∷ Act main ∷ []) 3 y) (sym z)
-      (λ q r c eq reached below. below, λ no_later. refl)
-])
-
-holds_there : (f : ℕ → Bool) (x y : ℕ) → x ≡ y → f x ≡ false → f y ≡ true → ⊥
-holds_there f x y e off on = both_ways _ (sym (ap f e) ∙ off) on
+three_core : HandsOldestFirst (over_sets handing) three_handed
+three_core = core_hand (over_sets handing) handing_lawful put_both _ copier 0 3 (tt, (tt, (tt, refl))) (record { post = record { pool = 0; procedure = 0 }; is = refl; of = refl })
+    (record { first = λ x below unhandled. elim (one_or_three x below) [ inl z ↦ subst (λ y. ComesFirst put_both 3 y) (sym z) three_first | inr z ↦ itself_first put_both 3 x z refl ] })
+    (core_acts (over_sets handing) handing_lawful [] (main ∷ main ∷ main ∷ []) (core_none (over_sets handing) handing_lawful))
 
 -- once 3 was handed, 1 comes
-one_comes : (p : List (Label ℕ)) (c : State Set ℕ HandingAt) → c.handled copier 3 ≡ true → numbers (c.content 0) ≡ 1 ∷ 3 ∷ [] → IsFirstAt p copier 1 c 0
-one_comes p c three is x below unhandled = elim (one_or_three x (subst (λ xs. Contains xs x) is below)) [
-  | inl z ↦ subst (λ y. ComesFirst p 1 y) (sym z)
-      (λ q r d eq reached there. there, λ no_later. refl)
-  | inr z ↦ absurd (holds_there (c.handled copier) x 3 z unhandled three)
+one_core : (p : List (Label ℕ)) (c : State Set ℕ HandingAt) → Reaches (over_sets handing) p c → c.handlers copier ≡ Some (record { pool = 0; procedure = 0 }) → c.handled copier 3 ≡ true → numbers (c.content 0) ≡ 1 ∷ 3 ∷ []
+    → HandsOldestFirst (over_sets handing) p → HandsOldestFirst (over_sets handing) (p ++ Hand copier 1 ∷ [])
+one_core p c there handler three is = core_hand (over_sets handing) handing_lawful p c copier 0 1 there (record { post = record { pool = 0; procedure = 0 }; is = handler; of = refl }) (record {
+  first = λ x below unhandled. elim (one_or_three x (subst (λ xs. Contains xs x) is below)) [
+    | inl z ↦ itself_first p 1 x z refl
+    | inr z ↦ absurd (both_ways _ (subst (λ y. c.handled copier y ≡ false) z unhandled) three)
+  ];
+})
+
+abbrev three_done : List (Label ℕ)
+three_done = Act main ∷ Act main ∷ Act main ∷ Hand copier 3 ∷ Act three_copied ∷ Act three_copied ∷ []
+
+pub is_core : HandsOldestFirst (over_sets handing) in_put_order
+is_core =
+    let three = core_acts (over_sets handing) handing_lawful three_handed (three_copied ∷ three_copied ∷ []) three_core in
+    let one : HandsOldestFirst (over_sets handing) (three_done ++ Hand copier 1 ∷ []) =
+    one_core three_done _ (tt, (tt, (tt, (to_hand 0 0 0 refl refl (1, omega arith, refl) refl, (tt, (tt, refl)))))) refl refl refl three in
+    core_acts (over_sets handing) handing_lawful (three_done ++ Hand copier 1 ∷ []) (one_copied ∷ one_copied ∷ main ∷ main ∷ []) one
+
+-- ---- a get
+
+pub blocked_at_none : IsBlockedAfter (over_counters level_functions) until_fork reader
+blocked_at_none = record { there = _; reached = (tt, refl); live = is_live; waits = λ e. cc }
+
+pub blocked_at_one : IsBlockedAfter (over_counters level_functions) until_one reader
+blocked_at_one = record { there = _; reached = (tt, (tt, refl)); live = is_live; waits = λ e. cc }
+
+pub enabled_at_three : IsEnabledAfter (over_counters level_functions) until_three reader
+enabled_at_three = record { there = _; reached = (tt, (tt, (tt, refl))); enabled = refl }
+
+level_runs : (c : State ℕ ℕ LevelAt) × Reaches (over_counters level_functions) level_run c
+level_runs = (_, (tt, (tt, (tt, (refl, (tt, (tt, (tt, refl))))))))
+
+level_over : IsOver (level_runs.0) main reader reader
+unfolding level_runs
+level_over = record { first = refl; second = refl; third = refl; others = λ n a b c. simp (a, b) refl }
+
+pub level_ends : EndsHolding (over_counters level_functions) level_run three_and_two
+unfolding level_runs
+level_ends = record {
+  last = _;
+  reached = level_runs.1;
+  ended = is_end (over_counters level_functions) _ main reader reader level_over (no_handler (over_counters level_functions) _ (λ h. refl));
+  none_left = none_live _ main reader reader level_over;
+  holds = refl;
+}
+
+-- ---- a freeze
+
+pub blocked_unhanded : IsBlockedAfter (over_sets handing) one_unhanded main
+blocked_unhanded = record {
+  there = _;
+  reached = (tt, (tt, (tt, (to_hand 0 0 0 refl refl (1, omega arith, refl) refl, (tt, (tt, refl))))));
+  live = is_live;
+  waits = λ q. let z = q.drained copier 1 (record { post = record { pool = 0; procedure = 0 }; is = refl; of = refl }) (0, omega arith, refl) in cc;
+}
+
+pub blocked_running : IsBlockedAfter (over_sets handing) one_running main
+blocked_running = record {
+  there = _;
+  reached = (tt, (tt, (tt, (to_hand 0 0 0 refl refl (1, omega arith, refl) refl, (tt, (tt, (to_hand 0 0 0 refl refl (0, omega arith, refl) refl, (tt, refl))))))));
+  live = is_live;
+  waits = λ q. q.ended one_copied (record { handler = copier; of = refl; post = record { pool = 0; procedure = 0 }; is = refl; listed = (0, omega arith, refl) }) is_live;
+}
+
+pub enabled_copied : IsEnabledAfter (over_sets handing) both_copied main
+enabled_copied = record {
+  there = _;
+  reached = (tt, (tt, (tt, (to_hand 0 0 0 refl refl (1, omega arith, refl) refl, (tt, (tt, (to_hand 0 0 0 refl refl (0, omega arith, refl) refl, (tt, (tt, refl)))))))));
+  enabled = can_freeze _ (record { content = refl; is = refl; others = λ h z. simp z refl; one = refl; three = refl }) refl refl (λ n a b c. simp (a, b, c) refl);
+}
+
+-- ---- pools within pools
+
+-- of s, which has 1 alone, both handlers were handed it; the outer one's task has ended, and the inner one's may be there
+record IsNested (c : State Set ℕ NestingAt) : Type 0 where
+  pub content : numbers (c.content 0) ≡ 1 ∷ []
+  pub outer_is : c.handlers outer ≡ Some (record { pool = 0; procedure = 0 })
+  pub inner_is : c.handlers inner ≡ Some (record { pool = 1; procedure = 1 })
+  pub other_handlers : (h : Handler ℕ) → same_handler nat_eq h outer ≡ false → same_handler nat_eq h inner ≡ false → c.handlers h ≡ None
+  pub outer_handed : c.handled outer 1 ≡ true
+  pub inner_handed : c.handled inner 1 ≡ true
+
+just_one : (e : ℕ) → Contains (1 ∷ []) e → e ≡ 1
+just_one e z = elim (cases_Bool (nat_eq e 1)) [
+  | inl a ↦ nat_eq-true e 1 a
+  | inr a ↦ let w : nat_eq e 1 || false ≡ true = list_any-from_Contains nat_eq_equiv e (1 ∷ []) z in absurd (both_ways _ (simp a refl) w)
 ]
 
-one_is_next_at : (p : List (Label ℕ)) (c : State Set ℕ HandingAt) → Reaches (over_sets handing) p c → c.handlers copier ≡ Some (record { pool = 0; procedure = 0 }) → c.handled copier 3 ≡ true → numbers (c.content 0) ≡ 1 ∷ 3 ∷ [] → HandsFirst p copier 1
-one_is_next_at p c there handler three is = hands_first p 1 c there handler (one_comes p c three is)
+-- a handler in this pool, which is of s, was handed 1
+handed_on : (pools : List ℕ) (c : State Set ℕ NestingAt) → IsNested c → (h : Handler ℕ) (p q : ℕ) → c.handlers h ≡ Some (record { pool = p; procedure = q }) → nesting_pool p ≡ Some 0 → c.handled h 1 ≡ true
+    → (e v : ℕ) → IsOn (over_sets (nesting pools)) c h v → Contains (numbers (c.content v)) e → c.handled h e ≡ true
+handed_on pools c d h p q is of given e v on below =
+    let post : on.post ≡ record { pool = p; procedure = q } = some_is (sym on.is ∙ is) in
+    let pool : on.post.pool ≡ p = ap (λ (x : Post). x.pool) post in
+    let v_is : v ≡ 0 = some_is (sym on.of ∙ ap nesting_pool pool ∙ of) in
+    let one : e ≡ 1 = just_one e (subst (λ xs. Contains xs e) d.content (subst (λ w. Contains (numbers (c.content w)) e) v_is below)) in
+    subst (λ x. c.handled h x ≡ true) (sym one) given
 
-one_is_next : HandsFirst (Act main ∷ Act main ∷ Act main ∷ Hand copier 3 ∷ Act three_copied ∷ Act three_copied ∷ []) copier 1
-one_is_next = one_is_next_at _ _
-    (tt, (tt, (tt, (record { variable = 0; on = record { post = record { pool = 0; procedure = 0 }; is = refl; of = refl }; below = (1, omega arith, refl); unhandled = refl }, (tt, (tt, refl))))))
-    refl refl refl
+all_handed : (pools : List ℕ) (c : State Set ℕ NestingAt) → IsNested c → (h : Handler ℕ) (e v : ℕ) → IsOn (over_sets (nesting pools)) c h v → Contains (numbers (c.content v)) e → c.handled h e ≡ true
+all_handed pools c d h e v on below = elim (cases_handler nat_eq nat_same h outer) [
+  | inl a ↦ handed_on pools c d h 0 0 (ap c.handlers a ∙ d.outer_is) refl (ap (λ k. c.handled k 1) a ∙ d.outer_handed) e v on below
+  | inr a ↦ elim (cases_handler nat_eq nat_same h inner) [
+    | inl b ↦ handed_on pools c d h 1 1 (ap c.handlers b ∙ d.inner_is) refl (ap (λ k. c.handled k 1) b ∙ d.inner_handed) e v on below
+    | inr b ↦ let z : Some on.post ≡ None = sym on.is ∙ d.other_handlers h (same_handler-other nat_eq nat_same h outer a) (same_handler-other nat_eq nat_same h inner b) in cc
+  ]
+]
 
-pub is_core : IsCoreRun (over_sets handing) in_put_order
-is_core p s h e eq = each_handing HandsFirst [] in_put_order p s h e (three_is_first, (one_is_next, tt)) eq
+none_to_hand : (pools : List ℕ) (c : State Set ℕ NestingAt) → IsNested c → (h : Handler ℕ) (e : ℕ) → IsToHand (over_sets (nesting pools)) c h e → ⊥
+none_to_hand pools c d h e hand = both_ways _ hand.unhandled (all_handed pools c d h e hand.variable hand.on hand.below)
+
+-- s may be frozen where the inner task has ended, or its pool isn't named
+can_freeze_nested : (pools : List ℕ) (c : State Set ℕ NestingAt) → IsNested c → c.tasks outer_task ≡ Ended → (Contains pools 1 → IsLive (c.tasks inner_task) → ⊥)
+    → ((n : Name ℕ) → same_name nat_eq n main ≡ false → same_name nat_eq n outer_task ≡ false → same_name nat_eq n inner_task ≡ false → c.tasks n ≡ Absent)
+    → IsQuiet (over_sets (nesting pools)) c 0 pools
+can_freeze_nested pools c d outer_ended inner_dead others = record {
+  drained = λ h e on below. all_handed pools c d h e 0 on below;
+  ended = λ n i. dead n i.handler i.post i.of i.is i.listed;
+}
+  where
+    inner_listed : (h : Handler ℕ) (post : Post) → handler_of inner_task ≡ Some h → c.handlers h ≡ Some post → Contains pools post.pool → Contains pools 1
+    inner_listed h post of is listed =
+        let handler : inner ≡ h = some_is of in
+        let same : post ≡ record { pool = 1; procedure = 1 } = some_is (sym is ∙ ap c.handlers (sym handler) ∙ d.inner_is) in
+        subst (λ (x : Post). Contains pools x.pool) same listed
+
+    dead : (n : Name ℕ) (h : Handler ℕ) (post : Post) → handler_of n ≡ Some h → c.handlers h ≡ Some post → Contains pools post.pool → IsLive (c.tasks n) → ⊥
+    dead = by_names main outer_task inner_task (λ n. (h : Handler ℕ) (post : Post) → handler_of n ≡ Some h → c.handlers h ≡ Some post → Contains pools post.pool → IsLive (c.tasks n) → ⊥)
+        (λ h post of is listed live. let z : ⊥ = cc in absurd z)
+        (λ h post of is listed. ended_dead _ outer_ended)
+        (λ h post of is listed. inner_dead (inner_listed h post of is listed))
+        (λ n a b e h post of is listed. absent_dead _ (others n a b e))
+
+not_the_outer : Contains the_outer 1 → ⊥
+not_the_outer z = both_ways _ refl (list_any-from_Contains nat_eq_equiv 1 the_outer z)
+
+pub blocked_outer : IsBlockedAfter (over_sets (nesting the_outer)) outer_running main
+blocked_outer = record {
+  there = _;
+  reached = (tt, (tt, (to_hand 0 0 0 refl refl (0, omega arith, refl) refl, (tt, (to_hand 0 1 1 refl refl (0, omega arith, refl) refl, refl)))));
+  live = is_live;
+  waits = λ q. q.ended outer_task (record { handler = outer; of = refl; post = record { pool = 0; procedure = 0 }; is = refl; listed = (0, omega arith, refl) }) is_live;
+}
+
+inner_running_reached : (pools : List ℕ) → (c : State Set ℕ NestingAt) × Reaches (over_sets (nesting pools)) inner_running c
+inner_running_reached pools = (_, (tt, (tt, (to_hand 0 0 0 refl refl (0, omega arith, refl) refl, (tt, (tt, (to_hand 0 1 1 refl refl (0, omega arith, refl) refl, refl)))))))
+
+pub enabled_outer : IsEnabledAfter (over_sets (nesting the_outer)) inner_running main
+unfolding inner_running_reached
+enabled_outer = record {
+  there = _;
+  reached = (inner_running_reached the_outer).1;
+  enabled = can_freeze_nested the_outer _ (record { content = refl; outer_is = refl; inner_is = refl; other_handlers = λ h a b. simp (a, b) refl; outer_handed = refl; inner_handed = refl }) refl (λ listed. absurd (not_the_outer listed)) (λ n a b c. simp (a, b, c) refl);
+}
+
+pub blocked_inner : IsBlockedAfter (over_sets (nesting both_pools)) inner_running main
+unfolding inner_running_reached
+blocked_inner = record {
+  there = _;
+  reached = (inner_running_reached both_pools).1;
+  live = is_live;
+  waits = λ q. q.ended inner_task (record { handler = inner; of = refl; post = record { pool = 1; procedure = 1 }; is = refl; listed = (1, omega arith, refl) }) is_live;
+}
+
+pub enabled_both : IsEnabledAfter (over_sets (nesting both_pools)) inner_ended main
+enabled_both = record {
+  there = _;
+  reached = (tt, (tt, (to_hand 0 0 0 refl refl (0, omega arith, refl) refl, (tt, (tt, (to_hand 0 1 1 refl refl (0, omega arith, refl) refl, (tt, (tt, refl))))))));
+  enabled = can_freeze_nested both_pools _ (record { content = refl; outer_is = refl; inner_is = refl; other_handlers = λ h a b. simp (a, b) refl; outer_handed = refl; inner_handed = refl }) refl (λ listed. ended_dead _ refl) (λ n a b c. simp (a, b, c) refl);
+}
+
+pub frozen_before_ends : EndsAs (nesting the_outer) frozen_before nesting_end
+frozen_before_ends = ends (nesting the_outer) _ _ main outer_task inner_task _
+    (tt, (tt, (to_hand 0 0 0 refl refl (0, omega arith, refl) refl, (tt, (tt, (to_hand 0 1 1 refl refl (0, omega arith, refl) refl, (can_freeze_nested the_outer _ (record { content = refl; outer_is = refl; inner_is = refl; other_handlers = λ h a b. simp (a, b) refl; outer_handed = refl; inner_handed = refl }) refl (λ listed. absurd (not_the_outer listed)) (λ n a b c. simp (a, b, c) refl), (tt, (tt, (tt, refl))))))))))
+    (record { first = refl; second = refl; third = refl; others = λ n a b c. simp (a, b, c) refl })
+    (none_to_hand the_outer _ (record { content = refl; outer_is = refl; inner_is = refl; other_handlers = λ h a b. simp (a, b) refl; outer_handed = refl; inner_handed = refl }))
+    refl
+
+pub frozen_after_ends : EndsAs (nesting both_pools) frozen_after nesting_end
+frozen_after_ends = ends (nesting both_pools) _ _ main outer_task inner_task _
+    (tt, (tt, (to_hand 0 0 0 refl refl (0, omega arith, refl) refl, (tt, (tt, (to_hand 0 1 1 refl refl (0, omega arith, refl) refl, (tt, (tt, (can_freeze_nested both_pools _ (record { content = refl; outer_is = refl; inner_is = refl; other_handlers = λ h a b. simp (a, b) refl; outer_handed = refl; inner_handed = refl }) refl (λ listed. ended_dead _ refl) (λ n a b c. simp (a, b, c) refl), (tt, refl))))))))))
+    (record { first = refl; second = refl; third = refl; others = λ n a b c. simp (a, b, c) refl })
+    (none_to_hand both_pools _ (record { content = refl; outer_is = refl; inner_is = refl; other_handlers = λ h a b. simp (a, b) refl; outer_handed = refl; inner_handed = refl }))
+    refl

@@ -1,9 +1,11 @@
 -- Programs whose local states are matched have the same runs.
-use Rattle.std.proofs.Common.{◌≡◌, ℕ, suc, Bool, true, false, not, ◌&&◌, List, [], ◌∷◌, Option, Some, None, IsSome, Contains, Ordering, if◌then◌else◌, refl, sym, ◌∙◌, subst}
+use Rattle.std.proofs.Common.{◌≡◌, ℕ, suc, Bool, true, false, not, ◌&&◌, List, [], ◌∷◌, Option, Some, None, Ordering, if◌then◌else◌, refl, sym, subst}
 use Rattle.lvish_calculus.specs.Machine.{Machine, Request, Put, Get, Fork, Add, Freeze, Pause, End, Fault, Reply, Done, Answer, Content, ErrorKind, Conflict, Frozen, Late, Deep}
 use Rattle.lvish_calculus.specs.Program.{Functions, IsReplyTo, machine_of}
-use Rattle.lvish_calculus.specs.Calculus.{Name, main, forked, handed, Handler, Task, Absent, Live, Ended, Post, State, Configuration, Running, Error, Label, Act, Hand, Change, changed, Outcome, Changes, Fails, Nothing, just, put_outcome, get_outcome, add_outcome, request_outcome, task_outcome, hand_outcome, outcome, after, step, start, IsRun, IsOn, IsIn, IsLive, is_live, IsQuiet, IsReady, IsReadyTask, IsEnabled, is_deep, same_name, same_handler, with_task, with_handler, with_join, with_frozen, with_handled}
-use Rattle.lvish_calculus.specs.SameRuns.{SameRequest, IsMatch, without_child, SameTask, SameConfiguration, RunsAreOf, HaveSameRuns}
+use Rattle.lvish_calculus.specs.Calculus.{Task, Absent, Live, Ended, Post, State, Configuration, Running, Error, Label, Act, Hand, Change, changed, Effect, Changes, Fails, Nothing, just, put_effect, get_effect, add_effect, request_effect, task_effect, hand_effect, effect, after, step, start, IsRun, with_task, with_handler, with_join, with_frozen, with_handled}
+use Rattle.lvish_names.specs.Names.{Name, main, forked, handed, Handler, is_deep, same_name, same_handler}
+use Rattle.lvish_calculus.specs.SameRuns.{SameRequest, IsMatch, without_child, SameTask, SameState, SameConfiguration, RunsAreOf, HaveSameRuns}
+use Rattle.lvish_calculus.proofs.SameThere.{Base, over, flip_state, flip_configuration, enabled_there}
 
 -- SameRequest by cases
 data MatchedRequests {S R L K : Type 0} (P : L → K → Type 0) : Request S R L → Request S R K → Type 0 where
@@ -48,7 +50,7 @@ record MatchedChanges {S E L K : Type 0} (P : L → K → Type 0) (Q : ℕ → T
   handing : x.handing ≡ y.handing
 
 -- matched changes, the same error, or nothing on both sides
-data MatchedOutcomes {S E L K : Type 0} (P : L → K → Type 0) (Q : ℕ → Type 0) : Outcome S E L → Outcome S E K → Type 0 where
+data MatchedOutcomes {S E L K : Type 0} (P : L → K → Type 0) (Q : ℕ → Type 0) : Effect S E L → Effect S E K → Type 0 where
   changes : (x : Change S E L) (y : Change S E K) → MatchedChanges P Q x y → MatchedOutcomes P Q (Changes x) (Changes y)
   fails : (kind : ErrorKind) (v : Option ℕ) (t : Name E) → MatchedOutcomes P Q (Fails kind v t) (Fails kind v t)
   nothing : MatchedOutcomes P Q Nothing Nothing
@@ -86,130 +88,54 @@ module _ {S R L K : Type 0} (P : L → K → Type 0) where
 
   -- matched requests are the same but for a fork's child
   same_outside : {r : Request S R L} {q : Request S R K} → MatchedRequests P r q → without_child r ≡ without_child q
-  same_outside (puts v d) = refl
-  same_outside (gets v r) = refl
   same_outside (forks l k m) = refl
-  same_outside (adds pool procedure) = refl
-  same_outside (freezes v pools) = refl
-  same_outside pauses = refl
-  same_outside ends = refl
-  same_outside (faults kind) = refl
+  same_outside m = refl
 
-  -- the one side is matched with the other, so the other with the one
-  turned : {r : Request S R L} {q : Request S R K} → MatchedRequests P r q → SameRequest (λ k l. P l k) q r
-  turned (puts v d) = (refl, refl)
-  turned (gets v r) = (refl, refl)
-  turned (forks l k m) = m
-  turned (adds pool procedure) = (refl, refl)
-  turned (freezes v pools) = (refl, refl)
-  turned pauses = tt
-  turned ends = tt
-  turned (faults kind) = refl
-
-  added_back : (r : Request S R L) (pool procedure : ℕ) → MatchedRequests P r (Add pool procedure) → r ≡ Add pool procedure
-  added_back r pool procedure (adds i j) = refl
-
-  -- the replies that fit are the same
-  reply_back : {A : Type 0} {r : Request S R L} {q : Request S R K} → MatchedRequests P r q → (reply : Reply S A) → IsReplyTo q reply → IsReplyTo r reply
-  reply_back (puts v d) Done z = z
-  reply_back (gets v r) (Answer a) z = z
-  reply_back (forks l k m) Done z = z
-  reply_back (adds pool procedure) Done z = z
-  reply_back (freezes v pools) (Content s) z = z
-  reply_back pauses Done z = z
-  reply_back ends Done z = z
-  reply_back (faults kind) Done z = z
-  reply_back m reply z = absurd z
-
--- a match of the one side with the other is one of the other with the one
-flip : {S E R A L K : Type 0} {f : Functions S E R A L} {g : Functions S E R A K} {P : L → K → Type 0} {Q : ℕ → Type 0} → IsMatch f g P Q → IsMatch g f (λ k l. P l k) Q
-flip {f = f} {g = g} {P = P} ok = record {
-  pools = λ p. sym (ok.pools p);
-  start = ok.start;
-  start_handler = ok.start_handler;
-  request = λ k l m. turned P (matched P (f.request l) (g.request k) (ok.request l k m));
-  adds = λ k l m pool procedure e. ok.adds l k m pool procedure (added_back P (f.request l) pool procedure (subst (λ q. MatchedRequests P (f.request l) q) e (matched P (f.request l) (g.request k) (ok.request l k m))));
-  at = λ k l m. ok.at l k m;
-  resume = λ k l reply m z. ok.resume l k reply m (reply_back P (matched P (f.request l) (g.request k) (ok.request l k m)) reply z);
-}
-
-module _ {S E R A L K : Type 0} (same : S → S → Bool) (event_same : E → E → Bool) (cmp : E → E → Ordering) (bottom : S) (join : S → S → Option S) (events : S → List E) (answer : R → S → Option A) (f : Functions S E R A L) (g : Functions S E R A K) (P : L → K → Type 0) (Q : ℕ → Type 0) (ok : IsMatch f g P Q) where
+module _ {S E R A L K : Type 0} (B : Base S E R A) (f : Functions S E R A L) (g : Functions S E R A K) (P : L → K → Type 0) (Q : ℕ → Type 0) (ok : IsMatch f g P Q) where
   abbrev M : Machine S E R A L
-  M = machine_of same event_same cmp bottom join events answer f
+  M = over B f
 
   abbrev N : Machine S E R A K
-  N = machine_of same event_same cmp bottom join events answer g
+  N = over B g
 
   -- matched local states ask for the same
   asks : (l : L) (k : K) → P l k → MatchedRequests P (f.request l) (g.request k)
   asks l k m = matched P (f.request l) (g.request k) (ok.request l k m)
 
+  -- matched tasks, and so matched configurations, are the same from outside
+  seen_task : {j : Task L} {k : Task K} → MatchedTasks P j k → SameTask M N j k
+  seen_task absent = tt
+  seen_task (live l k n a p m) = (same_outside P (asks l k m), refl, refl, refl)
+  seen_task ended = tt
+
+  seen_state : (c : State S E L) (d : State S E K) → MatchedStates P Q c d → SameState M N c d
+  seen_state c d s = record { content = s.content; frozen = s.frozen; tasks = λ t. seen_task (s.tasks t); handlers = s.handlers; handled = s.handled }
+
+  seen : (c : Configuration S E L) (d : Configuration S E K) → MatchedConfigurations P Q c d → SameConfiguration M N c d
+  seen u w (running c d s) = seen_state c d s
+  seen u w (error kind v t) = (refl, refl, refl)
+
   if_task : (b : Bool) {i j : Task L} {k m : Task K} → MatchedTasks P i k → MatchedTasks P j m → MatchedTasks P (if b then i else j) (if b then k else m)
   if_task true x y = x
   if_task false x y = y
 
-  if_outcome : (a b : Bool) → a ≡ b → {w x : Outcome S E L} {y z : Outcome S E K} → MatchedOutcomes P Q w y → MatchedOutcomes P Q x z → MatchedOutcomes P Q (if a then w else x) (if b then y else z)
+  if_outcome : (a b : Bool) → a ≡ b → {w x : Effect S E L} {y z : Effect S E K} → MatchedOutcomes P Q w y → MatchedOutcomes P Q x z → MatchedOutcomes P Q (if a then w else x) (if b then y else z)
   if_outcome true true e m n = m
   if_outcome true false e m n = let z : ⊥ = cc in absurd z
   if_outcome false true e m n = let z : ⊥ = cc in absurd z
   if_outcome false false e m n = n
 
   module _ (c : State S E L) (d : State S E K) (s : MatchedStates P Q c d) where
-    -- what is enabled in the one state is enabled in the other
-    on_over : (h : Handler E) (v : ℕ) → IsOn M c h v → IsOn N d h v
-    on_over h v on = record { post = on.post; is = sym (s.handlers h) ∙ on.is; of = sym (ok.pools on.post.pool) ∙ on.of }
-
-    on_back : (h : Handler E) (v : ℕ) → IsOn N d h v → IsOn M c h v
-    on_back h v on = record { post = on.post; is = s.handlers h ∙ on.is; of = ok.pools on.post.pool ∙ on.of }
-
-    in_back : (t : Name E) (pools : List ℕ) → IsIn d t pools → IsIn c t pools
-    in_back t pools i = record { handler = i.handler; of = i.of; post = i.post; is = s.handlers i.handler ∙ i.is; listed = i.listed }
-
-    live_back : {j : Task L} {k : Task K} → MatchedTasks P j k → IsLive k → IsLive j
-    live_back absent z = elim z [ ]
-    live_back (live l k f a p m) z = is_live
-    live_back ended z = elim z [ ]
-
-    quiet_over : (v : ℕ) (pools : List ℕ) → IsQuiet M c v pools → IsQuiet N d v pools
-    quiet_over v pools q = record {
-      drained = λ h e on below. sym (s.handled h e) ∙ q.drained h e (on_back h v on) (subst (λ x. Contains (events x) e) (sym (s.content v)) below);
-      ended = λ t i z. q.ended t (in_back t pools i) (live_back (s.tasks t) z);
-    }
-
-    ready_over : {r : Request S R L} {q : Request S R K} → MatchedRequests P r q → IsReady M c r → IsReady N d q
-    ready_over (puts v x) z = tt
-    ready_over (gets v r) z = subst (λ x. IsSome (answer r x)) (s.content v) z
-    ready_over (forks l k m) z = tt
-    ready_over (adds pool procedure) z = tt
-    ready_over (freezes v pools) z = quiet_over v pools z
-    ready_over pauses z = tt
-    ready_over ends z = tt
-    ready_over (faults kind) z = tt
-
-    ready_task_over : {j : Task L} {k : Task K} → MatchedTasks P j k → IsReadyTask M c j → IsReadyTask N d k
-    ready_task_over absent z = z
-    ready_task_over (live l k f a p m) z = ready_over (asks l k m) z
-    ready_task_over ended z = z
-
-    enabled_over : (x : Label E) → IsEnabled M c x → IsEnabled N d x
-    enabled_over (Act t) z = ready_task_over (s.tasks t) z
-    enabled_over (Hand h e) z = record {
-      variable = z.variable;
-      on = on_over h z.variable z.on;
-      below = subst (λ x. Contains (events x) e) (s.content z.variable) z.below;
-      unhandled = sym (s.handled h e) ∙ z.unhandled;
-    }
-
-    -- and comes to the same: an outcome that is matched
+    -- a step comes to the same: an outcome that is matched
     just_over : (t : Name E) (j : Task L) (k : Task K) → MatchedTasks P j k → MatchedOutcomes {S = S} P Q (Changes (just t j)) (Changes (just t k))
     just_over t j k m = changes _ _ (record { own = one t j k m; made = none; added = refl; begins = tt; joined = refl; froze = refl; handing = refl })
 
-    put_over : (t : Name E) (j : Task L) (k : Task K) (v : ℕ) (x : S) (o : Option S) → MatchedTasks P j k → MatchedOutcomes P Q (put_outcome M c t j v x o) (put_outcome N d t k v x o)
+    put_over : (t : Name E) (j : Task L) (k : Task K) (v : ℕ) (x : S) (o : Option S) → MatchedTasks P j k → MatchedOutcomes P Q (put_effect M c t j v x o) (put_effect N d t k v x o)
     put_over t j k v x None m = fails Conflict (Some v) t
-    put_over t j k v x (Some y) m = if_outcome _ _ (λ i. s.frozen v i && not (same y (s.content v i))) (fails Frozen (Some v) t)
+    put_over t j k v x (Some y) m = if_outcome _ _ (λ i. s.frozen v i && not (B.same y (s.content v i))) (fails Frozen (Some v) t)
         (changes _ _ (record { own = one t j k m; made = none; added = refl; begins = tt; joined = refl; froze = refl; handing = refl }))
 
-    late_over : (t : Name E) (j : Task L) (k : Task K) (h : Handler E) (post : Post) (o : Option ℕ) → MatchedTasks P j k → Q post.procedure → MatchedOutcomes P Q (add_outcome c t j h post o) (add_outcome d t k h post o)
+    late_over : (t : Name E) (j : Task L) (k : Task K) (h : Handler E) (post : Post) (o : Option ℕ) → MatchedTasks P j k → Q post.procedure → MatchedOutcomes P Q (add_effect c t j h post o) (add_effect d t k h post o)
     late_over t j k h post None m q = nothing
     late_over t j k h post (Some v) m q = if_outcome _ _ (s.frozen v) (fails Late (Some v) t)
         (changes _ _ (record { own = one t j k m; made = none; added = refl; begins = q; joined = refl; froze = refl; handing = refl }))
@@ -219,21 +145,21 @@ module _ {S E R A L K : Type 0} (same : S → S → Bool) (event_same : E → E 
       resumed : (r : Request S R L) → f.request l ≡ r → (reply : Reply S A) → IsReplyTo r reply → P (f.resume (f.at l) reply) (g.resume (g.at k) reply)
       resumed r e reply z = ok.resume l k reply m (subst (λ x. IsReplyTo x reply) (sym e) z)
 
-      get_over : (v : ℕ) (r : R) → f.request l ≡ Get v r → (o : Option A) → MatchedOutcomes P Q (get_outcome M t (f.at l) n a p o) (get_outcome N t (g.at k) n a p o)
+      get_over : (v : ℕ) (r : R) → f.request l ≡ Get v r → (o : Option A) → MatchedOutcomes P Q (get_effect M t (f.at l) n a p o) (get_effect N t (g.at k) n a p o)
       get_over v r e None = nothing
       get_over v r e (Some x) = just_over t _ _ (live _ _ n a p (resumed (Get v r) e (Answer x) tt))
 
-      request_over : (r : Request S R L) (q : Request S R K) → MatchedRequests P r q → f.request l ≡ r → MatchedOutcomes P Q (request_outcome M c t (f.at l) n a p r) (request_outcome N d t (g.at k) n a p q)
+      request_over : (r : Request S R L) (q : Request S R K) → MatchedRequests P r q → f.request l ≡ r → MatchedOutcomes P Q (request_effect M c t (f.at l) n a p r) (request_effect N d t (g.at k) n a p q)
       request_over r q (puts v x) e =
-          subst (λ y. MatchedOutcomes P Q (request_outcome M c t (f.at l) n a p (Put v x)) (put_outcome N d t (Live (g.resume (g.at k) Done) n a (suc p)) v x (join y x))) (s.content v)
-          (put_over t _ _ v x (join (c.content v) x) (live _ _ n a (suc p) (resumed (Put v x) e Done tt)))
+          subst (λ y. MatchedOutcomes P Q (request_effect M c t (f.at l) n a p (Put v x)) (put_effect N d t (Live (g.resume (g.at k) Done) n a (suc p)) v x (B.join y x))) (s.content v)
+          (put_over t _ _ v x (B.join (c.content v) x) (live _ _ n a (suc p) (resumed (Put v x) e Done tt)))
       request_over r q (gets v x) e =
-          subst (λ y. MatchedOutcomes P Q (request_outcome M c t (f.at l) n a p (Get v x)) (get_outcome N t (g.at k) n a p (answer x y))) (s.content v)
-          (get_over v x e (answer x (c.content v)))
+          subst (λ y. MatchedOutcomes P Q (request_effect M c t (f.at l) n a p (Get v x)) (get_effect N t (g.at k) n a p (B.answer x y))) (s.content v)
+          (get_over v x e (B.answer x (c.content v)))
       request_over r q (forks i j z) e = if_outcome (is_deep t) _ refl (fails Deep None t)
           (changes _ _ (record { own = one t _ _ (live _ _ (suc n) a p (resumed (Fork i) e Done tt)); made = one (forked t (suc n)) _ _ (live i j 0 0 0 z); added = refl; begins = tt; joined = refl; froze = refl; handing = refl }))
       request_over r q (adds pool procedure) e = if_outcome (is_deep t) _ refl (fails Deep None t)
-          (subst (λ o. MatchedOutcomes P Q (add_outcome c t (Live (f.resume (f.at l) Done) n (suc a) p) (record { adder = t; number = suc a }) (record { pool = pool; procedure = procedure }) (f.pool_variable pool)) (add_outcome d t (Live (g.resume (g.at k) Done) n (suc a) p) (record { adder = t; number = suc a }) (record { pool = pool; procedure = procedure }) o)) (ok.pools pool)
+          (subst (λ o. MatchedOutcomes P Q (add_effect c t (Live (f.resume (f.at l) Done) n (suc a) p) (record { adder = t; number = suc a }) (record { pool = pool; procedure = procedure }) (f.pool_variable pool)) (add_effect d t (Live (g.resume (g.at k) Done) n (suc a) p) (record { adder = t; number = suc a }) (record { pool = pool; procedure = procedure }) o)) (ok.pools pool)
           (late_over t _ _ _ (record { pool = pool; procedure = procedure }) (f.pool_variable pool) (live _ _ n (suc a) p (resumed (Add pool procedure) e Done tt)) (ok.adds l k m pool procedure e)))
       request_over r q (freezes v pools) e =
           let on : P (f.resume (f.at l) (Content (c.content v))) (g.resume (g.at k) (Content (d.content v))) =
@@ -243,71 +169,69 @@ module _ {S E R A L K : Type 0} (same : S → S → Bool) (event_same : E → E 
       request_over r q ends e = just_over t _ _ ended
       request_over r q (faults kind) e = fails kind None t
 
-    task_over : (t : Name E) (j : Task L) (k : Task K) → MatchedTasks P j k → MatchedOutcomes P Q (task_outcome M c t j) (task_outcome N d t k)
+    task_over : (t : Name E) (j : Task L) (k : Task K) → MatchedTasks P j k → MatchedOutcomes P Q (task_effect M c t j) (task_effect N d t k)
     task_over t j k absent = nothing
     task_over t j k (live l i n a p m) = request_over t l i n a p m (f.request l) (g.request i) (asks l i m) refl
     task_over t j k ended = nothing
 
-    hand_over : (h : Handler E) (e : E) (o : Option Post) → Begins Q o → MatchedOutcomes P Q (hand_outcome M h e o) (hand_outcome N h e o)
+    hand_over : (h : Handler E) (e : E) (o : Option Post) → Begins Q o → MatchedOutcomes P Q (hand_effect M h e o) (hand_effect N h e o)
     hand_over h e None q = nothing
     hand_over h e (Some post) q =
         changes _ _ (record { own = none; made = one (handed h.adder h.number e) _ _ (live _ _ 0 0 0 (ok.start_handler post.procedure e q)); added = refl; begins = tt; joined = refl; froze = refl; handing = refl })
 
-    outcome_over : (x : Label E) → MatchedOutcomes P Q (outcome M c x) (outcome N d x)
+    outcome_over : (x : Label E) → MatchedOutcomes P Q (effect M c x) (effect N d x)
     outcome_over (Act t) = task_over t (c.tasks t) (d.tasks t) (s.tasks t)
-    outcome_over (Hand h e) = subst (λ o. MatchedOutcomes P Q (hand_outcome M h e (c.handlers h)) (hand_outcome N h e o)) (s.handlers h) (hand_over h e (c.handlers h) (s.begins h))
+    outcome_over (Hand h e) = subst (λ o. MatchedOutcomes P Q (hand_effect M h e (c.handlers h)) (hand_effect N h e o)) (s.handlers h) (hand_over h e (c.handlers h) (s.begins h))
 
     -- so the states after it are matched
-    writes_over : (a : Option (Name E × Task L)) (b : Option (Name E × Task K)) (i : Name E → Task L) (j : Name E → Task K) → MatchedWrites P a b → ((t : Name E) → MatchedTasks P (i t) (j t)) → (t : Name E) → MatchedTasks P (with_task event_same a i t) (with_task event_same b j t)
+    writes_over : (a : Option (Name E × Task L)) (b : Option (Name E × Task K)) (i : Name E → Task L) (j : Name E → Task K) → MatchedWrites P a b → ((t : Name E) → MatchedTasks P (i t) (j t)) → (t : Name E) → MatchedTasks P (with_task B.event_same a i t) (with_task B.event_same b j t)
     writes_over a b i j none m t = m t
-    writes_over a b i j (one u x y w) m t = if_task (same_name event_same t u) w (m t)
+    writes_over a b i j (one u x y w) m t = if_task (same_name B.event_same t u) w (m t)
 
     if_begins : (b : Bool) (post : Post) (o : Option Post) → Q post.procedure → Begins Q o → Begins Q (if b then Some post else o)
     if_begins true post o x y = x
     if_begins false post o x y = y
 
-    begins_over : (o : Option (Handler E × Post)) → Added Q o → (h : Handler E) → Begins Q (with_handler event_same o c.handlers h)
+    begins_over : (o : Option (Handler E × Post)) → Added Q o → (h : Handler E) → Begins Q (with_handler B.event_same o c.handlers h)
     begins_over None q h = s.begins h
-    begins_over (Some new) q h = if_begins (same_handler event_same h new.0) new.1 (c.handlers h) q (s.begins h)
+    begins_over (Some new) q h = if_begins (same_handler B.event_same h new.0) new.1 (c.handlers h) q (s.begins h)
 
     changed_over : (x : Change S E L) (y : Change S E K) → MatchedChanges P Q x y → MatchedStates P Q (changed M x c) (changed N y d)
     changed_over x y m = record {
-      content = λ v i. with_join join (m.joined i) (λ w. s.content w i) v;
+      content = λ v i. with_join B.join (m.joined i) (λ w. s.content w i) v;
       frozen = λ v i. with_frozen (m.froze i) (λ w. s.frozen w i) v;
       tasks = writes_over x.own y.own _ _ m.own (writes_over x.made y.made _ _ m.made s.tasks);
-      handlers = λ h i. with_handler event_same (m.added i) (λ k. s.handlers k i) h;
+      handlers = λ h i. with_handler B.event_same (m.added i) (λ k. s.handlers k i) h;
       begins = begins_over x.added m.begins;
-      handled = λ h e i. with_handled event_same (m.handing i) (λ k u. s.handled k u i) h e;
+      handled = λ h e i. with_handled B.event_same (m.handing i) (λ k u. s.handled k u i) h e;
     }
 
-    after_over : (x : Outcome S E L) (y : Outcome S E K) → MatchedOutcomes P Q x y → MatchedConfigurations P Q (after M c x) (after N d y)
+    after_over : (x : Effect S E L) (y : Effect S E K) → MatchedOutcomes P Q x y → MatchedConfigurations P Q (after M c x) (after N d y)
     after_over u w (changes x y m) = running _ _ (changed_over x y m)
     after_over u w (fails kind v t) = error kind v t
     after_over u w nothing = running c d s
-
-  -- matched tasks, and so matched configurations, are the same from outside
-  seen_task : {j : Task L} {k : Task K} → MatchedTasks P j k → SameTask M N j k
-  seen_task absent = tt
-  seen_task (live l k n a p m) = (same_outside P (asks l k m), refl, refl, refl)
-  seen_task ended = tt
-
-  seen : (c : Configuration S E L) (d : Configuration S E K) → MatchedConfigurations P Q c d → SameConfiguration M N c d
-  seen u w (running c d s) = record { content = s.content; frozen = s.frozen; tasks = λ t. seen_task (s.tasks t); handlers = s.handlers; handled = s.handled }
-  seen u w (error kind v t) = (refl, refl, refl)
 
   -- from matched configurations the same labels lead to matched ones
   runs_over : (xs : List (Label E)) (c : Configuration S E L) (d : Configuration S E K) → MatchedConfigurations P Q c d → (last : Configuration S E L) → IsRun M c xs last → (e : Configuration S E K) × IsRun N d xs e × SameConfiguration M N last e
   runs_over [] c d m last z = (d, refl, subst (λ x. SameConfiguration M N x d) z (seen c d m))
   runs_over (x ∷ xs) u w (running c d s) last z =
-      let r = runs_over xs (step M c x) (step N d x) (after_over c d s (outcome M c x) (outcome N d x) (outcome_over c d s x)) last z.1 in
-      (r.0, (enabled_over c d s x z.0, r.1), r.2)
+      let r = runs_over xs (step M c x) (step N d x) (after_over c d s (effect M c x) (effect N d x) (outcome_over c d s x)) last z.1 in
+      (r.0, (enabled_there B f g ok.pools c d (seen_state c d s) x z.0, r.1), r.2)
   runs_over (x ∷ xs) u w (error kind v t) last z = absurd z
+
+  -- and back
+  runs_back : (xs : List (Label E)) (c : Configuration S E L) (d : Configuration S E K) → MatchedConfigurations P Q c d → (last : Configuration S E K) → IsRun N d xs last → (e : Configuration S E L) × IsRun M c xs e × SameConfiguration N M last e
+  runs_back [] c d m last z = (c, refl, subst (λ x. SameConfiguration N M x c) z (flip_configuration M N c d (seen c d m)))
+  runs_back (x ∷ xs) u w (running c d s) last z =
+      let r = runs_back xs (step M c x) (step N d x) (after_over c d s (effect M c x) (effect N d x) (outcome_over c d s x)) last z.1 in
+      (r.0, (enabled_there B g f (λ p. sym (ok.pools p)) d c (flip_state M N c d (seen_state c d s)) x z.0, r.1), r.2)
+  runs_back (x ∷ xs) u w (error kind v t) last z = absurd z
 
   start_over : MatchedStates P Q (start M) (start N)
   start_over = record {
     content = λ v. refl;
     frozen = λ v. refl;
-    tasks = λ t. if_task (same_name event_same t main) (live f.start g.start 0 0 0 ok.start) absent;
+    tasks = λ t. if_task (same_name B.event_same t main) (live f.start g.start 0 0 0 ok.start) absent;
     handlers = λ h. refl;
     begins = λ h. tt;
     handled = λ h e. refl;
@@ -316,12 +240,18 @@ module _ {S E R A L K : Type 0} (same : S → S → Bool) (event_same : E → E 
   runs_are_of : RunsAreOf M N
   runs_are_of xs d run = runs_over xs (Running (start M)) (Running (start N)) (running _ _ start_over) d run
 
+  runs_are_back : RunsAreOf N M
+  runs_are_back xs d run = runs_back xs (Running (start M)) (Running (start N)) (running _ _ start_over) d run
+
 -- programs whose local states are matched have the same runs
 pub matching_runs : {S E R A L K : Type 0} (same : S → S → Bool) (event_same : E → E → Bool) (cmp : E → E → Ordering) (bottom : S) (join : S → S → Option S) (events : S → List E) (answer : R → S → Option A)
     (f : Functions S E R A L) (g : Functions S E R A K) (P : L → K → Type 0) (Q : ℕ → Type 0)
     → IsMatch f g P Q → HaveSameRuns (machine_of same event_same cmp bottom join events answer f) (machine_of same event_same cmp bottom join events answer g)
-matching_runs same event_same cmp bottom join events answer f g P Q ok = record {
+matching_runs {S} {E} {R} {A} same event_same cmp bottom join events answer f g P Q ok = record {
   pools = ok.pools;
-  there = runs_are_of same event_same cmp bottom join events answer f g P Q ok;
-  back = runs_are_of same event_same cmp bottom join events answer g f (λ k l. P l k) Q (flip ok);
+  there = runs_are_of base f g P Q ok;
+  back = runs_are_back base f g P Q ok;
 }
+  where
+    base : Base S E R A
+    base = record { same = same; event_same = event_same; cmp = cmp; bottom = bottom; join = join; events = events; answer = answer }

@@ -1,11 +1,12 @@
 -- What holds of a run of one machine holds of the same run of a machine that has the same runs.
 use Rattle.std.proofs.Common.{◌≡◌, ◌↔◌, inl, inr, ℕ, Bool, List, [], ◌∷◌, ◌++◌, Option, IsSome, refl, sym, ◌∙◌, ap, subst, if◌then◌else◌, Contains}
 use Rattle.std.specs.declared.cmp.Ordering.{Ordering}
-use Rattle.lvish_calculus.specs.Machine.{Machine, Request, Put, Get, Fork, Add, Freeze, Pause, End, Fault, IsBelow}
+use Rattle.lvish_calculus.specs.Machine.{Machine, Request, Get, Freeze, IsBelow}
 use Rattle.lvish_calculus.specs.Program.{Functions, machine_of}
-use Rattle.lvish_calculus.specs.Calculus.{Name, Handler, Label, Act, Hand, Task, Absent, Live, Ended, State, Configuration, Running, Error, IsOn, IsIn, IsLive, is_live, IsQuiet, IsReady, IsReadyTask, IsEnabled, CanStep, IsRun, IsEnd, Freezes, start, step, same_handler}
+use Rattle.lvish_calculus.specs.Calculus.{Label, Act, Hand, Task, Absent, Live, Ended, State, Configuration, Running, Error, IsOn, IsIn, IsLive, is_live, IsQuiet, IsReady, IsReadyTask, IsEnabled, CanStep, IsRun, IsEnd, Freezes, start, step}
+use Rattle.lvish_names.specs.Names.{Name, Handler, same_handler}
 use Rattle.lvish_calculus.specs.Laws.{Reaches, FreezesBefore, IsCrossed, FreezesAllBy, NeverErrs}
-use Rattle.lvish_calculus.specs.Handing.{handed_to, IsAmong, NoRepeats, ComesBefore, Introduces, IsNoLater, IsCoreRun, HandsWell, HandsTo, IsHandedWell}
+use Rattle.lvish_calculus.specs.Handing.{handed_to, IsAmong, NoRepeats, ComesBefore, Introduces, IsNoLater, HandsOldestFirst, HandsWell, HandsTo, IsHandedWell}
 use Rattle.lvish_calculus.specs.Live.{HasLive}
 use Rattle.lvish_calculus.specs.SameRuns.{without_child, SameTask, SameState, SameConfiguration, HaveSameRuns}
 
@@ -16,12 +17,7 @@ module _ {S E R A L K : Type 0} (M : Machine S E R A L) (N : Machine S E R A K) 
   flip_task Absent Absent h = tt
   flip_task (Live l f a p) (Live k g b q) h = (sym h.0, sym h.1, sym h.2, sym h.3)
   flip_task Ended Ended h = tt
-  flip_task Absent (Live k g b q) h = absurd h
-  flip_task Absent Ended h = absurd h
-  flip_task (Live l f a p) Absent h = absurd h
-  flip_task (Live l f a p) Ended h = absurd h
-  flip_task Ended Absent h = absurd h
-  flip_task Ended (Live k g b q) h = absurd h
+  flip_task k j h = absurd h
 
   pub flip_state : (c : State S E L) (d : State S E K) → SameState M N c d → SameState N M d c
   flip_state c d s = record {
@@ -31,6 +27,11 @@ module _ {S E R A L K : Type 0} (M : Machine S E R A L) (N : Machine S E R A K) 
     handlers = λ h. sym (s.handlers h);
     handled = λ h e. sym (s.handled h e);
   }
+
+  pub flip_configuration : (C : Configuration S E L) (D : Configuration S E K) → SameConfiguration M N C D → SameConfiguration N M D C
+  flip_configuration (Running c) (Running d) s = flip_state c d s
+  flip_configuration (Error k v t) (Error j u r) s = (sym s.0, sym s.1, sym s.2)
+  flip_configuration C D s = absurd s
 
   pub flip_runs : HaveSameRuns M N → HaveSameRuns N M
   flip_runs h = record { pools = λ p. sym (h.pools p); there = h.back; back = h.there }
@@ -51,41 +52,13 @@ pub record Base (S E R A : Type 0) : Type 0 where
 abbrev pub over : {S E R A L : Type 0} → Base S E R A → Functions S E R A L → Machine S E R A L
 over B f = machine_of B.same B.event_same B.cmp B.bottom B.join B.events B.answer f
 
--- what is asked for is ready, whatever the local state of a fork's child
-abbrev ShapeReady : {S E R A L : Type 0} → Machine S E R A L → State S E L → Request S R (Unit {0}) → Type 0
-ShapeReady M c (Get v r) = IsSome (M.answer r (c.content v))
-ShapeReady M c (Freeze v pools) = IsQuiet M c v pools
-ShapeReady M c _ = Unit {0}
-
-to_shape : {S E R A L : Type 0} (M : Machine S E R A L) (c : State S E L) (r : Request S R L) → IsReady M c r → ShapeReady M c (without_child r)
-to_shape M c (Put v d) h = tt
-to_shape M c (Get v r) h = h
-to_shape M c (Fork l) h = tt
-to_shape M c (Add k p) h = tt
-to_shape M c (Freeze v ks) h = h
-to_shape M c Pause h = tt
-to_shape M c End h = tt
-to_shape M c (Fault k) h = tt
-
-of_shape : {S E R A L : Type 0} (M : Machine S E R A L) (c : State S E L) (r : Request S R L) → ShapeReady M c (without_child r) → IsReady M c r
-of_shape M c (Put v d) h = tt
-of_shape M c (Get v r) h = h
-of_shape M c (Fork l) h = tt
-of_shape M c (Add k p) h = tt
-of_shape M c (Freeze v ks) h = h
-of_shape M c Pause h = tt
-of_shape M c End h = tt
-of_shape M c (Fault k) h = tt
+asks_get : {S R L : Type 0} (q : Request S R L) (v : ℕ) (r : R) → without_child q ≡ Get v r → q ≡ Get v r
+asks_get (Get w x) v r e = let a : w ≡ v = cc in let b : x ≡ r = cc in λ i. Get (a i) (b i)
+asks_get q v r e = absurd (cc e)
 
 asks_freeze : {S R L : Type 0} (q : Request S R L) (v : ℕ) (ks : List ℕ) → without_child q ≡ Freeze v ks → q ≡ Freeze v ks
-asks_freeze (Put w d) v ks e = let z : ⊥ = cc in absurd z
-asks_freeze (Get w r) v ks e = let z : ⊥ = cc in absurd z
-asks_freeze (Fork l) v ks e = let z : ⊥ = cc in absurd z
-asks_freeze (Add k p) v ks e = let z : ⊥ = cc in absurd z
 asks_freeze (Freeze w js) v ks e = let a : w ≡ v = cc in let b : js ≡ ks = cc in λ i. Freeze (a i) (b i)
-asks_freeze Pause v ks e = let z : ⊥ = cc in absurd z
-asks_freeze End v ks e = let z : ⊥ = cc in absurd z
-asks_freeze (Fault k) v ks e = let z : ⊥ = cc in absurd z
+asks_freeze q v ks e = absurd (cc e)
 
 module _ {S E R A L K : Type 0} (B : Base S E R A) (f : Functions S E R A L) (g : Functions S E R A K) (pools : (p : ℕ) → f.pool_variable p ≡ g.pool_variable p) (c : State S E L) (d : State S E K) (s : SameState (over B f) (over B g) c d) where
   pub on_there : (h : Handler E) (v : ℕ) → IsOn (over B f) c h v → IsOn (over B g) d h v
@@ -99,28 +72,16 @@ module _ {S E R A L K : Type 0} (B : Base S E R A) (f : Functions S E R A L) (g 
 
   task_live : (k : Task L) (j : Task K) → SameTask (over B f) (over B g) k j → IsLive k → IsLive j
   task_live (Live l a b p) (Live k x y z) h is = is_live
-  task_live Absent Absent h is = let z : ⊥ = none Absent refl is in absurd z
-    where
-      none : (k : Task L) → k ≡ Absent → IsLive k → ⊥
-      none k e is_live = let z : ⊥ = cc in z
-  task_live Ended Ended h is = let z : ⊥ = none Ended refl is in absurd z
-    where
-      none : (k : Task L) → k ≡ Ended → IsLive k → ⊥
-      none k e is_live = let z : ⊥ = cc in z
-  task_live Absent (Live k x y z) h is = absurd h
-  task_live Absent Ended h is = absurd h
-  task_live (Live l a b p) Absent h is = absurd h
-  task_live (Live l a b p) Ended h is = absurd h
-  task_live Ended Absent h is = absurd h
-  task_live Ended (Live k x y z) h is = absurd h
+  task_live Absent Absent h is = elim is [ ]
+  task_live Ended Ended h is = elim is [ ]
+  task_live k j h is = absurd h
 
   live_there : (t : Name E) → IsLive (c.tasks t) → IsLive (d.tasks t)
   live_there t is = task_live (c.tasks t) (d.tasks t) (s.tasks t) is
 
   live_of : (j : Task K) (l : L) (a b p : ℕ) → SameTask (over B f) (over B g) (Live l a b p) j → (k : K) × (j ≡ Live k a b p) × (without_child (f.request l) ≡ without_child (g.request k))
   live_of (Live k x y z) l a b p h = (k, (λ i. Live k ((sym h.1) i) ((sym h.2) i) ((sym h.3) i)), h.0)
-  live_of Absent l a b p h = absurd h
-  live_of Ended l a b p h = absurd h
+  live_of j l a b p h = absurd h
 
   pub freezes_there : (l : Label E) (v : ℕ) → Freezes (over B f) c l v → Freezes (over B g) d l v
   freezes_there l v fr =
@@ -141,25 +102,16 @@ module _ {S E R A L K : Type 0} (B : Base S E R A) (f : Functions S E R A L) (g 
     ended = λ t is live. q.ended t (pool_there B g f sloop d c flipped t ks is) (live_there B g f sloop d c flipped t live);
   }
 
-  shape_there : (r : Request S R (Unit {0})) → ShapeReady (over B f) c r → ShapeReady (over B g) d r
-  shape_there (Get v r) h = subst (λ x. IsSome (B.answer r x)) (s.content v) h
-  shape_there (Freeze v ks) h = quiet_there v ks h
-  shape_there (Put v e) h = tt
-  shape_there (Fork l) h = tt
-  shape_there (Add k p) h = tt
-  shape_there Pause h = tt
-  shape_there End h = tt
-  shape_there (Fault k) h = tt
-
   ready_there : (r : Request S R L) (q : Request S R K) → without_child r ≡ without_child q → IsReady (over B f) c r → IsReady (over B g) d q
-  ready_there r q e h = of_shape (over B g) d q (subst (λ x. ShapeReady (over B g) d x) e (shape_there (without_child r) (to_shape (over B f) c r h)))
+  ready_there r (Get v x) e h = subst (λ y. IsSome (B.answer x y)) (s.content v) (subst (λ y. IsReady (over B f) c y) (asks_get r v x e) h)
+  ready_there r (Freeze v ks) e h = quiet_there v ks (subst (λ y. IsReady (over B f) c y) (asks_freeze r v ks e) h)
+  ready_there r q e h = tt
 
   task_there : (k : Task L) (j : Task K) → SameTask (over B f) (over B g) k j → IsReadyTask (over B f) c k → IsReadyTask (over B g) d j
   task_there (Live l a b p) (Live k x y z) h is = ready_there (f.request l) (g.request k) h.0 is
-  task_there (Live l a b p) Absent h is = absurd h
-  task_there (Live l a b p) Ended h is = absurd h
   task_there Absent j h is = absurd is
   task_there Ended j h is = absurd is
+  task_there k j h is = absurd h
 
   pub enabled_there : (l : Label E) → IsEnabled (over B f) c l → IsEnabled (over B g) d l
   enabled_there (Act t) en = task_there (c.tasks t) (d.tasks t) (s.tasks t) en
@@ -279,7 +231,7 @@ module _ {S E R A L K : Type 0} (B : Base S E R A) (f : Functions S E R A L) (g 
       below_there B f g H.pools k.0 d same e v (later q r k.0 is k.1 (below_there B g f back.pools d k.0 k.2 x v below))
 
 module _ {S E R A L K : Type 0} (B : Base S E R A) (f : Functions S E R A L) (g : Functions S E R A K) (H : HaveSameRuns (over B f) (over B g)) where
-  pub core_there : (xs : List (Label E)) → IsCoreRun (over B f) xs → IsCoreRun (over B g) xs
+  pub core_there : (xs : List (Label E)) → HandsOldestFirst (over B f) xs → HandsOldestFirst (over B g) xs
   core_there xs core p s h e is d run v on x below unhandled =
       let k = reached (over B g) (over B f) (back B f g H) p d run in
       let z = core p s h e is k.0 k.1 v (on_there B g f (back B f g H).pools d k.0 k.2 h v on) x (below_there B g f (back B f g H).pools d k.0 k.2 x v below) (sym (k.2.handled h x) ∙ unhandled) in
@@ -341,11 +293,4 @@ module _ {S E R A L K : Type 0} (B : Base S E R A) (f : Functions S E R A L) (g 
   pub handed_there : (xs : List (Label E)) → IsHandedWell (over B f) xs → IsHandedWell (over B g) xs
   handed_there xs well D run =
       let z = H.back xs D run in
-      let same = flip_configuration D z.0 z.2 in
-      hands_to_there xs z.0 D same (well z.0 z.1)
-    where
-      flip_configuration : (D : Configuration S E K) (C : Configuration S E L) → SameConfiguration (over B g) (over B f) D C → SameConfiguration (over B f) (over B g) C D
-      flip_configuration (Running d) (Running c) s = flip_state (over B g) (over B f) d c s
-      flip_configuration (Running d) (Error k v t) s = absurd s
-      flip_configuration (Error k v t) (Running c) s = absurd s
-      flip_configuration (Error k v t) (Error j u r) s = (sym s.0, sym s.1, sym s.2)
+      hands_to_there xs z.0 D (flip_configuration (over B g) (over B f) D z.0 z.2) (well z.0 z.1)

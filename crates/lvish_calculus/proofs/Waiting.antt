@@ -1,10 +1,11 @@
 -- What a waiting task waits for.
 use Rattle.std.proofs.Common.{◌≡◌, ◌⊎◌, inl, inr, ℕ, true, ◌&&◌, ◌||◌, List, length, Option, Some, None, IsSome, nat_eq, refl, sym, ◌∙◌, ap, subst}
-use Rattle.std.proofs.lemmas.Bool.{and_parts, both_ways, cases_Bool, or_cases}
-use Rattle.lvish_calculus.specs.Machine.{Machine, IsLawful, IsBelow, IsOf, Request, Put, Get, Fork, Add, Freeze, Pause, End, Fault}
-use Rattle.lvish_calculus.specs.Calculus.{Name, Handler, handler_of, Task, Absent, Live, Ended, Post, State, Label, Change, changed, IsOn, IsIn, IsLive, is_live, IsQuiet, IsReady, IsReadyTask, IsEnabled, with_join, with_handled, same_handler}
+use Rattle.std.proofs.lemmas.Bool.{and_parts, cases_Bool, cases_eq, or_cases}
+use Rattle.lvish_calculus.specs.Machine.{Machine, IsLawful, IsBelow, IsOf, Request, Get, Freeze}
+use Rattle.lvish_calculus.specs.Calculus.{Task, Absent, Live, Ended, Post, State, Label, Change, changed, IsOn, IsIn, IsLive, is_live, IsQuiet, IsReady, IsReadyTask, IsEnabled, with_join, with_handled}
+use Rattle.lvish_names.specs.Names.{Name, Handler, handler_of, same_handler}
 use Rattle.lvish_calculus.specs.Waiting.{LetsPass, by_put, by_handing, by_end, WaitsForItsVariable, AllWait}
-use Rattle.lvish_calculus.proofs.Names.{same_handler-true, nat_eq-true, nat_eq-refl}
+use Rattle.lvish_calculus.proofs.Names.{same_handler-true, nat_eq-true}
 use Rattle.lvish_calculus.proofs.Among.{all_of_them}
 use Rattle.lvish_calculus.proofs.Order.{below_le, with_join-other}
 use Rattle.lvish_calculus.proofs.Steps.{Makes, view}
@@ -13,28 +14,20 @@ use Rattle.lvish_calculus.proofs.Keeps.{next_present, tasks_after, made_absent, 
 use Rattle.lvish_calculus.proofs.Moves.{content_le, task_stays}
 use Rattle.lvish_calculus.proofs.Runs.{reached}
 
-module _ {S E R A L : Type 0} (M : Machine S E R A L) (c : State S E L) where
-  -- a handler is on the variable or not
-  on_it : (h : Handler E) (v : ℕ) → IsOn M c h v ⊎ (IsOn M c h v → ⊥)
-  on_it h v = by_post (c.handlers h) refl
-    where
-      by_variable : (post : Post) → c.handlers h ≡ Some post → (o : Option ℕ) → M.pool_variable post.pool ≡ o → IsOn M c h v ⊎ (IsOn M c h v → ⊥)
-      by_variable post is None e = inr (λ on.
-          let p : post ≡ on.post = some_is (sym is ∙ on.is) in
-          let z : ◌≡◌ {A = Option ℕ} None (Some v) = sym e ∙ ap (λ (q : Post). M.pool_variable q.pool) p ∙ on.of in
-          absurd cc)
-      by_variable post is (Some w) e = elim (cases_Bool (nat_eq v w)) [
-        | inl b ↦ inl (record { post = post; is = is; of = e ∙ ap Some (sym (nat_eq-true v w b)) })
-        | inr b ↦ inr (λ on.
-            let p : post ≡ on.post = some_is (sym is ∙ on.is) in
-            let z : w ≡ v = some_is (sym e ∙ ap (λ (q : Post). M.pool_variable q.pool) p ∙ on.of) in
-            let y : nat_eq v v ≡ true = nat_eq-refl v in
-            both_ways _ b (subst (λ u. nat_eq v u ≡ true) (sym z) y))
-      ]
+cases_some : (o : Option ℕ) (v : ℕ) → (o ≡ Some v) ⊎ (o ≡ Some v → ⊥)
+cases_some None v = inr (λ e. cc)
+cases_some (Some w) v = elim (cases_eq w v) [ inl e ↦ inl (ap Some e) | inr ne ↦ inr (λ e. ne (some_is e)) ]
 
-      by_post : (o : Option Post) → c.handlers h ≡ o → IsOn M c h v ⊎ (IsOn M c h v → ⊥)
-      by_post None e = inr (λ on. let z : ◌≡◌ {A = Option Post} None (Some on.post) = sym e ∙ on.is in absurd cc)
-      by_post (Some post) e = by_variable post e (M.pool_variable post.pool) refl
+-- a handler is on the variable or not
+on_it : {S E R A L : Type 0} (M : Machine S E R A L) (c : State S E L) (h : Handler E) (v : ℕ) → IsOn M c h v ⊎ (IsOn M c h v → ⊥)
+on_it M c h v = by (c.handlers h) refl
+  where
+    by : (o : Option Post) → c.handlers h ≡ o → IsOn M c h v ⊎ (IsOn M c h v → ⊥)
+    by None e = inr (λ on. absurd (cc on.is))
+    by (Some post) e = elim (cases_some (M.pool_variable post.pool) v) [
+      | inl of ↦ inl (record { post = post; is = e; of = of })
+      | inr other ↦ inr (λ on. other (ap (λ (q : Post). M.pool_variable q.pool) (some_is (sym e ∙ on.is)) ∙ on.of))
+    ]
 
 module _ {S E R A L : Type 0} (M : Machine S E R A L) (ok : IsLawful M) (c : State S E L) (l : Label E) (ch : Change S E L) (m : Makes M c l ch) (en : IsEnabled M c l) (s : IsSound c) where
   get_before : (v : ℕ) (r : R) → IsSome (M.answer r ((changed M ch c).content v)) → IsSome (M.answer r (c.content v)) ⊎ LetsPass M c ch (Get v r)
@@ -84,10 +77,9 @@ module _ {S E R A L : Type 0} (M : Machine S E R A L) (ok : IsLawful M) (c : Sta
     ]
 
     ends_before : (o : Option (Name E × Task L)) → ch.own ≡ o → NoneEnds ⊎ LetsPass M c ch (Freeze v pools)
-    ends_before None q = inl (λ t e i. let z : ◌≡◌ {A = Option (Name E × Task L)} None (Some (t, Ended)) = sym q ∙ e in absurd cc)
-    ends_before (Some (t, Absent)) q = inl (λ u e i. let z : ◌≡◌ {A = Task L} Absent Ended = second (sym q ∙ e) in absurd cc)
-    ends_before (Some (t, Live o f a p)) q = inl (λ u e i. let z : ◌≡◌ {A = Task L} (Live o f a p) Ended = second (sym q ∙ e) in absurd cc)
     ends_before (Some (t, Ended)) q = by_handler t q (handler_of t) refl
+    ends_before (Some (t, k)) q = inl (λ u e i. absurd (cc (second (sym q ∙ e))))
+    ends_before None q = inl (λ u e i. absurd (cc (sym q ∙ e)))
 
     in_after : (t : Name E) → IsIn c t pools → IsIn (changed M ch c) t pools
     in_after t i = record { handler = i.handler; of = i.of; post = i.post; is = handlers_stay M ok c l ch m en s i.handler i.post i.is; listed = i.listed }
@@ -97,14 +89,11 @@ module _ {S E R A L : Type 0} (M : Machine S E R A L) (ok : IsLawful M) (c : Sta
     live_or_ended t Ended g b n q none i = absurd (none t q i)
     live_or_ended t Absent g b n q none i = let z : ⊥ = next_present Absent g b n refl in absurd z
 
-    no_live_absent : (k : Task L) → k ≡ Absent → IsLive k → ⊥
-    no_live_absent k e is_live = let z : ⊥ = cc in z
-
     ended_before : NoneEnds → (t : Name E) → IsIn c t pools → IsLive (c.tasks t) → ⊥
     ended_before none t i live = elim (tasks_after M ok c l ch m en s t) [
       | inl w ↦ let g = own_is M ok c l ch m t w.0 w.1 in
           quiet.ended t (in_after t i) (subst (λ x. IsLive x) (sym w.2) (live_or_ended t w.0 g.forks g.adds g.next w.1 none i))
-      | inr (inl w) ↦ no_live_absent (c.tasks t) (made_absent M ok c l ch m en s t w.0 w.1) live
+      | inr (inl w) ↦ elim (subst (λ x. IsLive x) (made_absent M ok c l ch m en s t w.0 w.1) live) [ ]
       | inr (inr w) ↦ quiet.ended t (in_after t i) (subst (λ x. IsLive x) (sym w) live)
     ]
 
@@ -118,14 +107,13 @@ module _ {S E R A L : Type 0} (M : Machine S E R A L) (ok : IsLawful M) (c : Sta
     ]
 
   pub ready_before : (at : L) (q : Request S R L) → M.request at ≡ q → IsReady M (changed M ch c) q → IsReady M c q ⊎ LetsPass M c ch q
-  ready_before at (Put v d) is z = inl tt
   ready_before at (Get v r) is z = get_before v r z
-  ready_before at (Fork k) is z = inl tt
-  ready_before at (Add pool procedure) is z = inl tt
   ready_before at (Freeze v pools) is z = freeze_before v pools (ok.freeze_own at v pools is) z
-  ready_before at Pause is z = inl tt
-  ready_before at End is z = inl tt
-  ready_before at (Fault kind) is z = inl tt
+  ready_before at q is z = inl tt
+
+pub live_ready : {S E R A L : Type 0} (M : Machine S E R A L) (c : State S E L) (k : Task L) → IsReadyTask M c k → IsLive k
+live_ready M c (Live o f a p) z = is_live
+live_ready M c k z = absurd z
 
 module _ {S E R A L : Type 0} (M : Machine S E R A L) (ok : IsLawful M) where
   pub waits_for_its_variable : WaitsForItsVariable M
@@ -134,13 +122,8 @@ module _ {S E R A L : Type 0} (M : Machine S E R A L) (ok : IsLawful M) where
       let s = reached M ok ls c run in
       (task_stays M ok c l ch m en s t at f a p is ne, λ z. ready_before M ok c l ch m en s at (M.request at) refl z)
 
-  live_ready : (c : State S E L) (k : Task L) → IsReadyTask M c k → IsLive k
-  live_ready c (Live o f a p) z = is_live
-  live_ready c Absent z = absurd z
-  live_ready c Ended z = absurd z
-
   pub all_wait : AllWait M
   all_wait c n live waiting t z =
       let as_many : length waiting.names ≡ length live.names = waiting.count ∙ sym live.count in
-      let among = all_of_them M.event_same ok.event_same_is waiting.names live.names waiting.once (λ u i. (live.just u).1 (waiting.live u i)) as_many t ((live.just t).1 (live_ready c (c.tasks t) z)) in
+      let among = all_of_them M.event_same ok.event_same_is waiting.names live.names waiting.once (λ u i. (live.just u).1 (waiting.live u i)) as_many t ((live.just t).1 (live_ready M c (c.tasks t) z)) in
       waiting.wait t among z

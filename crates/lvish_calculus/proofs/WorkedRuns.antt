@@ -1,27 +1,27 @@
 -- Worked runs, computed.
-use Rattle.std.proofs.Common.{◌≡◌, ◌⊎◌, ◌↔◌, ℕ, Bool, true, false, ◌||◌, List, [], Some, None, refl, sym, subst, ap, ◌∙◌, arith, inl, inr, nat_eq}
+use Rattle.std.proofs.Common.{◌≡◌, ◌⊎◌, ◌↔◌, ℕ, Bool, true, false, ◌||◌, List, [], Some, None, refl, sym, subst, ap, ◌∙◌, arith, inl, inr, nat_eq, Option, ◌∷◌, ◌++◌, Contains}
 use Rattle.std.proofs.lemmas.Bool.{both_ways}
-use Rattle.lvish_calculus.specs.Machine.{Machine, Freeze}
-use Rattle.lvish_calculus.specs.Calculus.{State, Running, Name, main, Handler, Label, Act, Hand, Task, Live, Absent, Ended, IsLive, is_live, IsQuiet, IsToHand, IsEnd, IsReadyTask, Freezes, start, same_name}
+use Rattle.std.proofs.lemmas.Grind.{common_steps}
+use Rattle.lvish_calculus.specs.Machine.{Machine, IsBelow, Freeze, ErrorKind, Deep}
+use Rattle.lvish_calculus.specs.Calculus.{State, Running, Label, Act, Hand, Task, Live, Absent, Ended, IsLive, IsQuiet, IsToHand, IsEnd, IsReadyTask, Freezes, start, Configuration, Error, IsRun, step, after, task_effect, IsDoomed, IsDoomedRequest}
+use Rattle.lvish_names.specs.Names.{Name, main, Handler, same_name}
 use Rattle.lvish_calculus.specs.Laws.{IsCrossed, FreezesBefore}
 use Rattle.lvish_calculus.specs.Live.{HasLive}
 use Rattle.lvish_calculus.specs.Program.{Functions}
-use Rattle.lvish_calculus.specs.Examples.{Set, over_sets, LeadsTo, EndsAs, shown, CrossingAt, crossing, u_first, t_first, both_freeze, u_first_end, t_first_end, u, t, u_freezing, t_freezing}
-use Rattle.lvish_calculus.specs.Examples.{LateAt, late, put_first, put_first_end, writer}
+use Rattle.lvish_calculus.specs.Examples.{Set, over_sets, LeadsTo, EndsAs, shown, crossing, u_first, t_first, both_freeze, u_first_end, t_first_end, u, t, u_freezing, t_freezing, late, put_first, put_first_end, writer}
+use Rattle.lvish_calculus.specs.ErrorExamples.{IsDoomedAfter, IsUndoomedAfter, over_cells, two_numbers, putting_one, putting_two, one_writer, until_two, MeetsError, ChainAt, forking, done, chain, nested, forks_from, late_handler, adder, add_first, add_first_end}
+use Rattle.lvish_calculus.specs.WaitingExamples.{until_fork}
+use Rattle.lvish_calculus.proofs.Waiting.{live_ready}
 use Rattle.lvish_calculus.proofs.Names.{cases_name, same_name-other, nat_eq-true, nat_eq-refl}
 
-module _ {S E R A L : Type 0} (M : Machine S E R A L) where
-  ready_lives : (c : State S E L) (k : Task L) → IsReadyTask M c k → IsLive k
-  ready_lives c Absent r = absurd r
-  ready_lives c (Live l f a p) r = is_live
-  ready_lives c Ended r = absurd r
+-- without a handler, a freeze that names no pools is quiet
+pub quiet : {S E R A L : Type 0} (M : Machine S E R A L) (c : State S E L) (v : ℕ) → ((h : Handler E) → c.handlers h ≡ None) → IsQuiet M c v []
+quiet M c v none = record { drained = λ h e on below. absurd (cc (sym on.is ∙ none h)); ended = λ t i live. let z = i.listed in absurd (omega (arith, z.1)) }
 
-  -- without a handler, a freeze that names no pools is quiet
-  pub quiet : (c : State S E L) (v : ℕ) → ((h : Handler E) → c.handlers h ≡ None) → IsQuiet M c v []
-  quiet c v none = record {
-    drained = λ h e on below. let z : Some on.post ≡ None = sym on.is ∙ none h in cc;
-    ended = λ t i live. let z = i.listed in absurd (omega (arith, z.1));
-  }
+-- an event below the variable's state is to be handed to a handler on it
+pub to_hand : {S R A L : Type 0} {M : Machine S ℕ R A L} {c : State S ℕ L} {h : Handler ℕ} {e : ℕ} (v pool procedure : ℕ) → c.handlers h ≡ Some (record { pool = pool; procedure = procedure }) → M.pool_variable pool ≡ Some v
+    → IsBelow M e (c.content v) → c.handled h e ≡ false → IsToHand M c h e
+to_hand v pool procedure is of below unhandled = record { variable = v; on = record { post = record { pool = pool; procedure = procedure }; is = is; of = of }; below = below; unhandled = unhandled }
 
 pub nat_same : (a b : ℕ) → (nat_eq a b ≡ true) ↔ (a ≡ b)
 nat_same a b = (nat_eq-true a b, λ e. subst (λ x. nat_eq a x ≡ true) e (nat_eq-refl a))
@@ -41,14 +41,10 @@ by_names x y z P px py pz others n = elim (cases_name nat_eq nat_same n x) [
 ]
 
 pub ended_dead : {L : Type 0} (k : Task L) → k ≡ Ended → IsLive k → ⊥
-ended_dead Absent e x = elim x [ ]
-ended_dead (Live l f a p) e x = cc
-ended_dead Ended e x = elim x [ ]
+ended_dead k e x = elim (subst (λ z. IsLive z) e x) [ ]
 
 pub absent_dead : {L : Type 0} (k : Task L) → k ≡ Absent → IsLive k → ⊥
-absent_dead Absent e x = elim x [ ]
-absent_dead (Live l f a p) e x = cc
-absent_dead Ended e x = elim x [ ]
+absent_dead k e x = elim (subst (λ z. IsLive z) e x) [ ]
 
 -- a configuration in which these three tasks have ended, and there is no other
 pub record IsOver {S L : Type 0} (c : State S ℕ L) (x y z : Name ℕ) : Type 0 where
@@ -66,7 +62,7 @@ none_live c x y z over = record { names = []; once = tt; just = λ n. ((λ w. ab
 
 -- with nothing left to be handed it is an end
 pub is_end : {S R A L : Type 0} (M : Machine S ℕ R A L) (c : State S ℕ L) (x y z : Name ℕ) → IsOver c x y z → ((h : Handler ℕ) (e : ℕ) → IsToHand M c h e → ⊥) → IsEnd M c
-is_end M c x y z over drained (Act n) en = all_dead c x y z over n (ready_lives M c (c.tasks n) en)
+is_end M c x y z over drained (Act n) en = all_dead c x y z over n (live_ready M c (c.tasks n) en)
 is_end M c x y z over drained (Hand h e) en = drained h e en
 
 -- a run to such a configuration ends
@@ -78,28 +74,16 @@ ends f run seen x y z c way over drained are = record { last = c; reached = way;
 pub no_handler : {S R A L : Type 0} (M : Machine S ℕ R A L) (c : State S ℕ L) → ((h : Handler ℕ) → c.handlers h ≡ None) → (h : Handler ℕ) (e : ℕ) → IsToHand M c h e → ⊥
 no_handler M c none h e hand = let on = hand.on in let z : Some on.post ≡ None = sym on.is ∙ none h in cc
 
-u_first_runs : (c : State Set ℕ CrossingAt) × LeadsTo crossing u_first (Running c)
-u_first_runs = (_, (tt, (tt, (tt, (quiet _ _ 0 (λ h. refl), (tt, (tt, (quiet _ _ 1 (λ h. refl), (tt, refl)))))))))
-
 pub u_first_ends : EndsAs crossing u_first u_first_end
-unfolding u_first_runs
-u_first_ends = ends crossing _ _ main u t _ u_first_runs.1
+u_first_ends = ends crossing _ _ main u t _ (tt, (tt, (tt, (quiet _ _ 0 (λ h. refl), (tt, (tt, (quiet _ _ 1 (λ h. refl), (tt, refl))))))))
     (record { first = refl; second = refl; third = refl; others = λ n a b c. simp (a, b, c) refl }) (no_handler (over_sets crossing) _ (λ h. refl)) refl
-
-t_first_runs : (c : State Set ℕ CrossingAt) × LeadsTo crossing t_first (Running c)
-t_first_runs = (_, (tt, (tt, (tt, (quiet _ _ 1 (λ h. refl), (tt, (tt, (quiet _ _ 0 (λ h. refl), (tt, refl)))))))))
 
 pub t_first_ends : EndsAs crossing t_first t_first_end
-unfolding t_first_runs
-t_first_ends = ends crossing _ _ main u t _ t_first_runs.1
+t_first_ends = ends crossing _ _ main u t _ (tt, (tt, (tt, (quiet _ _ 1 (λ h. refl), (tt, (tt, (quiet _ _ 0 (λ h. refl), (tt, refl))))))))
     (record { first = refl; second = refl; third = refl; others = λ n a b c. simp (a, b, c) refl }) (no_handler (over_sets crossing) _ (λ h. refl)) refl
 
-put_first_runs : (c : State Set ℕ LateAt) × LeadsTo late put_first (Running c)
-put_first_runs = (_, (tt, (tt, (quiet _ _ 0 (λ h. refl), (tt, (tt, refl))))))
-
 pub put_first_ends : EndsAs late put_first put_first_end
-unfolding put_first_runs
-put_first_ends = ends late _ _ main writer writer _ put_first_runs.1
+put_first_ends = ends late _ _ main writer writer _ (tt, (tt, (quiet _ _ 0 (λ h. refl), (tt, (tt, refl)))))
     (record { first = refl; second = refl; third = refl; others = λ n a b c. simp (a, b) refl }) (no_handler (over_sets late) _ (λ h. refl)) refl
 
 pub crossed : IsCrossed (over_sets crossing) u_first t_first
@@ -155,3 +139,75 @@ apart v w ne (inr a) (inr b) = ne (a.0 ∙ sym b.0)
 
 pub uncrossed : IsCrossed (over_sets crossing) u_first both_freeze → ⊥
 uncrossed z = apart z.0 z.1 z.2 (in_order z.0 z.1 z.3) (in_order_too z.1 z.0 z.4)
+
+-- ---- a conflict
+
+-- no task is at a step that is an error, where those that are there are these two and neither is
+module _ {S R A L : Type 0} (M : Machine S ℕ R A L) (c : State S ℕ L) (x y : Name ℕ) (l k : L) (f a p : ℕ)
+    (first : c.tasks x ≡ Live l f a p) (second : c.tasks y ≡ Live k 0 0 0)
+    (others : (n : Name ℕ) → same_name nat_eq n x ≡ false → same_name nat_eq n y ≡ false → c.tasks n ≡ Absent) where
+  undoomed : (IsDoomedRequest M c x (M.request l) → ⊥) → (IsDoomedRequest M c y (M.request k) → ⊥) → IsDoomed M c → ⊥
+  undoomed no_first no_second d = among d.task d.local d.forks d.adds d.puts d.is d.doomed
+    where
+      among : (n : Name ℕ) (o : L) (f2 a2 p2 : ℕ) → c.tasks n ≡ Live o f2 a2 p2 → IsDoomedRequest M c n (M.request o) → ⊥
+      among = by_names x y y (λ n. (o : L) (f2 a2 p2 : ℕ) → c.tasks n ≡ Live o f2 a2 p2 → IsDoomedRequest M c n (M.request o) → ⊥)
+          (λ o f2 a2 p2 is doom. let there : Live o f2 a2 p2 ≡ Live l f a p = sym is ∙ first in let same : o ≡ l = cc in no_first (subst (λ z. IsDoomedRequest M c x (M.request z)) same doom))
+          (λ o f2 a2 p2 is doom. let there : Live o f2 a2 p2 ≡ Live k 0 0 0 = sym is ∙ second in let same : o ≡ k = cc in no_second (subst (λ z. IsDoomedRequest M c y (M.request z)) same doom))
+          (λ o f2 a2 p2 is doom. let there : Live o f2 a2 p2 ≡ Live k 0 0 0 = sym is ∙ second in let same : o ≡ k = cc in no_second (subst (λ z. IsDoomedRequest M c y (M.request z)) same doom))
+          (λ n q r s o f2 a2 p2 is doom. let there : Live o f2 a2 p2 ≡ Absent = sym is ∙ others n q r in cc)
+
+pub undoomed_after_fork : IsUndoomedAfter (over_cells two_numbers) until_fork
+undoomed_after_fork = record {
+  there = _;
+  reached = (tt, refl);
+  undoomed = undoomed (over_cells two_numbers) _ main one_writer putting_two putting_one 1 0 0 refl refl (λ n a b. simp (a, b) refl)
+      (λ z. elim z [ inl e ↦ let w : ⊥ = cc in absurd w | inr e ↦ let w : false ≡ true = e.2 in absurd cc ])
+      (λ z. elim z [ inl e ↦ let w : ⊥ = cc in absurd w | inr e ↦ let w : false ≡ true = e.2 in absurd cc ]);
+}
+
+pub doomed_after_two : IsDoomedAfter (over_cells two_numbers) until_two
+doomed_after_two = record {
+  there = _;
+  reached = (tt, (tt, refl));
+  doomed = record { task = one_writer; local = putting_one; forks = 0; adds = 0; puts = 0; is = refl; doomed = inl refl };
+}
+
+-- ---- a late handler
+
+-- nothing is below an empty set
+nothing_there : {e : ℕ} → Contains [] e → ⊥
+nothing_there z = absurd (omega (arith, z.1))
+
+pub add_first_ends : EndsAs late_handler add_first add_first_end
+add_first_ends = ends late_handler _ _ main adder adder _
+    (tt, (tt, (record { drained = λ h e on below. absurd (nothing_there below); ended = λ t i live. absurd (nothing_there i.listed) }, (tt, (tt, refl)))))
+    (record { first = refl; second = refl; third = refl; others = λ n a b c. simp (a, b) refl })
+    (λ h e hand. nothing_there hand.below)
+    refl
+
+-- ---- a chain
+
+pub chain_ends : MeetsError (over_sets chain) (forks_from 0 65) Deep None (nested 64)
+chain_ends = grind (arith, common_steps)
+
+-- a run that meets an error is a run without one, and a step
+module _ {S E R A L : Type 0} (M : Machine S E R A L) (kind : ErrorKind) (v : Option ℕ) (t : Name E) (last : Label E) where
+  cut : (ls : List (Label E)) (d : Configuration S E L) → IsRun M d (ls ++ last ∷ []) (Error kind v t)
+      → (c : State S E L) × IsRun M d ls (Running c) × IsRun M (Running c) (last ∷ []) (Error kind v t)
+  cut [] (Running c) run = (c, refl, run)
+  cut [] (Error k w u) run = absurd run
+  cut (l ∷ ls) (Running c) run = let z = cut ls (step M c l) run.1 in (z.0, (run.0, z.1), z.2)
+  cut (l ∷ ls) (Error k w u) run = absurd run
+
+-- where the task's step is the error, its fork is doomed
+doomed_fork : (c : State Set ℕ ChainAt) (k : Task ChainAt) → c.tasks (nested 64) ≡ k → IsReadyTask (over_sets chain) c k
+    → after (over_sets chain) c (task_effect (over_sets chain) c (nested 64) k) ≡ Error Deep None (nested 64) → IsDoomed (over_sets chain) c
+doomed_fork c Absent is ready e = absurd ready
+doomed_fork c Ended is ready e = absurd ready
+doomed_fork c (Live forking f a p) is ready e = record { task = nested 64; local = forking; forks = f; adds = a; puts = p; is = is; doomed = refl }
+doomed_fork c (Live done f a p) is ready e = absurd cc
+
+pub doomed_at_64 : IsDoomedAfter (over_sets chain) (forks_from 0 64)
+doomed_at_64 =
+    let z = cut (over_sets chain) Deep None (nested 64) (Act (nested 64)) (forks_from 0 64) (Running (start (over_sets chain))) chain_ends in
+    record { there = z.0; reached = z.1; doomed = doomed_fork z.0 _ refl (z.2).0 (z.2).1 }

@@ -1,8 +1,8 @@
 -- Names, configurations, steps and runs.
 use Rattle.std.specs.Prelude.{◌≡◌, ◌≢◌, ◌⊎◌, ℕ, suc, Bool, true, false, not, ◌&&◌, ◌||◌, List, [], ◌∷◌, Option, Some, None, IsSome, Contains, nat_eq, if◌then◌else◌, unwrap_or}
-pub use Rattle.lvish_names.specs.Names.{Name, main, forked, handed, Handler, handler_of, is_deep, same_name, same_handler}
+use Rattle.lvish_names.specs.Names.{Name, main, forked, handed, Handler, handler_of, is_deep, same_name, same_handler}
 pub use Rattle.lvish_calculus.specs.declared.label.Label.{Label}
-pub use Rattle.lvish_calculus.specs.declared.label.Label.TheVariants.{Task as Act, Hand}
+pub use Rattle.lvish_calculus.specs.declared.label.Label.TheVariants.{Act, Hand}
 use Rattle.lvish_calculus.specs.Machine.{ErrorKind, Conflict, Frozen, Late, Deep, Request, Put, Get, Fork, Add, Freeze, Pause, End, Fault, Done, Answer, Content, Machine, IsBelow}
 
 -- what runs under a name: nothing yet, a task in a local state with its numbers of forks, adds and puts, or an ended task
@@ -39,10 +39,10 @@ pub record Change (S E L : Type 0) : Type 0 where
   pub handing : Option (Handler E × E)  -- an event that is handed to a handler
 
 -- what a step comes to: a change, or an error. Nothing stands for labels that aren't enabled
-pub data Outcome (S E L : Type 0) : Type 0 where
-  Changes : Change S E L → Outcome S E L
-  Fails : ErrorKind → Option ℕ → Name E → Outcome S E L
-  Nothing : Outcome S E L
+pub data Effect (S E L : Type 0) : Type 0 where
+  Changes : Change S E L → Effect S E L
+  Fails : ErrorKind → Option ℕ → Name E → Effect S E L
+  Nothing : Effect S E L
 
 -- every variable at bottom and unfrozen, main alone in its first local state, and no handler
 abbrev pub start : {S E R A L : Type 0} → Machine S E R A L → State S E L
@@ -77,7 +77,7 @@ pub record IsQuiet {S E R A L : Type 0} (M : Machine S E R A L) (c : State S E L
   pub drained : (h : Handler E) (e : E) → IsOn M c h v → IsBelow M e (c.content v) → c.handled h e ≡ true
   pub ended : (t : Name E) → IsIn c t pools → IsLive (c.tasks t) → ⊥
 
--- the request can be made: a Get has its answer, a Freeze finds its variable quiet, and every other request is always ready (LVars: threshold reads block; LVish: freeze after)
+-- the request can be made: a Get has its answer, a Freeze finds its variable quiescent, and every other request is always ready (LVars: threshold reads block; LVish: freeze after)
 abbrev pub IsReady : {S E R A L : Type 0} → Machine S E R A L → State S E L → Request S R L → Type 0
 IsReady M c (Get v r) = IsSome (M.answer r (c.content v))
 IsReady M c (Freeze v pools) = IsQuiet M c v pools
@@ -101,73 +101,76 @@ abbrev pub IsEnabled : {S E R A L : Type 0} → Machine S E R A L → State S E 
 IsEnabled M c (Act t) = IsReadyTask M c (c.tasks t)
 IsEnabled M c (Hand h e) = IsToHand M c h e
 
+-- no change
+abbrev pub unchanged : {S E L : Type 0} → Change S E L
+unchanged = record { own = None; made = None; added = None; joined = None; froze = None; handing = None }
+
 -- nothing but the acting task changes
 abbrev pub just : {S E L : Type 0} → Name E → Task L → Change S E L
-just t k = record { own = Some (t, k); made = None; added = None; joined = None; froze = None; handing = None }
+just {S} {E} {L} t k = record (unchanged {S = S} {E = E} {L = L}) { own = Some (t, k) }
 
 -- a put whose join is top is the error Conflict; one that would raise a frozen variable the error Frozen; else the join is made (LVish: put and frozen contents)
-abbrev pub put_outcome : {S E R A L : Type 0} → Machine S E R A L → State S E L → Name E → Task L → ℕ → S → Option S → Outcome S E L
-put_outcome M c t k v d None = Fails Conflict (Some v) t
-put_outcome M c t k v d (Some s) =
+abbrev pub put_effect : {S E R A L : Type 0} → Machine S E R A L → State S E L → Name E → Task L → ℕ → S → Option S → Effect S E L
+put_effect M c t k v d None = Fails Conflict (Some v) t
+put_effect {S} M c t k v d (Some s) =
     if c.frozen v && not (M.same s (c.content v)) then Fails Frozen (Some v) t
-    else Changes (record { own = Some (t, k); made = None; added = None; joined = Some (v, d); froze = None; handing = None })
+    else Changes (record (just {S = S} t k) { joined = Some (v, d) })
 
 -- a get goes on with its answer, and changes nothing else
-abbrev pub get_outcome : {S E R A L : Type 0} → Machine S E R A L → Name E → L → ℕ → ℕ → ℕ → Option A → Outcome S E L
-get_outcome M t l f a p None = Nothing
-get_outcome M t l f a p (Some x) = Changes (just t (Live (M.resume l (Answer x)) f a p))
+abbrev pub get_effect : {S E R A L : Type 0} → Machine S E R A L → Name E → L → ℕ → ℕ → ℕ → Option A → Effect S E L
+get_effect M t l f a p None = Nothing
+get_effect M t l f a p (Some x) = Changes (just t (Live (M.resume l (Answer x)) f a p))
 
 -- a handler that comes to a frozen variable is the error Late; else it is there under its name
-abbrev pub add_outcome : {S E L : Type 0} → State S E L → Name E → Task L → Handler E → Post → Option ℕ → Outcome S E L
-add_outcome c t k h post None = Nothing
-add_outcome c t k h post (Some v) =
+abbrev pub add_effect : {S E L : Type 0} → State S E L → Name E → Task L → Handler E → Post → Option ℕ → Effect S E L
+add_effect c t k h post None = Nothing
+add_effect {S} c t k h post (Some v) =
     if c.frozen v then Fails Late (Some v) t
-    else Changes (record { own = Some (t, k); made = None; added = Some (h, post); joined = None; froze = None; handing = None })
+    else Changes (record (just {S = S} t k) { added = Some (h, post) })
 
 -- what a task's request does; l is the local state in which it is made
-abbrev pub request_outcome : {S E R A L : Type 0} → Machine S E R A L → State S E L → Name E → L → ℕ → ℕ → ℕ → Request S R L → Outcome S E L
-request_outcome M c t l f a p (Put v d) = put_outcome M c t (Live (M.resume l Done) f a (suc p)) v d (M.join (c.content v) d)
-request_outcome M c t l f a p (Get v r) = get_outcome M t l f a p (M.answer r (c.content v))
-request_outcome M c t l f a p (Fork child) =
+abbrev pub request_effect : {S E R A L : Type 0} → Machine S E R A L → State S E L → Name E → L → ℕ → ℕ → ℕ → Request S R L → Effect S E L
+request_effect M c t l f a p (Put v d) = put_effect M c t (Live (M.resume l Done) f a (suc p)) v d (M.join (c.content v) d)
+request_effect M c t l f a p (Get v r) = get_effect M t l f a p (M.answer r (c.content v))
+request_effect {S} M c t l f a p (Fork child) =
     if is_deep t then Fails Deep None t
-    else Changes (record { own = Some (t, Live (M.resume l Done) (suc f) a p); made = Some (forked t (suc f), Live child 0 0 0); added = None; joined = None; froze = None; handing = None })
-request_outcome M c t l f a p (Add pool procedure) =
+    else Changes (record (just {S = S} t (Live (M.resume l Done) (suc f) a p)) { made = Some (forked t (suc f), Live child 0 0 0) })
+request_effect M c t l f a p (Add pool procedure) =
     if is_deep t then Fails Deep None t
-    else add_outcome c t (Live (M.resume l Done) f (suc a) p) (record { adder = t; number = suc a }) (record { pool = pool; procedure = procedure }) (M.pool_variable pool)
-request_outcome M c t l f a p (Freeze v pools) =
-    Changes (record { own = Some (t, Live (M.resume l (Content (c.content v))) f a p); made = None; added = None; joined = None; froze = Some v; handing = None })
-request_outcome M c t l f a p Pause = Changes (just t (Live (M.resume l Done) f a p))
-request_outcome M c t l f a p End = Changes (just t Ended)
-request_outcome M c t l f a p (Fault kind) = Fails kind None t
+    else add_effect c t (Live (M.resume l Done) f (suc a) p) (record { adder = t; number = suc a }) (record { pool = pool; procedure = procedure }) (M.pool_variable pool)
+request_effect {S} M c t l f a p (Freeze v pools) = Changes (record (just {S = S} t (Live (M.resume l (Content (c.content v))) f a p)) { froze = Some v })
+request_effect M c t l f a p Pause = Changes (just t (Live (M.resume l Done) f a p))
+request_effect M c t l f a p End = Changes (just t Ended)
+request_effect M c t l f a p (Fault kind) = Fails kind None t
 
 -- what the step of a live task comes to
-abbrev pub task_outcome : {S E R A L : Type 0} → Machine S E R A L → State S E L → Name E → Task L → Outcome S E L
-task_outcome M c t (Live l f a p) = request_outcome M c t (M.at l) f a p (M.request l)
-task_outcome M c t Absent = Nothing
-task_outcome M c t Ended = Nothing
+abbrev pub task_effect : {S E R A L : Type 0} → Machine S E R A L → State S E L → Name E → Task L → Effect S E L
+task_effect M c t (Live l f a p) = request_effect M c t (M.at l) f a p (M.request l)
+task_effect M c t Absent = Nothing
+task_effect M c t Ended = Nothing
 
 -- a handing starts the handler's procedure on the event, as a new task in the handler's pool (LVish: spawning handlers)
-abbrev pub hand_outcome : {S E R A L : Type 0} → Machine S E R A L → Handler E → E → Option Post → Outcome S E L
-hand_outcome M h e None = Nothing
-hand_outcome M h e (Some post) =
-    Changes (record { own = None; made = Some (handed h.adder h.number e, Live (M.start_handler post.procedure e) 0 0 0); added = None; joined = None; froze = None; handing = Some (h, e) })
+abbrev pub hand_effect : {S E R A L : Type 0} → Machine S E R A L → Handler E → E → Option Post → Effect S E L
+hand_effect M h e None = Nothing
+hand_effect {S} {E} {R} {A} {L} M h e (Some post) =
+    Changes (record (unchanged {S = S} {E = E} {L = L}) { made = Some (handed h.adder h.number e, Live (M.start_handler post.procedure e) 0 0 0); handing = Some (h, e) })
 
 -- what a step with an enabled label does
-abbrev pub outcome : {S E R A L : Type 0} → Machine S E R A L → State S E L → Label E → Outcome S E L
-outcome M c (Act t) = task_outcome M c t (c.tasks t)
-outcome M c (Hand h e) = hand_outcome M h e (c.handlers h)
+abbrev pub effect : {S E R A L : Type 0} → Machine S E R A L → State S E L → Label E → Effect S E L
+effect M c (Act t) = task_effect M c t (c.tasks t)
+effect M c (Hand h e) = hand_effect M h e (c.handlers h)
 
--- the tasks, but for a new standing under one name
+-- the tasks, with another one under one name
 abbrev pub with_task : {E L : Type 0} → (E → E → Bool) → Option (Name E × Task L) → (Name E → Task L) → Name E → Task L
 with_task eq None tasks u = tasks u
 with_task eq (Some new) tasks u = if same_name eq u new.0 then new.1 else tasks u
 
--- the handlers, but for a new one under its name
+-- the handlers, with another one under its name
 abbrev pub with_handler : {E : Type 0} → (E → E → Bool) → Option (Handler E × Post) → (Handler E → Option Post) → Handler E → Option Post
 with_handler eq None handlers h = handlers h
 with_handler eq (Some new) handlers h = if same_handler eq h new.0 then Some new.1 else handlers h
 
--- the contents, but for one variable's, to which a state is joined
+-- the contents, with a state joined to those of one variable
 abbrev pub with_join : {S : Type 0} → (S → S → Option S) → Option (ℕ × S) → (ℕ → S) → ℕ → S
 with_join join None content v = content v
 with_join join (Some new) content v = if nat_eq v new.0 then unwrap_or (join (content v) new.1) (content v) else content v
@@ -193,14 +196,14 @@ changed M ch c = record {
 }
 
 -- the configuration after a step that comes to this
-abbrev pub after : {S E R A L : Type 0} → Machine S E R A L → State S E L → Outcome S E L → Configuration S E L
+abbrev pub after : {S E R A L : Type 0} → Machine S E R A L → State S E L → Effect S E L → Configuration S E L
 after M c (Changes ch) = Running (changed M ch c)
 after M c (Fails kind v t) = Error kind v t
 after M c Nothing = Running c
 
 -- the configuration after a step with an enabled label
 abbrev pub step : {S E R A L : Type 0} → Machine S E R A L → State S E L → Label E → Configuration S E L
-step M c l = after M c (outcome M c l)
+step M c l = after M c (effect M c l)
 
 -- a run from c: each label is enabled in its turn, and d is the last configuration
 abbrev pub IsRun : {S E R A L : Type 0} → Machine S E R A L → Configuration S E L → List (Label E) → Configuration S E L → Type 0

@@ -3,7 +3,8 @@ use Rattle.std.specs.Prelude.{ℕ, zero, suc, Bool, true, false, List, [], ◌�
 use Rattle.std.specs.Ordering.{nat_cmp}
 use Rattle.lvish_calculus.specs.Machine.{Machine, ErrorKind, Request, Put, Fork, Add, Freeze, End, Reply}
 use Rattle.lvish_calculus.specs.Program.{Functions, machine_of}
-use Rattle.lvish_calculus.specs.Calculus.{Name, main, forked, Label, Act, State, Running, Error, start, IsRun, IsDoomed}
+use Rattle.lvish_calculus.specs.Calculus.{Label, Act, State, Running, Error, start, IsRun, IsDoomed}
+use Rattle.lvish_names.specs.Names.{Name, main, forked}
 use Rattle.lvish_calculus.specs.Laws.{Reaches}
 use Rattle.lvish_calculus.specs.Examples.{Set}
 
@@ -24,51 +25,48 @@ pub record IsUndoomedAfter {S E R A L : Type 0} (M : Machine S E R A L) (run : L
   pub undoomed : IsDoomed M there → ⊥
 
 -- a cell that is empty, or holds one number
-pub data Cell : Type 0 where
-  empty : Cell
-  holding : ℕ → Cell
+pub data ExampleCell : Type 0 where
+  empty : ExampleCell
+  holding : ℕ → ExampleCell
 
 -- two different numbers join to top
-abbrev pub joined_cell : Cell → Cell → Option Cell
+abbrev pub joined_cell : ExampleCell → ExampleCell → Option ExampleCell
 joined_cell empty b = Some b
 joined_cell (holding n) empty = Some (holding n)
 joined_cell (holding n) (holding m) = if nat_eq n m then Some (holding n) else None
 
-abbrev pub same_cell : Cell → Cell → Bool
+abbrev pub same_cell : ExampleCell → ExampleCell → Bool
 same_cell empty empty = true
 same_cell (holding n) (holding m) = nat_eq n m
 same_cell _ _ = false
 
-abbrev pub held : Cell → List ℕ
-held empty = []
-held (holding n) = n ∷ []
+abbrev pub held_numbers : ExampleCell → List ℕ
+held_numbers empty = []
+held_numbers (holding n) = n ∷ []
 
 -- a program over cells; no read has an answer
-abbrev pub over_cells : {L : Type 0} → Functions Cell ℕ ℕ ℕ L → Machine Cell ℕ ℕ ℕ L
-over_cells f = machine_of same_cell nat_eq nat_cmp empty joined_cell held (λ r s. None) f
+abbrev pub over_cells : {L : Type 0} → Functions ExampleCell ℕ ℕ ℕ L → Machine ExampleCell ℕ ℕ ℕ L
+over_cells f = machine_of same_cell nat_eq nat_cmp empty joined_cell held_numbers (λ r s. None) f
 
 -- Two numbers: main forks a writer, which puts 1 into the cell, and puts 2 into it.
 pub data CellAt : Type 0 where
   forking putting_one putting_two done : CellAt
 
-abbrev pub cell_asks : CellAt → Request Cell ℕ CellAt
+abbrev pub cell_asks : CellAt → Request ExampleCell ℕ CellAt
 cell_asks forking = Fork putting_one
 cell_asks putting_one = Put 0 (holding 1)
 cell_asks putting_two = Put 0 (holding 2)
 cell_asks done = End
 
-abbrev pub cell_goes : CellAt → Reply Cell ℕ → CellAt
+abbrev pub cell_goes : CellAt → Reply ExampleCell ℕ → CellAt
 cell_goes forking r = putting_two
 cell_goes _ r = done
 
-abbrev pub two_numbers : Functions Cell ℕ ℕ ℕ CellAt
+abbrev pub two_numbers : Functions ExampleCell ℕ ℕ ℕ CellAt
 two_numbers = record { variables = 1; pool_variable = λ p. None; start = forking; start_handler = λ p e. forking; request = cell_asks; at = λ l. l; resume = cell_goes }
 
 abbrev pub one_writer : Name ℕ
 one_writer = forked main 1
-
-abbrev pub until_fork : List (Label ℕ)
-until_fork = Act main ∷ []
 
 abbrev pub until_two : List (Label ℕ)
 until_two = Act main ∷ Act main ∷ []
@@ -130,7 +128,7 @@ abbrev pub nested : ℕ → Name ℕ
 nested zero = main
 nested (suc n) = forked (nested n) 1
 
--- so many tasks fork, the first of them one whose name has k parts
+-- that many tasks fork, each the child of the one before; the name of the first has k parts
 abbrev pub forks_from : ℕ → ℕ → List (Label ℕ)
 forks_from k zero = []
 forks_from k (suc n) = Act (nested k) ∷ forks_from (suc k) n

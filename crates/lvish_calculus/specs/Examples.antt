@@ -3,7 +3,8 @@ use Rattle.std.specs.Prelude.{◌≡◌, ℕ, zero, suc, Bool, true, false, not,
 use Rattle.std.specs.Ordering.{nat_cmp}
 use Rattle.lvish_calculus.specs.Machine.{Machine, Request, Put, Fork, Add, Freeze, End, Reply, Content, Frozen}
 use Rattle.lvish_calculus.specs.Program.{Functions, machine_of}
-use Rattle.lvish_calculus.specs.Calculus.{Name, main, forked, handed, Handler, Label, Act, Hand, State, Configuration, Running, Error, start, IsRun, IsEnd}
+use Rattle.lvish_calculus.specs.Calculus.{Label, Act, Hand, State, Configuration, Running, Error, start, IsRun, IsEnd}
+use Rattle.lvish_names.specs.Names.{Name, main, forked, handed, Handler}
 use Rattle.lvish_calculus.specs.Live.{HasLive}
 
 -- a set of some of the numbers 0, 1 and 3
@@ -13,8 +14,8 @@ pub record Set : Type 0 where
   pub has_three : Bool
 
 -- the set of this number alone
-abbrev pub only : ℕ → Set
-only n = record { has_zero = nat_eq n 0; has_one = nat_eq n 1; has_three = nat_eq n 3 }
+abbrev pub set_of_one : ℕ → Set
+set_of_one n = record { has_zero = nat_eq n 0; has_one = nat_eq n 1; has_three = nat_eq n 3 }
 
 abbrev pub union : Set → Set → Set
 union a b = record { has_zero = a.has_zero || b.has_zero; has_one = a.has_one || b.has_one; has_three = a.has_three || b.has_three }
@@ -64,9 +65,9 @@ abbrev pub crossing_asks : CrossingAt → Request Set ℕ CrossingAt
 crossing_asks forking_u = Fork u_freezing
 crossing_asks forking_t = Fork t_freezing
 crossing_asks u_freezing = Freeze 0 []
-crossing_asks u_putting = Put 1 (only 0)
+crossing_asks u_putting = Put 1 (set_of_one 0)
 crossing_asks t_freezing = Freeze 1 []
-crossing_asks t_putting = Put 0 (only 0)
+crossing_asks t_putting = Put 0 (set_of_one 0)
 crossing_asks _ = End
 
 abbrev pub crossing_goes : CrossingAt → Reply Set ℕ → CrossingAt
@@ -115,7 +116,7 @@ pub data LateAt : Type 0 where
 abbrev pub late_asks : LateAt → Request Set ℕ LateAt
 late_asks forking = Fork putting
 late_asks freezing = Freeze 0 []
-late_asks putting = Put 0 (only 1)
+late_asks putting = Put 0 (set_of_one 1)
 late_asks _ = End
 
 abbrev pub late_goes : LateAt → Reply Set ℕ → LateAt
@@ -150,10 +151,10 @@ pub data HandingAt : Type 0 where
 
 abbrev pub handing_asks : HandingAt → Request Set ℕ HandingAt
 handing_asks adding = Add 0 0
-handing_asks putting_three = Put 0 (only 3)
-handing_asks putting_one = Put 0 (only 1)
+handing_asks putting_three = Put 0 (set_of_one 3)
+handing_asks putting_one = Put 0 (set_of_one 1)
 handing_asks freezing = Freeze 0 (0 ∷ [])
-handing_asks (copying n) = Put 1 (only n)
+handing_asks (copying n) = Put 1 (set_of_one n)
 handing_asks done = End
 
 abbrev pub handing_goes : HandingAt → Reply Set ℕ → HandingAt

@@ -5,7 +5,7 @@ pub use Rattle.lvish_calculus.specs.declared.request.ErrorKind.TheVariants.{Conf
 pub use Rattle.lvish_calculus.specs.declared.request.Request.{Request}
 pub use Rattle.lvish_calculus.specs.declared.request.Request.TheVariants.{Put, Get, Fork, Add, Freeze, Pause, End, Fault}
 pub use Rattle.lvish_calculus.specs.declared.request.Reply.{Reply}
-pub use Rattle.lvish_calculus.specs.declared.request.Reply.TheVariants.{Done, Answer, Frozen as Content}
+pub use Rattle.lvish_calculus.specs.declared.request.Reply.TheVariants.{Done, Answer, Content}
 
 -- the functions of a lattice with its reads, and of a program over it
 pub record Machine (S E R A L : Type 0) : Type 0 where

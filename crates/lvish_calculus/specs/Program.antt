@@ -27,11 +27,11 @@ IsReplyTo _ _ = ⊥
 
 -- the laws of a program's functions
 pub record IsProgram {S E R A L : Type 0} (join : S → S → Option S) (member : R → S → A → Type 0) (p : Functions S E R A L) : Type 0 where
-  -- each pool is on a variable that there is
+  -- each pool is on a variable that exists
   pub known : (k v : ℕ) → p.pool_variable k ≡ Some v → v < p.variables
   -- pools are numbered from 0 without a gap
   pub in_a_row : (j k : ℕ) → j < k → IsSome (p.pool_variable k) → IsSome (p.pool_variable j)
-  -- requests name variables and pools that there are
+  -- requests name variables and pools that exist
   pub puts : (l : L) (v : ℕ) (d : S) → p.request l ≡ Put v d → v < p.variables
   pub gets : (l : L) (v : ℕ) (r : R) → p.request l ≡ Get v r → (v < p.variables) × IsChecked join (member r)
   pub adds : (l : L) (k procedure : ℕ) → p.request l ≡ Add k procedure → (v : ℕ) × (p.pool_variable k ≡ Some v)

@@ -2,7 +2,8 @@
 use Rattle.std.specs.Prelude.{◌≡◌, ℕ, List}
 use Rattle.lvish_calculus.specs.Machine.{Machine, Request, Put, Get, Fork, Add, Freeze, Pause, End, Fault, Reply}
 use Rattle.lvish_calculus.specs.Program.{Functions, IsReplyTo}
-use Rattle.lvish_calculus.specs.Calculus.{Name, Handler, Label, Task, Absent, Live, Ended, State, Configuration, Running, Error, IsRun, start}
+use Rattle.lvish_calculus.specs.Calculus.{Label, Task, Absent, Live, Ended, State, Configuration, Running, Error, IsRun, start}
+use Rattle.lvish_names.specs.Names.{Name, Handler}
 
 -- ---- the same, step by step
 
@@ -41,7 +42,7 @@ without_child Pause = Pause
 without_child End = End
 without_child (Fault k) = Fault k
 
--- the same standing; of live tasks the same numbers of forks, adds and puts and the same request, whatever the local state of a fork's child
+-- both absent, both live or both ended; live tasks have the same numbers of forks, adds and puts and the same request, whatever the local state of a fork's child
 abbrev pub SameTask : {S E R A L K : Type 0} → Machine S E R A L → Machine S E R A K → Task L → Task K → Type 0
 SameTask M N Absent Absent = Unit {0}
 SameTask M N (Live l f a p) (Live k g b q) = (without_child (M.request l) ≡ without_child (N.request k)) × (f ≡ g) × (a ≡ b) × (p ≡ q)

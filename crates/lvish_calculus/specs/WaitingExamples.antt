@@ -1,12 +1,13 @@
--- Small programs with tasks that wait, and the places in their runs where these are blocked.
+-- Small programs, and the places in their runs where a task is blocked.
 use Rattle.std.specs.Prelude.{◌≡◌, ℕ, zero, suc, Bool, true, List, [], ◌∷◌, ◌++◌, Option, Some, None, max, false, nat_eq, nat_le, length, if◌then◌else◌}
 use Rattle.std.specs.Ordering.{nat_cmp}
 use Rattle.lvish_calculus.specs.Machine.{Machine, Request, Put, Get, Fork, Add, Freeze, End, Reply, Answer}
 use Rattle.lvish_calculus.specs.Program.{Functions, machine_of}
-use Rattle.lvish_calculus.specs.Calculus.{Name, main, forked, handed, Handler, Label, Act, Hand, State, IsLive, IsEnabled, IsEnd}
+use Rattle.lvish_calculus.specs.Calculus.{Label, Act, Hand, State, IsLive, IsEnabled, IsEnd}
+use Rattle.lvish_names.specs.Names.{Name, main, forked, handed, Handler}
 use Rattle.lvish_calculus.specs.Laws.{Reaches}
 use Rattle.lvish_calculus.specs.Live.{HasLive}
-use Rattle.lvish_calculus.specs.Examples.{Set, only, copier}
+use Rattle.lvish_calculus.specs.Examples.{Set, set_of_one, copier}
 
 -- after the run the task hasn't ended, and isn't enabled
 pub record IsBlockedAfter {S E R A L : Type 0} (M : Machine S E R A L) (run : List (Label E)) (t : Name E) : Type 0 where
@@ -44,7 +45,7 @@ abbrev pub over_counters : {L : Type 0} → Functions ℕ ℕ ℕ ℕ L → Mach
 over_counters f = machine_of nat_eq nat_eq nat_cmp 0 (λ a b. Some (max a b)) up_to (λ r s. if nat_le r s then Some r else None) f
 
 -- A level: main forks a reader, and raises the counter to 1 and then to 3. The reader waits for 2,
--- and puts what it is answered into seen. The counter is 0 and seen is 1.
+-- and puts the answer into seen. The counter is 0 and seen is 1.
 pub data LevelAt : Type 0 where
   forking putting_one putting_three main_done reading reader_done : LevelAt
   telling : ℕ → LevelAt
@@ -65,8 +66,8 @@ level_goes reading (Answer n) = telling n
 level_goes (telling n) r = reader_done
 level_goes l r = l
 
-abbrev pub level : Functions ℕ ℕ ℕ ℕ LevelAt
-level = record { variables = 2; pool_variable = λ p. None; start = forking; start_handler = λ p e. forking; request = level_asks; at = λ l. l; resume = level_goes }
+abbrev pub level_functions : Functions ℕ ℕ ℕ ℕ LevelAt
+level_functions = record { variables = 2; pool_variable = λ p. None; start = forking; start_handler = λ p e. forking; request = level_asks; at = λ l. l; resume = level_goes }
 
 abbrev pub reader : Name ℕ
 reader = forked main 1
@@ -83,11 +84,11 @@ until_three = Act main ∷ Act main ∷ Act main ∷ []
 abbrev pub level_run : List (Label ℕ)
 level_run = Act main ∷ Act main ∷ Act main ∷ Act reader ∷ Act reader ∷ Act reader ∷ Act main ∷ []
 
--- the reader is answered the level for which it waits
+-- the reader's answer is the level for which it waits
 abbrev pub three_and_two : List ℕ
 three_and_two = 3 ∷ 2 ∷ []
 
--- Freezing: in runs of the handing example, main's freeze of s waits.
+-- Freezing: in runs of the handing example, main's freeze of s is blocked.
 
 -- the handler was handed 3 alone, and its task has ended
 abbrev pub one_unhanded : List (Label ℕ)
@@ -110,10 +111,10 @@ pub data NestingAt : Type 0 where
 
 abbrev pub nesting_asks : List ℕ → NestingAt → Request Set ℕ NestingAt
 nesting_asks pools adding = Add 0 0
-nesting_asks pools putting = Put 0 (only 1)
+nesting_asks pools putting = Put 0 (set_of_one 1)
 nesting_asks pools freezing = Freeze 0 pools
 nesting_asks pools adding_inner = Add 1 1
-nesting_asks pools (copying n) = Put 1 (only n)
+nesting_asks pools (copying n) = Put 1 (set_of_one n)
 nesting_asks pools done = End
 
 abbrev pub nesting_goes : NestingAt → Reply Set ℕ → NestingAt

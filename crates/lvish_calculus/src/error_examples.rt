@@ -2,9 +2,10 @@
 
 ghost use Rattle.std.specs.Prelude.{Some, None};
 ghost use Rattle.lvish_calculus.specs.Machine.{Conflict, Late, Deep};
-ghost use Rattle.lvish_calculus.specs.Calculus.{main};
+ghost use Rattle.lvish_names.specs.Names.{main};
 ghost use Rattle.lvish_calculus.specs.Examples.{EndsAs, over_sets};
-ghost use Rattle.lvish_calculus.specs.ErrorExamples.{MeetsError, IsDoomedAfter, IsUndoomedAfter, over_cells, two_numbers, one_writer, until_fork, until_two, two_first, one_first};
+ghost use Rattle.lvish_calculus.specs.ErrorExamples.{MeetsError, IsDoomedAfter, IsUndoomedAfter, over_cells, two_numbers, one_writer, until_two, two_first, one_first};
+ghost use Rattle.lvish_calculus.specs.WaitingExamples.{until_fork};
 ghost use Rattle.lvish_calculus.specs.ErrorExamples.{late_handler, adder, freeze_first, add_first, add_first_end, chain, nested, forks_from};
 
 /// Two puts whose join is top are an error, by whichever task comes second.
@@ -13,7 +14,7 @@ ghost use Rattle.lvish_calculus.specs.ErrorExamples.{late_handler, adder, freeze
 pub fn conflict()
     ensures two_first { MeetsError (over_cells two_numbers) two_first Conflict (Some 0) one_writer }
     ensures one_first { MeetsError (over_cells two_numbers) one_first Conflict (Some 0) main }
-    // Before the first put neither is at a step that is an error.
+    // Before the first put, neither task is at a step that is an error.
     ensures undoomed { IsUndoomedAfter (over_cells two_numbers) until_fork }
     // After main's, the other task is.
     ensures doomed { IsDoomedAfter (over_cells two_numbers) until_two }
@@ -33,6 +34,6 @@ pub fn late_add()
 /// Each task forks one that does the same.
 pub fn deep_fork()
     ensures deep { MeetsError (over_sets chain) (forks_from 0 65) Deep None (nested 64) }
-    // Before the last step its task is at one that is an error.
+    // Before the last step, its task is at a step that is an error.
     ensures doomed { IsDoomedAfter (over_sets chain) (forks_from 0 64) }
 {}

@@ -2,7 +2,7 @@
 
 ghost use Rattle.std.specs.Prelude.{◌≡◌};
 ghost use Rattle.lvish_calculus.specs.Laws.{IsCrossed};
-ghost use Rattle.lvish_calculus.specs.Handing.{handed_to, IsCoreRun};
+ghost use Rattle.lvish_calculus.specs.Handing.{handed_to, HandsOldestFirst};
 ghost use Rattle.lvish_calculus.specs.Examples.{EndsAs, LeadsTo, over_sets, crossing, u_first, t_first, both_freeze, u_first_end, t_first_end, both_freeze_error};
 ghost use Rattle.lvish_calculus.specs.Examples.{late, freeze_first, put_first, freeze_first_error, put_first_end};
 ghost use Rattle.lvish_calculus.specs.Examples.{handing, copier, in_put_order, one_first, handing_end, three_then_one, one_then_three};
@@ -44,11 +44,11 @@ pub fn handing_order()
     // 3, then 1.
     ensures handed { handed_to (over_sets handing) copier in_put_order ≡ three_then_one }
     // Each time the event that was introduced first.
-    ensures is_core_run { IsCoreRun (over_sets handing) in_put_order }
+    ensures is_core_run { HandsOldestFirst (over_sets handing) in_put_order }
     // The same end.
     ensures other_ends { EndsAs handing one_first handing_end }
     // 1, then 3.
     ensures other_handed { handed_to (over_sets handing) copier one_first ≡ one_then_three }
     // The other run hands 1 before 3, which was introduced before it.
-    ensures other_is_no_core_run { IsCoreRun (over_sets handing) one_first → ⊥ }
+    ensures other_is_no_core_run { HandsOldestFirst (over_sets handing) one_first → ⊥ }
 {}

@@ -4,7 +4,7 @@ use lvish_names::{HandlerName, TaskName};
 #[derive(Debug, Drop)]
 pub enum Label<E> {
     /// The task makes the action that it asks for.
-    Task(TaskName<E>),
+    Act(TaskName<E>),
     /// The handler is handed the event.
     Hand(HandlerName<E>, E),
 }

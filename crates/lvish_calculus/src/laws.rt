@@ -16,12 +16,12 @@ pub fn lawful<P: Program>()
     ensures { (p : P) → IsLawful (⟦<P as Meaning>⟧.machine p) }
 {}
 
-/// Of two different steps that are enabled in a configuration of a run and give no error, each can
-/// be made after the other and both orders give one configuration, or the configuration after one of
-/// them is doomed.
+/// Any two different steps that are enabled in a configuration of a run commute, unless one is an
+/// error or makes an error unavoidable: both orders lead to one configuration, or the
+/// configuration after one of them is doomed.
 ///
-/// Of a run, since there a name that a step makes is new. In a configuration that no run reaches, two
-/// steps could make the same name.
+/// The law needs a run, whose steps never make a name that exists. In a configuration that no run
+/// reaches, two steps could make the same name.
 ///
 /// Kuper, Turon, Krishnaswami and Newton (POPL 2014): independence, quasi-determinism.
 pub fn moves_commute<P: Program>()
@@ -38,11 +38,11 @@ pub fn doomed_stays<P: Program>()
 }
 
 /// Ended runs without an error have one end and one length, where they don't cross, or one task
-/// asks all their freezes, or no run of the program is in error.
+/// asks for all their freezes, or no run of the program is in error.
 pub fn same_end<P: Program>()
     // The runs don't cross.
     ensures uncrossed { (p : P) → SameEndIf (⟦<P as Meaning>⟧.machine p) (λ xs ys. IsCrossed (⟦<P as Meaning>⟧.machine p) xs ys → ⊥) }
-    // One task asks all freezes.
+    // One task asks for all freezes.
     ensures one_asks { (p : P) → SameEndIf (⟦<P as Meaning>⟧.machine p) (λ xs ys. (t : Name P.Lat.Event)
         × FreezesAllBy (⟦<P as Meaning>⟧.machine p) t (Running (start (⟦<P as Meaning>⟧.machine p))) xs
         × FreezesAllBy (⟦<P as Meaning>⟧.machine p) t (Running (start (⟦<P as Meaning>⟧.machine p))) ys) }
@@ -63,20 +63,20 @@ pub fn no_late_error<P: Program>()
 /// What handlers are handed in every run: no event twice, none after the freeze, exactly those
 /// below the state at the freeze and at an end, one task's events in the order of its puts.
 ///
-/// A run in error is such a run and one step more, of the error's task.
+/// A run in error is such a run and one more step, by the task that meets the error.
 pub fn handing_kept<P: Program>()
     ensures { (p : P) → HandingKept (⟦<P as Meaning>⟧.machine p) }
 {
     lawful::<P>();
 }
 
-/// What a waiting task waits for.
+/// What can wake a blocked task.
 pub fn waiting<P: Program>()
-    // It stays as it is at every step but its own, and its request is let pass by none but a put
-    // into the variable of its get; or, for a freeze, an event that is handed on its variable, or
-    // the end of a task that handles one.
+    // A live task stays as it is at every step but its own, and only a put into the variable of
+    // its get can wake it; or, for a freeze, an event that is handed on its variable, or the end
+    // of a task that handles one.
     ensures its_variable { (p : P) → WaitsForItsVariable (⟦<P as Meaning>⟧.machine p) }
-    // Where as many tasks wait as haven't ended, no task can go on.
+    // If every live task is blocked, no task can step.
     ensures all { (p : P) → AllWait (⟦<P as Meaning>⟧.machine p) }
 {
     lawful::<P>();

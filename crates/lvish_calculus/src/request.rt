@@ -3,7 +3,7 @@ ghost use Rattle.std.specs.Prelude.{◌≡◌, IfOk};
 use std::alloc::{AllocError, Global};
 use std::marker::Model;
 
-/// What goes wrong.
+/// What can go wrong.
 #[derive(Clone, Copy, Debug, PartialEq, Eq)]
 pub enum ErrorKind {
     /// A put whose join is top.
@@ -86,7 +86,7 @@ pub enum Request<S, R, L> {
     Fault(ErrorKind),
 }
 
-/// What a task is told: over states `S` and answers `A`.
+/// The reply to a task's request: over states `S` and answers `A`.
 #[derive(Debug, Drop)]
 pub enum Reply<S, A> {
     /// The action was made.
@@ -94,5 +94,5 @@ pub enum Reply<S, A> {
     /// The answer of a get.
     Answer(A),
     /// The exact content of a frozen variable.
-    Frozen(S),
+    Content(S),
 }

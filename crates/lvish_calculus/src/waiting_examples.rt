@@ -1,25 +1,25 @@
-//! Worked examples of waiting: small programs, and where in their runs a task is blocked.
+//! Worked examples of blocked tasks: small programs, and where in their runs a task is blocked.
 
-ghost use Rattle.lvish_calculus.specs.Calculus.{main};
+ghost use Rattle.lvish_names.specs.Names.{main};
 ghost use Rattle.lvish_calculus.specs.Examples.{EndsAs, over_sets, handing};
-ghost use Rattle.lvish_calculus.specs.WaitingExamples.{IsBlockedAfter, IsEnabledAfter, EndsHolding, over_counters, level, reader};
+ghost use Rattle.lvish_calculus.specs.WaitingExamples.{IsBlockedAfter, IsEnabledAfter, EndsHolding, over_counters, level_functions, reader};
 ghost use Rattle.lvish_calculus.specs.WaitingExamples.{until_fork, until_one, until_three, level_run, three_and_two};
 ghost use Rattle.lvish_calculus.specs.WaitingExamples.{one_unhanded, one_running, both_copied};
 ghost use Rattle.lvish_calculus.specs.WaitingExamples.{nesting, the_outer, both_pools, outer_running, inner_running, inner_ended, frozen_before, frozen_after, nesting_end};
 
-/// A get waits until the variable has reached its level, and is answered that level.
+/// A get waits until the variable has reached its level, and its answer is that level.
 ///
 /// `main` forks a reader, and raises a counter to 1 and then to 3. The reader waits for 2, and puts
-/// what it is answered into seen.
+/// the answer into seen.
 pub fn get_waits()
     // The counter is 0.
-    ensures at_none { IsBlockedAfter (over_counters level) until_fork reader }
+    ensures at_none { IsBlockedAfter (over_counters level_functions) until_fork reader }
     // It is 1.
-    ensures at_one { IsBlockedAfter (over_counters level) until_one reader }
+    ensures at_one { IsBlockedAfter (over_counters level_functions) until_one reader }
     // It is 3.
-    ensures at_three { IsEnabledAfter (over_counters level) until_three reader }
+    ensures at_three { IsEnabledAfter (over_counters level_functions) until_three reader }
     // The counter is 3, and seen is 2.
-    ensures ends { EndsHolding (over_counters level) level_run three_and_two }
+    ensures ends { EndsHolding (over_counters level_functions) level_run three_and_two }
 {}
 
 /// A freeze waits until each event was handed to each handler of its variable, and until the tasks
@@ -44,7 +44,7 @@ pub fn nested_pools()
     ensures outer_left { IsBlockedAfter (over_sets (nesting the_outer)) outer_running main }
     // The inner task alone is left. A freeze that names the outer pool doesn't wait for it.
     ensures outer_named { IsEnabledAfter (over_sets (nesting the_outer)) inner_running main }
-    // One that names both does.
+    // A freeze that names both does.
     ensures both_named { IsBlockedAfter (over_sets (nesting both_pools)) inner_running main }
     ensures both_ended { IsEnabledAfter (over_sets (nesting both_pools)) inner_ended main }
     // s = {1}, out = {1}, whichever comes first.

@@ -17,14 +17,6 @@ pub right_fails : (a b : Bool) → (a || b) ≡ false → b ≡ false
 right_fails true b e = absurd cc
 right_fails false b e = e
 
-pub left_yes : (a b : Bool) → a ≡ true → (a || b) ≡ true
-left_yes true b e = refl
-left_yes false b e = absurd cc
-
-pub right_yes : (a b : Bool) → b ≡ true → (a || b) ≡ true
-right_yes true b e = refl
-right_yes false b e = e
-
 pub left_holds : (a b : Bool) → (a && b) ≡ true → a ≡ true
 left_holds true b e = refl
 left_holds false b e = absurd cc

@@ -10,7 +10,7 @@ use Rattle.std.proofs.lemmas.Bool.Decides.{nat_tests}
 use lib.IntN.{neg_ℤ}
 use Rattle.lvish_syntax.specs.Words.{Word, is_digit}
 use Rattle.lvish_syntax.specs.Written.{is_within}
-use Rattle.lvish_checks.specs.Form.{is_number_word, is_numeral, number_of}
+use Rattle.lvish_checks.specs.Form.{is_number_word, is_numeral, number_spelled}
 use Rattle.lvish_checks.proofs.Cuts.{right_holds}
 use Rattle.lvish_checks.proofs.Numbers.{own}
 use Rattle.lvish_checks.proofs.Values.{Each, each_if}
@@ -35,7 +35,7 @@ decimal_value : (n : ℕ) → n < 2 ^ 64 → digits_value 10 (decimal n) ≡ n
 decimal_value n h = digits_value-decimal own n h
 
 -- digits do not begin as a negative number does, nor as a comment
-digits_number : (ds : List ℕ) → is_numeral ds ≡ true → nat_lt (digits_value 10 ds) (2 ^ 63) ≡ true → number_of ds ≡ Some (pos (digits_value 10 ds))
+digits_number : (ds : List ℕ) → is_numeral ds ≡ true → nat_lt (digits_value 10 ds) (2 ^ 63) ≡ true → number_spelled ds ≡ Some (pos (digits_value 10 ds))
 digits_number [] e f = absurd cc
 digits_number (d ∷ ds) e f =
     let no_minus : (d == 45) ≡ false = no_sign d (all_ascii_digits ds) (right_holds (not (length (d ∷ ds) == 0)) _ e) in
@@ -56,7 +56,7 @@ digits_word (d ∷ ds) e = is_word d (all_ascii_digits ds) (d == 45 && not (leng
     is_word d false u e = grind (arith, nat_tests)
 
 -- the number that a number's decimal form writes
-pub number_back : (z : ℤ) → is_within z ≡ true → number_of (signed_decimal z) ≡ Some z
+pub number_back : (z : ℤ) → is_within z ≡ true → number_spelled (signed_decimal z) ≡ Some z
 number_back (pos n) e =
     let small = below n e in
     digits_number (decimal n) (decimal_numeral n small) (ap (λ m. nat_lt m (2 ^ 63)) (decimal_value n small) ∙ e) ∙ ap (λ m. Some (pos m)) (decimal_value n small)
@@ -78,7 +78,7 @@ negative_within : (n : ℕ) → nat_le n (2 ^ 63) ≡ true → is_within (neg_�
 negative_within zero e = refl
 negative_within (suc n) e = grind (arith, nat_tests)
 
-pub number_within : (w : Word) → Each (λ z. is_within z ≡ true) (number_of w)
+pub number_within : (w : Word) → Each (λ z. is_within z ≡ true) (number_spelled w)
 number_within [] = tt
 number_within (b ∷ bs) =
     each_if IsWithin (b == 45) _ _

@@ -1,30 +1,15 @@
--- What words say, one after the other, and names at the front of words.
-use Rattle.std.proofs.Common.{◌≡◌, ◌≢◌, ℕ, zero, suc, ◌<◌, ◌==◌, drop, arith, Bool, true, false, cond, List, [], ◌∷◌, ◌++◌, length, map, take, Option, Some, None, refl, ap, sym, ◌∙◌, append_assoc}
+-- Names at the front of words, and how many words a form has.
+use Rattle.std.proofs.Common.{◌≡◌, ◌≢◌, ℕ, zero, suc, ◌<◌, ◌==◌, drop, arith, Bool, true, false, cond, List, [], ◌∷◌, length, map, take, refl, ap, sym, ◌∙◌}
 use Rattle.std.specs.Prelude.{take_while}
-use Rattle.std.specs.Option.{option_map}
 use Rattle.std.specs.List.{list_all}
 use Rattle.std.proofs.lemmas.List.Sums.{take_while-cons}
 use Rattle.std.proofs.lemmas.List.{length-map, take-map}
 use Rattle.std.proofs.lemmas.List.Folds.{length-prefix_len}
-use Rattle.lvish_syntax.specs.Words.{Word}
-use Rattle.lvish_syntax.specs.Words.{is_name}
-use Rattle.lvish_checks.specs.Form.{all_of, freeze_each, freeze_after}
+use Rattle.lvish_syntax.specs.Words.{Word, is_name}
+use Rattle.lvish_checks.specs.Form.{freeze_each, freeze_after}
 use Rattle.lvish_checks.specs.declared.line.Line.{Line}
 use Rattle.lvish_checks.specs.declared.line.Line.TheVariants.{Bad}
 use Rattle.std.proofs.lemmas.Bool.Decides.{nat_tests}
-
--- ---- a value of each word
-
-module _ {X : Type 0} (f : Word → Option X) (front : List X) (w : Word) (rest : List Word) (total : Option (List X)) where
-  regroup : (x : X) (o : Option (List X)) → option_map (λ xs. front ++ xs) (option_map (λ xs. x ∷ xs) o) ≡ option_map (λ xs. (front ++ x ∷ []) ++ xs) o
-  regroup x None = refl
-  regroup x (Some xs) = ap Some (simp append_assoc)
-
-  pub all_go_on : (x : X) → f w ≡ Some x → option_map (λ xs. front ++ xs) (all_of f (w ∷ rest)) ≡ total → option_map (λ xs. (front ++ x ∷ []) ++ xs) (all_of f rest) ≡ total
-  all_go_on x e h = let r = regroup x (all_of f rest) in let o : all_of f (w ∷ rest) ≡ option_map (λ xs. x ∷ xs) (all_of f rest) = rw e refl in cc
-
-  pub all_end : f w ≡ None → option_map (λ xs. front ++ xs) (all_of f (w ∷ rest)) ≡ total → total ≡ None
-  all_end e h = let o : all_of f (w ∷ rest) ≡ None = rw e refl in let p : option_map (λ xs. front ++ xs) (all_of f (w ∷ rest)) ≡ None = rw o refl in cc
 
 -- ---- the words at the front that pass a test
 

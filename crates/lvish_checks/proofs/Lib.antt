@@ -11,4 +11,5 @@ pub mod Numbers
 pub mod Stacks
 pub mod Values
 pub mod Decimals
+pub mod Meanings
 pub mod Spelled

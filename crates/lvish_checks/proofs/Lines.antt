@@ -80,10 +80,6 @@ module _ {X : Type 0} (test : ℕ → X → Bool) (xs : List X) (k : ℕ) (x : X
   pub fails_at : ((m : ℕ) → m ≤ k → on_line test xs m ≡ false) → test k x ≡ true → IsLowest (on_line test xs) (k + 1)
   fails_at before here = lowest_here test xs k before (test_at (test k) xs k x lt e ∙ here)
 
-pub passed_none : {X : Type 0} (test : ℕ → X → Bool) (xs : List X) (m : ℕ) → m ≤ 0 → on_line test xs m ≡ false
-passed_none test xs zero le = refl
-passed_none test xs (suc m) le = absurd (omega arith)
-
 -- the lines up to and with x
 pub taken_with : {X : Type 0} (xs : List X) (k : ℕ) (x : X) → k < length xs → x ≡ get_or xs k x → take (k + 1) xs ≡ take k xs ++ x ∷ []
 taken_with xs k x lt e = take_more xs k x lt ∙ ap (λ y. take k xs ++ y ∷ []) (sym e)

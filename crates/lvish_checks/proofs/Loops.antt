@@ -7,9 +7,6 @@ use Rattle.std.proofs.lemmas.List.Folds.{list_all-append}
 use Rattle.lvish_checks.proofs.Cuts.{left_holds, right_holds}
 use Rattle.std.proofs.lemmas.List.{map_push, take_more}
 
-pub map_more : {X Y Z : Type 0} (f : X → Z) (g : Y → Z) (done : List X) (x : X) (ys : List Y) (i : ℕ) (d : Y) → i < length ys → f x ≡ g (get_or ys i d) → map f done ≡ map g (take i ys) → map f (done ++ x ∷ []) ≡ map g (take (i + 1) ys)
-map_more f g done x ys i d lt e h = rw (map_push f done x, take_more ys i d lt, map_push g (take i ys) (get_or ys i d), h, e) refl
-
 pub push_more : {Y Z : Type 0} (g : Y → Z) (done : List Z) (z : Z) (ys : List Y) (i : ℕ) (d : Y) → i < length ys → z ≡ g (get_or ys i d) → done ≡ map g (take i ys) → done ++ z ∷ [] ≡ map g (take (i + 1) ys)
 push_more g done z ys i d lt e h = rw (take_more ys i d lt, map_push g (take i ys) (get_or ys i d), h, e) refl
 

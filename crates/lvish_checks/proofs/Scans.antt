@@ -6,42 +6,34 @@ use Rattle.std.specs.List.{list_any}
 use Rattle.std.specs.Str.{bytes_eq}
 use Rattle.std.proofs.lemmas.List.{append-nil, drop_all, take-append-drop}
 use Rattle.std.proofs.Math.Seq.{drop-cons}
-use Rattle.std.proofs.Math.Bool.{or-true}
+use Rattle.std.proofs.Math.Bool.{or-true, or-false}
 use Rattle.std.proofs.lemmas.List.Folds.{list_any-append}
 use Rattle.std.proofs.lemmas.List.Sums.{sum_by-append}
 use Rattle.std.proofs.lemmas.Grind.{flat_map-append}
 use Rattle.lvish_syntax.specs.Words.{Word}
-use Rattle.lvish_syntax.specs.Name.{has_name, has_repeat}
-use Rattle.lvish_syntax.specs.Sound.{variable_name, variable_names, pool_name, pool_names, kind_of, variable_of}
+use Rattle.lvish_syntax.specs.declared.kind.VariableKind.{VariableKind}
 use Rattle.lvish_syntax.specs.declared.declaration.Declaration.{Declaration}
 use Rattle.lvish_syntax.specs.declared.declaration.Declaration.TheVariants.{Variable, Pool}
-use Rattle.lvish_syntax.specs.declared.kind.VariableKind.{VariableKind}
+use Rattle.lvish_syntax.specs.Name.{has_name, has_repeat}
+use Rattle.lvish_syntax.specs.Sound.{kind_of, variable_of}
 use Rattle.lvish_checks.specs.Table.{value_at}
 use Rattle.lvish_checks.specs.declared.line.Line.{Line}
-use Rattle.lvish_checks.specs.declared.line.Line.TheVariants.{Declare, Proc}
-use Rattle.lvish_checks.specs.Checks.{declared_by, declarations, has_variable, has_pool, has_procedure, declares_procedure, parameters_of, is_procedure, binds, binds_until_procedure, locals_step, locals_after, locals_at, is_misplaced, is_nil, open_after, open_step, line_fails}
+use Rattle.lvish_checks.specs.declared.line.Line.TheVariants.{Proc}
+use Rattle.lvish_checks.specs.Checks.{declared_by, declarations, parameters_of, is_procedure, binds, binds_until_procedure, locals_step, locals_after, locals_at, is_misplaced, is_nil, open_after, open_step, line_fails}
 use Rattle.lvish_checks.specs.declared.fault.Fault.TheVariants.{OpenBlock}
 use Rattle.std.proofs.lemmas.Bool.{eqb-true, or_from}
-use Rattle.lvish_checks.specs.Known.{AreVariables, ArePools, AreProcedures, AreArities, AreKinds, AreOfPools, HaveSameNames}
+use Rattle.lvish_checks.specs.Known.{AreArities, AreKinds, AreOfPools, HaveSameNames}
 use Rattle.lvish_checks.proofs.Seen.{bytes_eq_flip}
 use Rattle.lvish_checks.proofs.Cuts.{left_fails, right_fails}
 use Rattle.lvish_checks.proofs.Lines.{locals_after-more, open_after-more, taken_with}
 
--- ---- names that lines declare
+-- ---- lines one by one
 
 or_last : (a b : Bool) → (b || a) ≡ (a || (b || false))
-or_last true true = refl
-or_last true false = refl
-or_last false true = refl
-or_last false false = refl
-
-or_one : (a b : Bool) → (a || (b || false)) ≡ (a || b)
-or_one true b = refl
-or_one false true = refl
-or_one false false = refl
+or_last a b = grind arith
 
 pub any_taken : (p : Line → Bool) (xs : List Line) (k : ℕ) (x : Line) → k < length xs → x ≡ get_or xs k x → list_any p (take (k + 1) xs) ≡ (list_any p (take k xs) || p x)
-any_taken p xs k x lt e = ap (list_any p) (taken_with xs k x lt e) ∙ list_any-append p (take k xs) (x ∷ []) ∙ or_one (list_any p (take k xs)) (p x)
+any_taken p xs k x lt e = ap (list_any p) (taken_with xs k x lt e) ∙ list_any-append p (take k xs) (x ∷ []) ∙ ap (λ b. list_any p (take k xs) || b) (or-false (p x))
 
 pub count_taken : (p : Line → Bool) (xs : List Line) (k : ℕ) (x : Line) → k < length xs → x ≡ get_or xs k x → count_by p (take (k + 1) xs) ≡ count_by p (take k xs) + (if p x then 1 else 0)
 count_taken p xs k x lt e = ap (count_by p) (taken_with xs k x lt e) ∙ sum_by-append (λ y. cond (p y) 1 0) (take k xs) (x ∷ []) ∙ ap (λ n. count_by p (take k xs) + n) (one (p x))
@@ -54,50 +46,16 @@ count_taken p xs k x lt e = ap (count_by p) (taken_with xs k x lt e) ∙ sum_by-
 pub declared_more : (before : List Line) (x : Line) → declarations (before ++ x ∷ []) ≡ declarations before ++ declared_by x
 declared_more before x = flat_map-append declared_by before (x ∷ []) ∙ ap (λ ds. declarations before ++ ds) (append-nil (declared_by x))
 
-variable_pushed : (q : Word) (before : List Line) (x : Line) → has_variable q (before ++ x ∷ []) ≡ (has_variable q before || has_name q (variable_names (declared_by x)))
-variable_pushed q before x =
-    ap (λ ds. has_name q (variable_names ds)) (declared_more before x)
-    ∙ ap (has_name q) (flat_map-append variable_name (declarations before) (declared_by x))
-    ∙ list_any-append (λ y. bytes_eq y q) (variable_names (declarations before)) (variable_names (declared_by x))
-
-pool_pushed : (q : Word) (before : List Line) (x : Line) → has_pool q (before ++ x ∷ []) ≡ (has_pool q before || has_name q (pool_names (declared_by x)))
-pool_pushed q before x =
-    ap (λ ds. has_name q (pool_names ds)) (declared_more before x)
-    ∙ ap (has_name q) (flat_map-append pool_name (declarations before) (declared_by x))
-    ∙ list_any-append (λ y. bytes_eq y q) (pool_names (declarations before)) (pool_names (declared_by x))
-
-pub variable_more : (old new : List Word) (n : Word) (k : VariableKind) (before : List Line) → ((q : Word) → has_name q new ≡ (bytes_eq n q || has_name q old)) → AreVariables old before → AreVariables new (before ++ Declare (Variable n k) ∷ [])
-variable_more old new n k before added known q = added q ∙ ap (λ b. bytes_eq n q || b) (known q) ∙ or_last (has_variable q before) (bytes_eq n q) ∙ sym (variable_pushed q before (Declare (Variable n k)))
-
-pub pool_more : (old new : List Word) (p v : Word) (before : List Line) → ((q : Word) → has_name q new ≡ (bytes_eq p q || has_name q old)) → ArePools old before → ArePools new (before ++ Declare (Pool p v) ∷ [])
-pool_more old new p v before added known q = added q ∙ ap (λ b. bytes_eq p q || b) (known q) ∙ or_last (has_pool q before) (bytes_eq p q) ∙ sym (pool_pushed q before (Declare (Pool p v)))
-
-pub procedure_more : (old new : List Word) (n : Word) (xs : List Word) (before : List Line) → ((q : Word) → has_name q new ≡ (bytes_eq n q || has_name q old)) → AreProcedures old before → AreProcedures new (before ++ Proc n xs ∷ [])
-procedure_more old new n xs before added known q = added q ∙ ap (λ b. bytes_eq n q || b) (known q) ∙ or_last (has_procedure q before) (bytes_eq n q) ∙ sym (list_any-append (declares_procedure q) before (Proc n xs ∷ []))
-
-or_no : (b : Bool) → b ≡ (b || false)
-or_no true = refl
-or_no false = refl
-
--- a line that declares none changes nothing
-pub variables_same : (names : List Word) (before : List Line) (x : Line) → variable_names (declared_by x) ≡ [] → AreVariables names before → AreVariables names (before ++ x ∷ [])
-variables_same names before x none known q = known q ∙ or_no (has_variable q before) ∙ sym (variable_pushed q before x ∙ ap (λ ns. has_variable q before || has_name q ns) none)
-
-pub pools_same : (names : List Word) (before : List Line) (x : Line) → pool_names (declared_by x) ≡ [] → ArePools names before → ArePools names (before ++ x ∷ [])
-pools_same names before x none known q = known q ∙ or_no (has_pool q before) ∙ sym (pool_pushed q before x ∙ ap (λ ns. has_pool q before || has_name q ns) none)
-
-pub procedures_same : (names : List Word) (before : List Line) (x : Line) → ((q : Word) → declares_procedure q x ≡ false) → AreProcedures names before → AreProcedures names (before ++ x ∷ [])
-procedures_same names before x none known q = known q ∙ or_no (has_procedure q before) ∙ sym (list_any-append (declares_procedure q) before (x ∷ []) ∙ ap (λ b. has_procedure q before || (b || false)) (none q))
-
 -- ---- counts of parameters
 
-first_or : (q n : Word) (xs : List Word) (ls : List Line) (x : Line) (t : Bool) → bytes_eq n q ≡ t → parameters_of q (ls ++ x ∷ []) ≡ option_or (parameters_of q ls) (parameters_of q (x ∷ [])) → parameters_of q (Proc n xs ∷ (ls ++ x ∷ [])) ≡ option_or (parameters_of q (Proc n xs ∷ ls)) (parameters_of q (x ∷ []))
-first_or q n xs ls x true e h = rw e refl
-first_or q n xs ls x false e h = rw e h
+-- the first value of a list and of one item more
+pub or_later : {V : Type 0} (t : Bool) (v : V) (all before last : Option V) → all ≡ option_or before last → (if t then Some v else all) ≡ option_or (if t then Some v else before) last
+or_later true v all before last e = refl
+or_later false v all before last e = e
 
 parameters_push : (q : Word) (before : List Line) (x : Line) → parameters_of q (before ++ x ∷ []) ≡ option_or (parameters_of q before) (parameters_of q (x ∷ []))
 parameters_push q [] x = refl
-parameters_push q (Proc n xs ∷ before) x = first_or q n xs before x _ refl (parameters_push q before x)
+parameters_push q (Proc n xs ∷ before) x = or_later (bytes_eq n q) xs _ _ _ (parameters_push q before x)
 parameters_push q (l ∷ before) x = parameters_push q before x
 
 or_nothing : {V : Type 0} (o : Option V) → option_or o None ≡ o
@@ -126,22 +84,14 @@ no_parameters x h q = refl
 
 -- ---- kinds of variables, and variables of pools
 
-kind_first : (q n : Word) (k : VariableKind) (ds : List Declaration) (d : Declaration) (t : Bool) → bytes_eq n q ≡ t → kind_of q (ds ++ d ∷ []) ≡ option_or (kind_of q ds) (kind_of q (d ∷ [])) → kind_of q (Variable n k ∷ (ds ++ d ∷ [])) ≡ option_or (kind_of q (Variable n k ∷ ds)) (kind_of q (d ∷ []))
-kind_first q n k ds d true e h = rw e refl
-kind_first q n k ds d false e h = rw e h
-
 kind_push : (q : Word) (ds : List Declaration) (d : Declaration) → kind_of q (ds ++ d ∷ []) ≡ option_or (kind_of q ds) (kind_of q (d ∷ []))
 kind_push q [] d = refl
-kind_push q (Variable n k ∷ ds) d = kind_first q n k ds d _ refl (kind_push q ds d)
+kind_push q (Variable n k ∷ ds) d = or_later (bytes_eq n q) k _ _ _ (kind_push q ds d)
 kind_push q (Pool p v ∷ ds) d = kind_push q ds d
-
-pool_first : (q p v : Word) (ds : List Declaration) (d : Declaration) (t : Bool) → bytes_eq p q ≡ t → variable_of q (ds ++ d ∷ []) ≡ option_or (variable_of q ds) (variable_of q (d ∷ [])) → variable_of q (Pool p v ∷ (ds ++ d ∷ [])) ≡ option_or (variable_of q (Pool p v ∷ ds)) (variable_of q (d ∷ []))
-pool_first q p v ds d true e h = rw e refl
-pool_first q p v ds d false e h = rw e h
 
 variable_push : (q : Word) (ds : List Declaration) (d : Declaration) → variable_of q (ds ++ d ∷ []) ≡ option_or (variable_of q ds) (variable_of q (d ∷ []))
 variable_push q [] d = refl
-variable_push q (Pool p v ∷ ds) d = pool_first q p v ds d _ refl (variable_push q ds d)
+variable_push q (Pool p v ∷ ds) d = or_later (bytes_eq p q) v _ _ _ (variable_push q ds d)
 variable_push q (Variable n k ∷ ds) d = variable_push q ds d
 
 pub kind_more : (old new : List (Word × VariableKind)) (n : Word) (k : VariableKind) (ds : List Declaration) → ((q : Word) → value_at q new ≡ option_or (value_at q old) (if bytes_eq n q then Some k else None)) → AreKinds old ds → AreKinds new (ds ++ Variable n k ∷ [])
@@ -192,14 +142,6 @@ split_at xs k x lt e = ap (λ t. take k xs ++ t) (sym (drop_at xs k x lt e)) ∙
 pub repeat_at : (xs : List Word) (k : ℕ) (x : Word) → k < length xs → x ≡ get_or xs k x → has_name x (take k xs) ≡ true → has_repeat xs ≡ true
 repeat_at xs k x lt e h = ap has_repeat (sym (split_at xs k x lt e)) ∙ repeat_found x (take k xs) (drop (k + 1) xs) h
 
-pub not_true : (b : Bool) → not b ≡ true → b ≡ false
-not_true true e = absurd cc
-not_true false e = refl
-
-pub not_false : (b : Bool) → not b ≡ false → b ≡ true
-not_false true e = refl
-not_false false e = absurd cc
-
 -- ---- locals
 
 pub names_more : (old new done : List Word) (x : Word) → ((q : Word) → has_name q new ≡ (bytes_eq x q || has_name q old)) → HaveSameNames old done → HaveSameNames new (done ++ x ∷ [])
@@ -233,10 +175,7 @@ module _ (lines : List Line) (k : ℕ) (x : Line) (lt : k < length lines) (e : x
 -- ---- locals that a scan from a procedure's line gathers
 
 regroup : (a b c : Bool) → ((a || b) || c) ≡ (b || (a || c))
-regroup true true c = refl
-regroup true false c = refl
-regroup false true c = refl
-regroup false false c = refl
+regroup a b c = grind arith
 
 -- the names gathered, and those still to come, are the locals
 abbrev pub Gathers : List Word → List Word → List Word → Type 0
@@ -256,12 +195,12 @@ module _ (lines : List Line) (k : ℕ) (x : Line) (lt : k < length lines) (e : x
   pub gathers_ends : (old all : List Word) → is_procedure x ≡ true → Gathers old (binds_until_procedure (drop k lines)) all → HaveSameNames old all
   gathers_ends old all begins known q =
       let rest : binds_until_procedure (drop k lines) ≡ [] = ap binds_until_procedure (drop_at lines k x lt e) ∙ rw begins refl in
-      or_no (has_name q old) ∙ ap (λ t. has_name q old || has_name q t) (sym rest) ∙ known q
+      sym (or-false (has_name q old)) ∙ ap (λ t. has_name q old || has_name q t) (sym rest) ∙ known q
 
 pub gathers_all : (lines : List Line) (k : ℕ) (old all : List Word) → length lines ≤ k → Gathers old (binds_until_procedure (drop k lines)) all → HaveSameNames old all
 gathers_all lines k old all past known q =
     let rest : binds_until_procedure (drop k lines) ≡ [] = ap binds_until_procedure (drop_all k lines past) in
-    or_no (has_name q old) ∙ ap (λ t. has_name q old || has_name q t) (sym rest) ∙ known q
+    sym (or-false (has_name q old)) ∙ ap (λ t. has_name q old || has_name q t) (sym rest) ∙ known q
 
 pub no_procedure : (x : Line) → ((n : Word) (xs : List Word) → x ≡ Proc n xs → ⊥) → is_procedure x ≡ false
 no_procedure (Proc n xs) h = absurd (h n xs refl)

@@ -9,6 +9,7 @@ use Rattle.std.proofs.lemmas.Slice.Eq.{bytes_eq-Decides}
 use Rattle.lvish_syntax.specs.Words.{Word}
 use Rattle.lvish_checks.specs.Table.{value_at}
 use Rattle.lvish_checks.proofs.Seen.{bytes_eq_flip}
+use Rattle.lvish_checks.proofs.Scans.{or_later}
 
 -- the entries as a contract sees them
 abbrev pub entries_of : {V : Type 0} → List (Bor (List ℕ) × V) → List (Word × V)
@@ -19,14 +20,10 @@ pub value_found : {V : Type 0} (q : Word) (es : List (Bor (List ℕ) × V)) → 
 value_found q [] = refl
 value_found q (e ∷ es) = rw (bytes_eq_flip q e.0.now, value_found q es) refl
 
-later : {V : Type 0} (q n : Word) (v : V) (x : Word × V) (xs : List (Word × V)) (t : Bool) → bytes_eq x.0 q ≡ t → value_at q (xs ++ (n, v) ∷ []) ≡ option_or (value_at q xs) (if bytes_eq n q then Some v else None) → value_at q (x ∷ (xs ++ (n, v) ∷ [])) ≡ option_or (value_at q (x ∷ xs)) (if bytes_eq n q then Some v else None)
-later q n v x xs true e h = rw e refl
-later q n v x xs false e h = rw e h
-
 -- an entry at the end counts where there was none
 value_pushed : {V : Type 0} (q n : Word) (v : V) (xs : List (Word × V)) → value_at q (xs ++ (n, v) ∷ []) ≡ option_or (value_at q xs) (if bytes_eq n q then Some v else None)
 value_pushed q n v [] = refl
-value_pushed q n v (x ∷ xs) = later q n v x xs _ refl (value_pushed q n v xs)
+value_pushed q n v (x ∷ xs) = or_later (bytes_eq x.0 q) x.1 _ _ _ (value_pushed q n v xs)
 
 pub value_added : {V : Type 0} (q : Word) (x : Bor (List ℕ)) (v : V) (es : List (Bor (List ℕ) × V)) → value_at q (entries_of (es ++ (x, v) ∷ [])) ≡ option_or (value_at q (entries_of es)) (if bytes_eq x.now q then Some v else None)
 value_added {V} q x v es = ap (value_at q) (map-append (λ (e : Bor (List ℕ) × V). (e.0.now, e.1)) es ((x, v) ∷ [])) ∙ value_pushed q x.now v (entries_of es)

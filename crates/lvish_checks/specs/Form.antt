@@ -1,4 +1,4 @@
--- What a line says: the forms of all versions. Which of them stand in a version is said by the check of bad lines.
+-- What a line says: the forms of all versions. The check of bad lines says which of them stand in a version.
 use Rattle.std.specs.Prelude.{ℕ, Bool, false, not, ◌||◌, ◌&&◌, ◌==◌, ◌^◌, nat_lt, nat_le, codes, List, [], ◌∷◌, length, drop, take_while, Option, Some, None, unwrap_or, option_and_then, is_none, if◌then◌else◌, ℤ, pos}
 use Rattle.std.specs.Option.{option_map, option_or}
 use Rattle.std.specs.List.{list_any, list_all}
@@ -14,8 +14,8 @@ use Rattle.lvish_syntax.specs.declared.operator.Operator.{Operator}
 use Rattle.lvish_syntax.specs.declared.operator.Operator.TheVariants.{Add, Subtract, Multiply, Divide, Remainder, Less, Equal}
 use Rattle.lvish_syntax.specs.declared.term.Term.{Term}
 use Rattle.lvish_syntax.specs.declared.term.Term.TheVariants.{Local, Number}
-use Rattle.lvish_syntax.specs.declared.value.Value.{Value}
-use Rattle.lvish_syntax.specs.declared.value.Value.TheVariants.{Same, Combined}
+use Rattle.lvish_syntax.specs.declared.let_value.LetValue.{LetValue}
+use Rattle.lvish_syntax.specs.declared.let_value.LetValue.TheVariants.{Same, Combined}
 use Rattle.lvish_syntax.specs.declared.threshold.Threshold.{Threshold}
 use Rattle.lvish_syntax.specs.declared.threshold.Threshold.TheVariants.{Any, In, Has, Least, Total}
 use Rattle.lvish_syntax.specs.declared.declaration.Declaration.TheVariants.{Variable, Pool}
@@ -35,19 +35,19 @@ abbrev pub is_numeral : List ℕ → Bool
 is_numeral ds = not (length ds == 0) && all_ascii_digits ds
 
 -- the number that a word writes: an optional minus and digits, within 64 bits
-abbrev pub number_of : Word → Option ℤ
-number_of [] = None
-number_of (b ∷ bs) =
+abbrev pub number_spelled : Word → Option ℤ
+number_spelled [] = None
+number_spelled (b ∷ bs) =
     if b == 45 then (if is_numeral bs && nat_le (digits_value 10 bs) (2 ^ 63) then Some (neg_ℤ (pos (digits_value 10 bs))) else None)
     else (if is_numeral (b ∷ bs) && nat_lt (digits_value 10 (b ∷ bs)) (2 ^ 63) then Some (pos (digits_value 10 (b ∷ bs))) else None)
 
 -- a number word that is no number
 abbrev pub is_bad_number : Word → Bool
-is_bad_number w = is_number_word w && is_none (number_of w)
+is_bad_number w = is_number_word w && is_none (number_spelled w)
 
 -- the value of a number word; one that is no number is caught before its value is used
 abbrev pub value_of_number : Word → ℤ
-value_of_number w = unwrap_or (number_of w) (pos 0)
+value_of_number w = unwrap_or (number_spelled w) (pos 0)
 
 -- n: a number word
 abbrev pub number_word : Word → Option ℤ
@@ -118,7 +118,7 @@ proc_line [] = Bad
 
 -- ---- statements of one line
 
-abbrev pub value_of : List Word → Option Value
+abbrev pub value_of : List Word → Option LetValue
 value_of (a ∷ []) = option_map (λ t. Same t) (term_of a)
 value_of (a ∷ o ∷ b ∷ []) = option_and_then (λ s. option_and_then (λ p. option_map (λ t. Combined s p t) (term_of b)) (operator_of o)) (term_of a)
 value_of ws = None
@@ -154,7 +154,7 @@ abbrev pub get_at : Word → Word → List Word → Option Command
 get_at x v [] = None
 get_at x v (k ∷ ws) = option_and_then (λ t. option_map (λ r. command.GetAt x v t r) (threshold_of ws)) (term_of k)
 
--- a threshold, or one with a place before it. No words are both: of the words that begin a threshold total alone is a term, and no threshold is a single term
+-- a threshold, or one with a place before it. No words are both: of the words that begin a threshold, only total is a term, and no threshold is a single term
 abbrev pub get_of : Word → Word → List Word → Option Command
 get_of x v ws = option_or (option_map (λ r. command.Get x v r) (threshold_of ws)) (get_at x v ws)
 

@@ -10,8 +10,8 @@ use Rattle.lvish_syntax.specs.declared.operator.Operator.{Operator}
 use Rattle.lvish_syntax.specs.declared.operator.Operator.TheVariants.{Add, Subtract, Multiply, Divide, Remainder, Less, Equal}
 use Rattle.lvish_syntax.specs.declared.term.Term.{Term}
 use Rattle.lvish_syntax.specs.declared.term.Term.TheVariants.{Local, Number}
-use Rattle.lvish_syntax.specs.declared.value.Value.{Value}
-use Rattle.lvish_syntax.specs.declared.value.Value.TheVariants.{Same, Combined}
+use Rattle.lvish_syntax.specs.declared.let_value.LetValue.{LetValue}
+use Rattle.lvish_syntax.specs.declared.let_value.LetValue.TheVariants.{Same, Combined}
 use Rattle.lvish_syntax.specs.declared.threshold.Threshold.{Threshold}
 use Rattle.lvish_syntax.specs.declared.threshold.Threshold.TheVariants.{Any, In, Has, Least, Total}
 use Rattle.lvish_syntax.specs.declared.declaration.Declaration.{Declaration}
@@ -20,7 +20,7 @@ use Rattle.lvish_syntax.specs.declared.command.Command.{Command}
 use Rattle.lvish_syntax.specs.declared.command.Command.TheVariants.{Let, Put, PutAt, Get, GetAt, Fork, Call, Handle, Freeze, FreezeEach}
 use Rattle.lvish_checks.specs.declared.line.Line.{Line}
 use Rattle.lvish_checks.specs.declared.line.Line.TheVariants.{Blank, Bad, Version, Declare, Proc, Do, If, While, Else, End}
-use Rattle.lvish_checks.specs.Form.{number_of}
+use Rattle.lvish_checks.specs.Form.{number_spelled}
 
 -- a number has its shortest decimal form
 abbrev pub term_word : Term → Word
@@ -41,7 +41,7 @@ operator_word Remainder = codes "%"
 operator_word Less = codes "<"
 operator_word Equal = codes "="
 
-abbrev pub value_words : Value → List Word
+abbrev pub value_words : LetValue → List Word
 value_words (Same t) = term_word t ∷ []
 value_words (Combined a o b) = term_word a ∷ operator_word o ∷ term_word b ∷ []
 
@@ -92,7 +92,7 @@ line_words End = codes "end" ∷ []
 
 -- the same word, or a numeral of the same number
 abbrev pub AgreesWith : Word → Word → Type 0
-AgreesWith v w = (v ≡ w) ⊎ ((z : ℤ) × (number_of v ≡ Some z) × (number_of w ≡ Some z))
+AgreesWith v w = (v ≡ w) ⊎ ((z : ℤ) × (number_spelled v ≡ Some z) × (number_spelled w ≡ Some z))
 
 -- as many words, and each agrees with that in its place
 abbrev pub Agree : List Word → List Word → Type 0

@@ -5,7 +5,7 @@ ghost use Rattle.lvish_checks.specs.Known.{AreVariables, ArePools, AreProcedures
 
 use crate::line::Line;
 use crate::name_set::NameSet;
-use crate::table::Table;
+use crate::name_table::NameTable;
 use lvish_syntax::Declaration;
 use std::alloc::{AllocError, Global};
 
@@ -94,7 +94,7 @@ pub fn declared_by(alloc: Global, lines: &[Line]) -> Result<Declared<'_>, AllocE
     Ok(declared)
 }
 
-fn add_arity<'a>(arities: &mut Table<'a, usize>, line: &'a Line) -> Result<(), AllocError>
+fn add_arity<'a>(arities: &mut NameTable<'a, usize>, line: &'a Line) -> Result<(), AllocError>
     ensures { (before : List Line) → AreArities arities.old before → OnOk result (AreArities arities.new (before ++ line.now ∷ [])) }
 {
     if let Line::Proc(name, parameters) = line {
@@ -104,10 +104,10 @@ fn add_arity<'a>(arities: &mut Table<'a, usize>, line: &'a Line) -> Result<(), A
 }
 
 /// How many parameters the procedures have that the lines declare.
-pub fn arities_of(alloc: Global, lines: &[Line]) -> Result<Table<'_, usize>, AllocError>
+pub fn arities_of(alloc: Global, lines: &[Line]) -> Result<NameTable<'_, usize>, AllocError>
     ensures { IfOk result (λ counts. AreArities counts lines.now) }
 {
-    let mut arities = Table::new(alloc);
+    let mut arities = NameTable::new(alloc);
     for line in lines {
         add_arity(&mut arities, line)?;
     }

@@ -3,9 +3,12 @@
 ghost use Rattle.std.specs.Prelude.{◌≡◌, None, Some};
 ghost use Rattle.std.specs.List.{list_all};
 ghost use Rattle.std.specs.Ordering.{int_eq};
-ghost use Rattle.lvish_syntax.specs.Sound.{kind_at, side_kind, is_level, are_of_kind, are_one, is_of_kind, is_apart, is_total, is_whole_read, is_read_of};
+ghost use Rattle.lvish_syntax.specs.Sound.{kind_at, side_kind, is_level, are_of_kind, are_one, is_of_kind, is_apart, is_total_threshold, is_whole_read, is_read_of};
 
 use lvish_syntax::{SimpleKind, Term, Threshold, VariableKind};
+
+/// The highest state of a counter.
+const HIGHEST: i64 = 1000;
 
 /// The kind of a variable, where it is a cell, a set or a counter.
 pub fn kind_of_whole(kind: VariableKind) -> Option<SimpleKind>
@@ -44,7 +47,7 @@ pub fn kind_at(kind: VariableKind, place: &Term) -> Option<SimpleKind>
 fn is_level(number: i64) -> bool
     ensures { result ≡ is_level number }
 {
-    number >= 0 && number <= 1000
+    number >= 0 && number <= HIGHEST
 }
 
 fn are_levels(numbers: &[i64]) -> bool
@@ -77,7 +80,7 @@ pub fn is_of_kind(kind: SimpleKind, threshold: &Threshold) -> bool
 }
 
 fn is_total(threshold: &Threshold) -> bool
-    ensures { result ≡ is_total threshold.now }
+    ensures { result ≡ is_total_threshold threshold.now }
 {
     matches!(threshold, Threshold::Total(_))
 }

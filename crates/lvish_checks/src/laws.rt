@@ -1,4 +1,4 @@
-//! Laws of the definitions, as functions without code.
+//! Laws of the definitions, as contracts of functions without code.
 
 ghost use Rattle.std.specs.Prelude.{◌≡◌, ◌≢◌, List, false};
 ghost use Rattle.std.specs.List.{list_any};
@@ -8,7 +8,7 @@ ghost use Rattle.lvish_checks.specs.Spelling.{line_words, Agree};
 ghost use Rattle.lvish_checks.specs.declared.line.Line.TheVariants.{Bad};
 
 /// Words that have a form are the words that this form is written with, in their places, and no
-/// others; but that a number may be written by another numeral.
+/// others, except that a number may be written by another numeral.
 pub fn a_form_has_its_words_alone()
     ensures { (words : List Word) → list_any is_bad_number words ≡ false → line_of words ≢ Bad → Agree words (line_words (line_of words)) }
 {}

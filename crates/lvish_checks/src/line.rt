@@ -1,7 +1,7 @@
 use crate::boxed::Boxed;
-use lvish_syntax::{Command, Declaration, Name, Names, Term};
+use lvish_syntax::{Command, Declaration, Identifier, Identifiers, Term};
 
-/// What a line says, in scripts of any version. Small, since each line of a text has one, be it blank.
+/// What a line says, in scripts of any version. It is small, since each line of a text has one.
 #[derive(Debug, Drop)]
 pub enum Line {
     /// It has no words.
@@ -13,7 +13,7 @@ pub enum Line {
     /// It declares a variable or a pool.
     Declare(Boxed<Declaration>),
     /// It begins a procedure with these parameters.
-    Proc(Boxed<Name>, Boxed<Names>),
+    Proc(Boxed<Identifier>, Boxed<Identifiers>),
     /// It is a statement of one line.
     Do(Boxed<Command>),
     /// It opens a block.

@@ -4,7 +4,7 @@ ghost use Rattle.lvish_syntax.specs.Words.{Word};
 ghost use Rattle.lvish_syntax.specs.Name.{has_name};
 
 use indexmap::IndexSet;
-use lvish_syntax::Name;
+use lvish_syntax::Identifier;
 use std::alloc::{AllocError, Global};
 use std::marker::Model;
 
@@ -32,7 +32,7 @@ impl<'a> NameSet<'a> {
     }
 
     /// Adds a name, and says whether it wasn't there.
-    pub fn add(&mut self, name: &'a Name) -> Result<bool, AllocError>
+    pub fn add(&mut self, name: &'a Identifier) -> Result<bool, AllocError>
         ensures fresh { IfOk result (λ is_new. is_new ≡ not (has_name name.now self.old)) }
         ensures names { OnOk result ((q : Word) → has_name q self.new ≡ (bytes_eq name.now q || has_name q self.old)) }
     {
@@ -40,7 +40,7 @@ impl<'a> NameSet<'a> {
         Ok(is_new)
     }
 
-    pub fn contains(&self, name: &Name) -> bool
+    pub fn contains(&self, name: &Identifier) -> bool
         ensures { result ≡ has_name name.now self.now }
     {
         self.names.contains(name.as_str())

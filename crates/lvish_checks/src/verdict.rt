@@ -2,6 +2,7 @@ ghost use Rattle.std.specs.Prelude.{◌≡◌, ℕ, List, length, map, nat_lt, f
 ghost use Rattle.std.specs.List.{list_any};
 ghost use Rattle.std.specs.Option.{option_map};
 ghost use Rattle.lvish_syntax.specs.Words.{Word};
+ghost use Rattle.lvish_syntax.specs.Limits.{most_bytes};
 ghost use Rattle.lvish_checks.specs.Form.{is_bad_number};
 ghost use Rattle.lvish_checks.specs.Checks.{on_line, IsFirstOn, IsVerdict};
 
@@ -27,14 +28,14 @@ fn at_first(fault: Fault, line: Option<usize>) -> Option<ScriptFault>
 }
 
 /// The first check that fails of a text that isn't too long, and the lowest line on which it does.
-/// The words of the lines are known by the first line with a number word that is no number.
+/// Of the words it is given only the first line with a number word that is no number.
 pub fn first_fault(
     alloc: Global,
     lines: &[&[u8]],
     bad_number: Option<usize>,
     said: &[Line],
 ) -> Result<Option<ScriptFault>, AllocError>
-    ensures { IfOk result (λ found. (bytes : List ℕ) (words : List (List Word)) → nat_lt 65536 (length bytes) ≡ false → IsFirstOn (on_line (λ k ws. list_any is_bad_number ws) words) bad_number → IsVerdict (record { bytes = bytes; lines = map (λ w. w.now) lines.now; words = words; said = said.now }) found) }
+    ensures { IfOk result (λ found. (bytes : List ℕ) (words : List (List Word)) → nat_lt most_bytes (length bytes) ≡ false → IsFirstOn (on_line (λ k ws. list_any is_bad_number ws) words) bad_number → IsVerdict (record { bytes = bytes; lines = map (λ w. w.now) lines.now; words = words; said = said.now }) found) }
 {
     if let Some(line) = first_not_ascii(lines) {
         return Ok(at(Fault::NotAscii, line));

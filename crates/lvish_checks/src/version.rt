@@ -6,7 +6,9 @@ ghost use Rattle.lvish_syntax.specs.Version.{is_later, is_name_in, is_kind_in, i
 ghost use Rattle.lvish_checks.specs.Checks.{is_told, is_line_in, version_of};
 
 use crate::line::Line;
-use lvish_syntax::{Command, Declaration, Name, Term, Threshold, Value, VariableKind, Version};
+use lvish_syntax::{
+    Command, Declaration, Identifier, LetValue, Term, Threshold, VariableKind, Version,
+};
 
 /// Whether a line has words.
 pub fn is_told(line: &Line) -> bool
@@ -37,14 +39,14 @@ pub fn version_of(lines: &[Line]) -> Version
 }
 
 /// Whether a name is one of the words that version 2 reserves beside those of version 1.
-fn is_later(name: &Name) -> bool
+fn is_later(name: &Identifier) -> bool
     ensures { result ≡ is_later name.now }
 {
     let text = name.as_str();
     text == "lvish" || text == "tally" || text == "total"
 }
 
-fn is_name_in(version: Version, name: &Name) -> bool
+fn is_name_in(version: Version, name: &Identifier) -> bool
     ensures { result ≡ is_name_in version name.now }
 {
     match version {
@@ -53,7 +55,7 @@ fn is_name_in(version: Version, name: &Name) -> bool
     }
 }
 
-fn are_names_in(version: Version, names: &[Name]) -> bool
+fn are_names_in(version: Version, names: &[Identifier]) -> bool
     ensures { result ≡ list_all (is_name_in version) names.now }
 {
     names.iter().all(|name| is_name_in(version, name))
@@ -83,12 +85,13 @@ fn are_terms_in(version: Version, terms: &[Term]) -> bool
     terms.iter().all(|term| is_term_in(version, term))
 }
 
-fn is_value_in(version: Version, value: &Value) -> bool
+fn is_value_in(version: Version, value: &LetValue) -> bool
     ensures { result ≡ is_value_in version value.now }
 {
     match value {
-        Value::Same(term) => is_term_in(version, term),
-        Value::Combined(left, _, right) => is_term_in(version, left) && is_term_in(version, right),
+        LetValue::Same(term) => is_term_in(version, term),
+        LetValue::Combined(left, _, right) => is_term_in(version, left)
+            && is_term_in(version, right),
     }
 }
 
@@ -102,7 +105,7 @@ fn is_threshold_in(version: Version, threshold: &Threshold) -> bool
     }
 }
 
-fn are_both_in(version: Version, first: &Name, second: &Name) -> bool
+fn are_both_in(version: Version, first: &Identifier, second: &Identifier) -> bool
     ensures { result ≡ (is_name_in version first.now && is_name_in version second.now) }
 {
     is_name_in(version, first) && is_name_in(version, second)

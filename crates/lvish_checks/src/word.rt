@@ -1,7 +1,7 @@
 ghost use Rattle.std.specs.Prelude.{◌≡◌};
 ghost use Rattle.std.specs.List.{list_all};
 ghost use Rattle.lvish_syntax.specs.Words.{is_digit, is_letter, is_name_byte, begins_name, is_reserved, is_name};
-ghost use Rattle.lvish_checks.specs.Form.{is_number_word, number_of, value_of_number, is_bad_number};
+ghost use Rattle.lvish_checks.specs.Form.{is_number_word, number_spelled, value_of_number, is_bad_number};
 
 const RESERVED: &[u8] =
     b"cell set max map pair pool proc end let put get any in has least fork call handle freeze after each if else while";
@@ -53,7 +53,7 @@ pub fn is_name(word: &[u8]) -> bool
     begins_name(word) && word.len() <= 32 && has_name_bytes(word) && !is_reserved(word)
 }
 
-/// Whether a word stands for a number, be it one or not.
+/// Whether a word is a number word, which may still be no number.
 pub fn is_number_word(word: &[u8]) -> bool
     ensures { result ≡ is_number_word word.now }
 {
@@ -65,7 +65,7 @@ pub fn is_number_word(word: &[u8]) -> bool
 
 /// The number that a word writes, if it is one within 64 bits.
 pub fn number_of(word: &[u8]) -> Option<i64>
-    ensures { result ≡ number_of word.now }
+    ensures { result ≡ number_spelled word.now }
 {
     if word.starts_with(b"+") {
         return None;
@@ -83,7 +83,7 @@ pub fn value_of_number(word: &[u8]) -> i64
     number_of(word).unwrap_or(0)
 }
 
-/// Whether a word stands for a number and is none.
+/// Whether a word is a number word that is no number.
 pub fn is_bad_number(word: &[u8]) -> bool
     ensures { result ≡ is_bad_number word.now }
 {

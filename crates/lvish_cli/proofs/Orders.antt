@@ -1,103 +1,73 @@
 -- Every answer has a status of its own, and it alone is written.
-use Rattle.std.proofs.Common.{◌≡◌, inl, inr, ℕ, Bool, List, Option, IfSome, subst, sym}
+use Rattle.std.proofs.Common.{◌≡◌, ◌⊎◌, ◌==◌, inl, inr, ℕ, Bool, true, false, List, Option, IfSome, subst, sym, if◌then◌else◌}
 use Rattle.std.specs.Io.KnownBytes.{Appends, Keeps}
-use Rattle.lvish_syntax.specs.Words.{Word}
-use Rattle.lvish_syntax.specs.declared.kind.VariableKind.{VariableKind}
+use Rattle.lvish_compound.specs.declared.event.Event.{Event}
 use Rattle.lvish_syntax.specs.declared.script.Script.{Script}
+use Rattle.lvish_board.specs.declared.outcome.Outcome.{Outcome}
+use Rattle.lvish_board.specs.declared.outcome.Outcome.TheVariants as outcome
 use Rattle.lvish_run.specs.declared.fault.RunFault.{RunFault}
 use Rattle.lvish_run.specs.declared.fault.RunFault.TheVariants as run
-use Rattle.lvish_run.specs.declared.report.Report.{Report}
+use Rattle.lvish_run.specs.declared.scripts.RunMeaning as runs
 use Rattle.lvish_cli.specs.declared.order.Order.{Order}
 use Rattle.lvish_cli.specs.declared.order.Order.TheVariants.{Check, Run, Pick}
 use Rattle.lvish_cli.specs.declared.status.Status.{Status}
-use Rattle.lvish_cli.specs.declared.status.Status.TheVariants.{Done, Blocked, Refused, Error, Budget, Usage, Unreadable, Memory, NoThread, Stopped, Mixed, Unwritten}
-use Rattle.lvish_cli.specs.Values.{Value, Event}
-use Rattle.lvish_cli.specs.Answers.{Runs, PickedRuns, Bounds, IsAnswer, IsUnanswered, IsScriptAnswer, IsReportAnswer}
-use Rattle.lvish_cli.specs.Performs.{Performs}
+use Rattle.lvish_cli.specs.declared.status.Status.TheVariants.{Done, Blocked, Refused, Unwritten}
+use Rattle.lvish_cli.specs.Answers.{outcome_status, IsAnswer, IsUnanswered, IsScriptAnswer}
+use Rattle.lvish_cli.specs.Performs.{WritesAnswer, WritesFront, Performs}
 use Rattle.lvish_cli.specs.Statuses.{fault_status}
-use Rattle.lvish_cli.specs.Streams.{text_seen}
+use Rattle.lvish_cli.specs.Streams.{TakesFront, text_seen}
 
--- the statuses that answers have
-IsAnswered : Status → Type 0
-IsAnswered Done = Unit {0}
-IsAnswered Blocked = Unit {0}
-IsAnswered Refused = Unit {0}
-IsAnswered Error = Unit {0}
-IsAnswered Budget = Unit {0}
-IsAnswered (Usage text) = ⊥
-IsAnswered Unreadable = ⊥
-IsAnswered Memory = ⊥
-IsAnswered NoThread = ⊥
-IsAnswered Stopped = ⊥
-IsAnswered Mixed = ⊥
-IsAnswered Unwritten = ⊥
+module _ (of : runs.Ghosts Script) (order : Order) (given old new : Option (List ℕ)) where
+  -- what is written with the status of an outcome
+  by_outcome : (blocked : ℕ) (o : Outcome Event) → WritesAnswer of order given old new (outcome_status blocked o) → Performs of order given old new (outcome_status blocked o)
+  by_outcome blocked outcome.Ended w = by (blocked == 0) w
+    where
+      by : (b : Bool) → WritesAnswer of order given old new (if b then Done else Blocked) → Performs of order given old new (if b then Done else Blocked)
+      by true w = w
+      by false w = w
+  by_outcome blocked (outcome.Error kind v t) w = w
+  by_outcome blocked outcome.Budget w = w
 
-report_answered : (variables : List (Word × VariableKind)) (budget : ℕ) (all : Bool) (report : Report Value Event) (status : Status) (text : List ℕ) → IsReportAnswer variables budget all report status text → IsAnswered status
-unfolding IsAnswered
-report_answered variables budget all report Done text h = tt
-report_answered variables budget all report Blocked text h = tt
-report_answered variables budget all report Refused text h = absurd h
-report_answered variables budget all report Error text h = tt
-report_answered variables budget all report Budget text h = tt
-report_answered variables budget all report (Usage message) text h = h
-report_answered variables budget all report Unreadable text h = h
-report_answered variables budget all report Memory text h = h
-report_answered variables budget all report NoThread text h = h
-report_answered variables budget all report Stopped text h = h
-report_answered variables budget all report Mixed text h = h
-report_answered variables budget all report Unwritten text h = h
+  module _ (input : List ℕ) (read : IfSome given (λ bytes. input ≡ text_seen bytes)) where
+    -- where there is an answer, it is written
+    pub performed : (status : Status) (text : List ℕ) → Appends old new text → IsAnswer of order input status text → Performs of order given old new status
+    performed status text put answer = by answer
+      where
+        at : (s : Status) → status ≡ s → (WritesAnswer of order given old new s → Performs of order given old new s) → Performs of order given old new status
+        at s e up = subst (Performs of order given old new) (sym e) (up (text, record { input = input; read = read; answer = subst (λ q. IsAnswer of order input q text) e answer }, put))
 
-module _ (is_run : Runs) (is_picked_run : PickedRuns) (is_bound : Bounds) where
-  script_answered : (script : Script) (order : Order) (status : Status) (text : List ℕ) → IsScriptAnswer is_run is_picked_run is_bound script order status text → IsAnswered status
-  unfolding IsAnswered
-  script_answered script (Check ends budget) status text h = subst IsAnswered (sym h.0) tt
-  script_answered script (Run workers budget all) status text h = report_answered _ budget all h.0 status text h.2
-  script_answered script (Pick picks budget all) status text h = report_answered _ budget all h.0 status h.2.0 h.2.1
+        by_script : (script : Script) (q : Order) → IsScriptAnswer of script q status text → Performs of order given old new status
+        by_script script (Check ends budget) h = at Done h.0 (λ w. w)
+        by_script script (Run workers budget all) h = at (outcome_status h.0.blocked h.0.outcome) h.2.0 (by_outcome h.0.blocked h.0.outcome)
+        by_script script (Pick picks budget all) h = at (outcome_status h.0.blocked h.0.outcome) h.2.1.0 (by_outcome h.0.blocked h.0.outcome)
 
-  answered : (order : Order) (input : List ℕ) (status : Status) (text : List ℕ) → IsAnswer is_run is_picked_run is_bound order input status text → IsAnswered status
-  unfolding IsAnswered
-  answered order input status text (inl h) = script_answered h.0 order status text h.2
-  answered order input status text (inr h) = subst IsAnswered (sym h.2.1) tt
+        by : IsAnswer of order input status text → Performs of order given old new status
+        by (inl h) = by_script h.0 order h.2
+        by (inr h) = at Refused h.2.1 (λ w. w)
 
-module _ (is_run : Runs) (is_picked_run : PickedRuns) (is_bound : Bounds) (order : Order) (given old new : Option (List ℕ)) (input text : List ℕ) where
-  -- no answer has another status than these
-  by_status : (status : Status) → IsAnswered status → IfSome given (λ bytes. input ≡ text_seen bytes) → IsAnswer is_run is_picked_run is_bound order input status text → Appends old new text → Performs is_run is_picked_run is_bound order given old new status
-  unfolding IsAnswered
-  by_status Done a read h put = (text, record { input = input; read = read; answer = h }, put)
-  by_status Blocked a read h put = (text, record { input = input; read = read; answer = h }, put)
-  by_status Refused a read h put = (text, record { input = input; read = read; answer = h }, put)
-  by_status Error a read h put = (text, record { input = input; read = read; answer = h }, put)
-  by_status Budget a read h put = (text, record { input = input; read = read; answer = h }, put)
-  by_status (Usage message) a read h put = absurd a
-  by_status Unreadable a read h put = absurd a
-  by_status Memory a read h put = absurd a
-  by_status NoThread a read h put = absurd a
-  by_status Stopped a read h put = absurd a
-  by_status Mixed a read h put = absurd a
-  by_status Unwritten a read h put = absurd a
+    -- where there is none nothing is written, and the status says why
+    pub failed : (fault : RunFault) → IsUnanswered order input fault → Keeps old new → Performs of order given old new (fault_status fault)
+    failed run.NoThread (inl e) kept = absurd (let y : ⊥ = cc in y)
+    failed run.NoThread (inr h) kept = (input, read, (h.0, h.1), h.2, kept)
+    failed run.Memory h kept = kept
+    failed run.Stopped (inl e) kept = absurd (let y : ⊥ = cc in y)
+    failed run.Stopped (inr h) kept = absurd h.2
+    failed run.Mixed (inl e) kept = absurd (let y : ⊥ = cc in y)
+    failed run.Mixed (inr h) kept = (input, read, (h.0, h.1), h.2, kept)
 
-  pub performed : (status : Status) → IfSome given (λ bytes. input ≡ text_seen bytes) → IsAnswer is_run is_picked_run is_bound order input status text → Appends old new text → Performs is_run is_picked_run is_bound order given old new status
-  performed status read h put = by_status status (answered is_run is_picked_run is_bound order input status text h) read h put
+  -- the same, where the bytes that were read and those that were to be written are known by equations
+  module _ (input seen text written : List ℕ) (is : seen ≡ input) (same : written ≡ text) (read : IfSome given (λ bytes. input ≡ text_seen bytes)) where
+    pub performed_of : (status : Status) → IsAnswer of order seen status text → Appends old new written → Performs of order given old new status
+    performed_of status h put = performed input read status text (subst (λ xs. Appends old new xs) same put) (subst (λ xs. IsAnswer of order xs status text) is h)
 
-  -- the same, where the bytes that were read and written are known by equations
-  pub performed_of : (status : Status) (seen written : List ℕ) → seen ≡ input → written ≡ text
-      → IfSome given (λ bytes. input ≡ text_seen bytes) → IsAnswer is_run is_picked_run is_bound order seen status text → Appends old new written → Performs is_run is_picked_run is_bound order given old new status
-  performed_of status seen written is same read h put =
-      performed status read (subst (λ xs. IsAnswer is_run is_picked_run is_bound order xs status text) is h) (subst (λ xs. Appends old new xs) same put)
+    pub unwritten_of : (status : Status) → IsAnswer of order seen status text → TakesFront old new written → WritesFront of order given old new
+    unwritten_of status h front = (status, text, record { input = input; read = read; answer = subst (λ xs. IsAnswer of order xs status text) is h }, subst (λ xs. TakesFront old new xs) same front)
 
--- where there is no answer nothing is written, and the status says why
-module _ (is_run : Runs) (is_picked_run : PickedRuns) (is_bound : Bounds) (order : Order) (given old new : Option (List ℕ)) (input : List ℕ) where
-  pub failed : (fault : RunFault) → IfSome given (λ bytes. input ≡ text_seen bytes) → IsUnanswered order input fault → Keeps old new → Performs is_run is_picked_run is_bound order given old new (fault_status fault)
-  failed run.NoThread read (inl e) kept = absurd (let y : ⊥ = cc in y)
-  failed run.NoThread read (inr (script, spells, can)) kept = (input, read, (script, spells), can, kept)
-  failed run.Memory read h kept = kept
-  failed run.Stopped read (inl e) kept = absurd (let y : ⊥ = cc in y)
-  failed run.Stopped read (inr (script, spells, can)) kept = absurd can
-  failed run.Mixed read (inl e) kept = absurd (let y : ⊥ = cc in y)
-  failed run.Mixed read (inr (script, spells, can)) kept = (input, read, (script, spells), can, kept)
+    pub answered_of : (status told : Status) → IsAnswer of order seen status text → ((told ≡ status) × Appends old new written) ⊎ ((told ≡ Unwritten) × TakesFront old new written) → Performs of order given old new told
+    answered_of status told h (inl w) = subst (Performs of order given old new) (sym w.0) (performed_of status h w.1)
+    answered_of status told h (inr w) = subst (Performs of order given old new) (sym w.0) (unwritten_of status h w.1)
 
-  -- the same, where the bytes that were read and the status are known by equations
-  pub failed_of : (fault : RunFault) (status : Status) (seen : List ℕ) → seen ≡ input → status ≡ fault_status fault
-      → IfSome given (λ bytes. input ≡ text_seen bytes) → IsUnanswered order seen fault → Keeps old new → Performs is_run is_picked_run is_bound order given old new status
-  failed_of fault status seen is says read h kept =
-      subst (Performs is_run is_picked_run is_bound order given old new) (sym says) (failed fault read (subst (λ xs. IsUnanswered order xs fault) is h) kept)
+  pub failed_of : (input seen : List ℕ) (fault : RunFault) (status : Status) → seen ≡ input → status ≡ fault_status fault
+      → IfSome given (λ bytes. input ≡ text_seen bytes) → IsUnanswered order seen fault → Keeps old new → Performs of order given old new status
+  failed_of input seen fault status is says read h kept =
+      subst (Performs of order given old new) (sym says) (failed input read fault (subst (λ xs. IsUnanswered order xs fault) is h) kept)

@@ -1,8 +1,6 @@
 pub mod Answers
-pub mod Faults
 pub mod Lines
 pub mod Orders
 pub mod Performs
 pub mod Statuses
 pub mod Streams
-pub mod Values

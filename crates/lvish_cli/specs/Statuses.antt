@@ -2,7 +2,7 @@
 use Rattle.std.specs.Prelude.{ℕ, List, Option, None, Some, codes, string_bytes}
 use Rattle.lvish_run.specs.declared.fault.RunFault.{RunFault}
 use Rattle.lvish_run.specs.declared.fault.RunFault.TheVariants as run
-use Rattle.lvish_cli.specs.Lines.{line_of}
+use Rattle.lvish_cli.specs.Lines.{text_line}
 use Rattle.lvish_cli.specs.declared.status.Status.{Status}
 use Rattle.lvish_cli.specs.declared.status.Status.TheVariants.{Done, Blocked, Usage, Unreadable, Refused, Error, Budget, Memory, NoThread, Stopped, Mixed, Unwritten}
 
@@ -26,14 +26,14 @@ abbrev pub status_message : Status → Option (List ℕ)
 status_message Done = None
 status_message Blocked = None
 status_message (Usage text) = Some (string_bytes text)
-status_message Unreadable = Some (line_of (codes "unreadable"))
+status_message Unreadable = Some (text_line (codes "unreadable"))
 status_message Refused = None
 status_message Error = None
 status_message Budget = None
-status_message Memory = Some (line_of (codes "memory"))
-status_message NoThread = Some (line_of (codes "nothread"))
-status_message Stopped = Some (line_of (codes "stopped"))
-status_message Mixed = Some (line_of (codes "mixed"))
+status_message Memory = Some (text_line (codes "memory"))
+status_message NoThread = Some (text_line (codes "nothread"))
+status_message Stopped = Some (text_line (codes "stopped"))
+status_message Mixed = Some (text_line (codes "mixed"))
 status_message Unwritten = None
 
 -- how the program ends where a run by workers gave no report

@@ -1,12 +1,12 @@
 ghost use Rattle.std.specs.Prelude.{◌≤◌, ◌≡◌, IfErr, IfOk, string_bytes};
-ghost use Rattle.lvish_cli.specs.Orders.{IsWithin};
+ghost use Rattle.lvish_cli.specs.Orders.{IsInBounds};
 ghost use Rattle.lvish_cli.specs.Answers.{IsAnswer, IsUnanswered, CanMeet, IsScriptAnswer, IsCheckAnswer, IsRefusalAnswer};
 
 use crate::lines::{bound_line, ok_line, refusal_line};
 use crate::order::Order;
 use crate::running::{pick_answer, run_answer};
 use crate::status::Status;
-use lvish_run::{RunFault, Runs, always_ends};
+use lvish_run::{MOST_STEPS, RunFault, RunMeaning, always_ends};
 use lvish_script::{Fault, ScriptFault, read_script};
 use lvish_syntax::Script;
 use std::alloc::{AllocError, Global};
@@ -15,7 +15,7 @@ use std::thread::Threads;
 
 /// What goes to standard output, and the status that goes with it.
 #[derive(Debug, Drop)]
-pub struct Answer {
+pub struct Output {
     pub status: Status,
     pub text: String,
 }
@@ -30,10 +30,10 @@ pub fn answer_to<R: Threads + Wait + Sync>(
     alloc: Global,
     order: &Order,
     input: &[u8],
-) -> Result<Answer, RunFault>
-    requires { IsWithin order.now }
+) -> Result<Output, RunFault>
+    requires { IsInBounds order.now }
     ensures ok { IfOk result (λ answer.
-        IsAnswer ⟦<Script as Runs>⟧.is_run ⟦<Script as Runs>⟧.is_picked_run ⟦<Script as Runs>⟧.is_bound order.now input.now answer.status (string_bytes answer.text)) }
+        IsAnswer ⟦<Script as RunMeaning>⟧ order.now input.now answer.status (string_bytes answer.text)) }
     ensures err { IfErr result (λ fault. IsUnanswered order.now input.now fault) }
 {
     match read_script(alloc, input) {
@@ -48,10 +48,10 @@ fn script_answer<R: Threads + Wait + Sync>(
     alloc: Global,
     order: &Order,
     script: &Script,
-) -> Result<Answer, RunFault>
-    requires { IsWithin order.now }
+) -> Result<Output, RunFault>
+    requires { IsInBounds order.now }
     ensures ok { IfOk result (λ answer.
-        IsScriptAnswer ⟦<Script as Runs>⟧.is_run ⟦<Script as Runs>⟧.is_picked_run ⟦<Script as Runs>⟧.is_bound script.now order.now answer.status (string_bytes answer.text)) }
+        IsScriptAnswer ⟦<Script as RunMeaning>⟧ script.now order.now answer.status (string_bytes answer.text)) }
     ensures err { IfErr result (λ fault. CanMeet order.now fault) }
 {
     match order {
@@ -73,24 +73,24 @@ fn check_answer(
     script: &Script,
     ends: bool,
     budget: u64,
-) -> Result<Answer, AllocError>
-    requires { budget ≤ 1000000 }
+) -> Result<Output, AllocError>
+    requires { budget ≤ MOST_STEPS }
     ensures { IfOk result (λ answer.
-        IsCheckAnswer ⟦<Script as Runs>⟧.is_bound script.now ends budget answer.status (string_bytes answer.text)) }
+        IsCheckAnswer ⟦<Script as RunMeaning>⟧.is_bound script.now ends budget answer.status (string_bytes answer.text)) }
 {
     let mut text = ok_line(alloc)?;
     if ends {
         let bound = always_ends(alloc, script, budget)?;
         text.push_str(bound_line(alloc, bound)?.as_str())?;
     }
-    Ok(Answer {
+    Ok(Output {
         status: Status::Done,
         text,
     })
 }
 
 /// The answer to a text that is no script.
-fn refusal_answer(alloc: Global, refused: ScriptFault) -> Result<Answer, AllocError>
+fn refusal_answer(alloc: Global, refused: ScriptFault) -> Result<Output, AllocError>
     ensures { IfOk result (λ answer.
         IsRefusalAnswer refused answer.status (string_bytes answer.text)) }
 {
@@ -99,7 +99,7 @@ fn refusal_answer(alloc: Global, refused: ScriptFault) -> Result<Answer, AllocEr
         return Err(AllocError);
     }
     let text = refusal_line(alloc, fault.number(), fault.name(), refused.line)?;
-    Ok(Answer {
+    Ok(Output {
         status: Status::Refused,
         text,
     })

@@ -2,11 +2,17 @@
 
 use clap::builder::ValueParser;
 use clap::{Arg, ArgAction, Command, value_parser};
+use lvish_run::{MOST_STEPS, MOST_WORKERS};
 use std::alloc::{AllocError, Global};
 
+/// The budget of a run whose words give none.
 pub const USUAL_STEPS: u64 = 100_000;
 
+/// The number of workers of a run whose words give none.
 pub const USUAL_WORKERS: usize = 2;
+
+/// The greatest pick.
+const MOST_PICK: i64 = 1_000_000;
 
 /// The program with its three commands.
 pub fn program<'a>(alloc: Global) -> Result<Command<'a>, AllocError> {
@@ -55,7 +61,7 @@ fn check<'a>(alloc: Global) -> Result<Command<'a>, AllocError> {
         .long("steps")
         .value_name("N")
         .help("Try so many steps for --ends, 0 to 1000000")
-        .value_parser(value_parser!(u64).range(0..=1_000_000))
+        .value_parser(value_parser!(u64).range(0..=MOST_STEPS as i64))
         .default_value("100000");
     Command::new(alloc, "check")
         .about("Says whether a text is a script")
@@ -85,7 +91,7 @@ fn run<'a>(alloc: Global) -> Result<Command<'a>, AllocError> {
         .long("workers")
         .value_name("N")
         .help("How many workers run the script, 1 to 8")
-        .value_parser(value_parser!(u64).range(1..=8))
+        .value_parser(value_parser!(u64).range(1..=MOST_WORKERS as i64))
         .default_value("2");
     Command::new(alloc, "run")
         .about("Runs a script and prints its report")
@@ -111,7 +117,7 @@ fn pick<'a>(alloc: Global) -> Result<Command<'a>, AllocError> {
     let picks = Arg::new(alloc, "picks")
         .value_name("N")
         .help("Which of the enabled steps is made, in turn, 0 to 1000000")
-        .value_parser(value_parser!(u64).range(0..=1_000_000))
+        .value_parser(value_parser!(u64).range(0..=MOST_PICK))
         .num_args(0..)
         .action(ArgAction::Append);
     Command::new(alloc, "pick")
@@ -150,7 +156,7 @@ fn steps<'a>(alloc: Global) -> Arg<'a> {
         .long("steps")
         .value_name("N")
         .help("Stop the run after N steps, 0 to 1000000")
-        .value_parser(value_parser!(u64).range(0..=1_000_000))
+        .value_parser(value_parser!(u64).range(0..=MOST_STEPS as i64))
         .default_value("100000")
 }
 

@@ -3,7 +3,6 @@
 
 mod answering;
 mod commands;
-mod faults;
 mod lines;
 mod order;
 mod performing;
@@ -12,12 +11,11 @@ mod program;
 mod reading;
 mod running;
 mod status;
-mod values;
 mod words;
 mod writing;
 
-pub use answering::{Answer, answer_to};
-pub use order::{Order, UsageFault};
+pub use answering::{Output, answer_to};
+pub use order::{Order, Source, UsageFault};
 pub use performing::perform;
 pub use picks::Picks;
 pub use program::command;

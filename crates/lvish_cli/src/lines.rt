@@ -1,5 +1,5 @@
 ghost use Rattle.std.specs.Prelude.{◌≡◌, IfOk, string_bytes};
-ghost use Rattle.lvish_cli.specs.Lines.{ok_text, bound_text, refusal_text, budget_text, error_text};
+ghost use Rattle.lvish_cli.specs.Lines.{ok_text, bound_text, refusal_text};
 
 use std::alloc::{AllocError, Global};
 
@@ -30,23 +30,4 @@ pub fn refusal_line(
     ensures { IfOk result (λ text. string_bytes text ≡ refusal_text number name.now line) }
 {
     format!(in alloc; "refused {number} {name} line {line}\n")
-}
-
-/// `error KIND VAR TASK`, for the kind of a run's error, the variable and the task that it befell.
-pub fn error_line(
-    alloc: Global,
-    kind: &str,
-    variable: &str,
-    task: &str,
-) -> Result<String, AllocError>
-    ensures { IfOk result (λ text. string_bytes text ≡ error_text kind.now variable.now task.now) }
-{
-    format!(in alloc; "error {kind} {variable} {task}\n")
-}
-
-/// `budget N`, for a run that was stopped by its budget.
-pub fn budget_line(alloc: Global, budget: u64) -> Result<String, AllocError>
-    ensures { IfOk result (λ text. string_bytes text ≡ budget_text budget) }
-{
-    format!(in alloc; "budget {budget}\n")
 }

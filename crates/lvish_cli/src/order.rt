@@ -11,14 +11,14 @@ pub enum Order {
     Check {
         /// Whether to say as well whether all runs of it end, and after how many steps at most.
         ends: bool,
-        /// As far as a run of so many steps shows it.
+        /// As far as a run of this many steps shows it.
         budget: u64,
     },
     /// Run the script and print the report.
     Run {
         /// How many workers run it.
         workers: usize,
-        /// After as many steps the run is stopped.
+        /// After this many steps the run is stopped.
         budget: u64,
         /// Whether every variable is reported, or frozen ones alone.
         all: bool,
@@ -27,11 +27,20 @@ pub enum Order {
     Pick {
         /// Which of the enabled steps is made, in turn.
         picks: Picks,
-        /// After as many steps the run is stopped.
+        /// After this many steps the run is stopped.
         budget: u64,
         /// Whether every variable is reported, or frozen ones alone.
         all: bool,
     },
+}
+
+/// Where the script is.
+#[derive(Debug, PartialEq, Drop)]
+pub enum Source {
+    /// In the file at this path.
+    File(String),
+    /// Standard input has it.
+    StandardInput,
 }
 
 /// Why the words are no order.

@@ -1,13 +1,15 @@
-ghost use Rattle.lvish_cli.specs.Orders.{IsWithin};
+ghost use Rattle.std.specs.Prelude.{◌≡◌};
+ghost use Rattle.lvish_cli.specs.Orders.{IsInBounds};
 ghost use Rattle.lvish_cli.specs.Performs.{Performs};
+ghost use Rattle.lvish_cli.specs.Statuses.{fault_status};
 ghost use Rattle.lvish_cli.specs.Streams.{GivesUpTo};
 
-use crate::answering::answer_to;
+use crate::answering::{Output, answer_to};
 use crate::order::Order;
 use crate::reading::{MOST_READ, ReadFault, read_text};
 use crate::status::Status;
-use crate::writing::write_text;
-use lvish_run::Runs;
+use crate::writing::write_answer;
+use lvish_run::{RunFault, RunMeaning};
 use lvish_syntax::Script;
 use std::alloc::Global;
 use std::io::{Read, Write};
@@ -24,8 +26,8 @@ pub fn perform<T: Threads + Wait + Sync, R: Read, W: Write>(
     reader: &mut R,
     writer: &mut W,
 ) -> Status
-    requires { IsWithin order.now }
-    ensures performs { Performs ⟦<Script as Runs>⟧.is_run ⟦<Script as Runs>⟧.is_picked_run ⟦<Script as Runs>⟧.is_bound order.now
+    requires { IsInBounds order.now }
+    ensures performs { Performs ⟦<Script as RunMeaning>⟧ order.now
         (R.remaining reader.old) (W.contents writer.old) (W.contents writer.new) result }
     ensures reads { GivesUpTo MOST_READ (R.remaining reader.old) (R.remaining reader.new) }
 {
@@ -36,10 +38,15 @@ pub fn perform<T: Threads + Wait + Sync, R: Read, W: Write>(
     };
     let answer = match answer_to(rt, alloc, order, input.as_slice()) {
         Ok(answer) => answer,
-        Err(fault) => return Status::from(fault),
+        Err(fault) => return unanswered(fault),
     };
-    match write_text(writer, answer.text.as_bytes()) {
-        Ok(()) => answer.status,
-        Err(_) => Status::Unwritten,
-    }
+    let Output { status, text } = answer;
+    write_answer(writer, text.as_bytes(), status)
+}
+
+/// The status where a run met the fault.
+fn unanswered(fault: RunFault) -> Status
+    ensures { result ≡ fault_status fault }
+{
+    Status::from(fault)
 }

@@ -1,8 +1,8 @@
 ghost use Rattle.std.specs.Prelude.{◌≡◌, ◌≢◌, []};
-ghost use Rattle.lvish_cli.specs.Orders.{IsWithin};
+ghost use Rattle.lvish_cli.specs.Orders.{IsInBounds};
 ghost use Rattle.lvish_cli.specs.Statuses.{status_number};
 
-use crate::order::{Order, UsageFault};
+use crate::order::{Order, Source, UsageFault};
 use crate::performing::perform;
 use crate::status::Status;
 use crate::words::order_of;
@@ -25,16 +25,29 @@ pub fn command<R: AllocGlobal + Files + Input + Print + Threads + Wait + Sync, S
 {
     let mut output = io::writer(rt);
     match order_of(rt.alloc(), words) {
-        Ok((order, path)) if path.is_empty() => {
-            perform(rt, rt.alloc(), &order, &mut rt.reader(), &mut output)
-        }
-        Ok((order, path)) => perform_file(rt, &order, path.as_str(), &mut output),
+        Ok((order, source)) => perform_from(rt, &order, &source, &mut output),
         Err(UsageFault::Help(text)) => match write_text(&mut output, text.as_bytes()) {
             Ok(()) => Status::Done,
             Err(_) => Status::Unwritten,
         },
         Err(UsageFault::Refused(text)) => Status::Usage(text),
         Err(UsageFault::Memory) => Status::Memory,
+    }
+}
+
+/// Does what the order asks of the script there.
+fn perform_from<R: AllocGlobal + Files + Input + Threads + Wait + Sync, W: Write>(
+    rt: &R,
+    order: &Order,
+    source: &Source,
+    output: &mut W,
+) -> Status
+    requires { IsInBounds order.now }
+    ensures { status_number result ≢ 2 }
+{
+    match source {
+        Source::StandardInput => perform(rt, rt.alloc(), order, &mut rt.reader(), output),
+        Source::File(path) => perform_file(rt, order, path.as_str(), output),
     }
 }
 
@@ -45,7 +58,7 @@ fn perform_file<R: AllocGlobal + Files + Threads + Wait + Sync, W: Write>(
     path: &str,
     output: &mut W,
 ) -> Status
-    requires { IsWithin order.now }
+    requires { IsInBounds order.now }
     ensures { status_number result ≢ 2 }
 {
     match fs::open(rt, path) {

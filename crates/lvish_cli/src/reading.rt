@@ -6,7 +6,7 @@ use std::alloc::Global;
 use std::io::Read;
 use thiserror::Error;
 
-/// The most bytes that are read: one more than a script may have, by which a longer text is known.
+/// The most bytes that are read: one more than a script may have, so that a longer text is noticed.
 pub const MOST_READ: usize = 65_537;
 
 /// Why no text came from a reader.

@@ -1,23 +1,21 @@
-ghost use Rattle.std.specs.Prelude.{◌<◌, ◌≤◌, ◌≡◌, ◌≢◌, Some, Err, IfOk, string_bytes};
+ghost use Rattle.std.specs.Prelude.{◌<◌, ◌≤◌, ◌≡◌, ◌≢◌, Err, IfOk, length, string_bytes};
+ghost use Rattle.lvish_board.specs.declared.outcome.Outcome.TheVariants.{Ended};
 ghost use Rattle.lvish_run.specs.Text.{variables_of};
-ghost use Rattle.lvish_cli.specs.Faults.{kind_name};
-ghost use Rattle.lvish_cli.specs.Lines.{error_text};
-ghost use Rattle.lvish_cli.specs.Answers.{HasStates, IsReportAnswer, IsRunAnswer, IsPickAnswer, variable_text, task_text};
+ghost use Rattle.lvish_cli.specs.Answers.{outcome_status, IsReportAnswer, IsRunAnswer, IsPickAnswer};
 
-use crate::answering::Answer;
-use crate::faults::kind_name;
-use crate::lines::{budget_line, error_line};
+use crate::answering::Output;
 use crate::status::Status;
-use crate::values::{Event, Value};
-use lvish_calculus::ErrorKind;
-use lvish_names::TaskName;
-use lvish_run::{Open, Outcome, Report, RunFault, Runs, report_text, run, run_picks, trace_text};
-use lvish_syntax::{Declaration, Script};
+use lvish_compound::{Any, Event};
+use lvish_run::{
+    MOST_STEPS, MOST_WORKERS, Open, Outcome, Report, RunFault, RunMeaning, report_text, run,
+    run_picks, trace_text,
+};
+use lvish_syntax::Script;
 use std::alloc::{AllocError, Global};
 use std::sync::Wait;
 use std::thread::Threads;
 
-/// The answer to a script that so many workers run.
+/// The answer to a script that this many workers run.
 pub fn run_answer<R: Threads + Wait + Sync>(
     rt: &R,
     alloc: Global,
@@ -25,17 +23,17 @@ pub fn run_answer<R: Threads + Wait + Sync>(
     workers: usize,
     budget: u64,
     all: bool,
-) -> Result<Answer, RunFault>
+) -> Result<Output, RunFault>
     requires some { 0 < workers }
-    requires few { workers ≤ 8 }
-    requires bounded { budget ≤ 1000000 }
+    requires few { workers ≤ MOST_WORKERS }
+    requires bounded { budget ≤ MOST_STEPS }
     ensures ok { IfOk result (λ answer.
-        IsRunAnswer ⟦<Script as Runs>⟧.is_run script.now workers budget all answer.status (string_bytes answer.text)) }
+        IsRunAnswer ⟦<Script as RunMeaning>⟧.is_run script.now workers budget all answer.status (string_bytes answer.text)) }
     ensures patient { result ≢ Err RunFault.Stopped }
     ensures alone { workers ≡ 1 → result ≢ Err RunFault.NoThread }
 {
     let report = run(rt, alloc, script, workers, budget, &Open)?;
-    Ok(report_answer(alloc, script, &report, budget, all)?)
+    Ok(report_answer(alloc, script, &report, all)?)
 }
 
 /// The answer to a script that is run by picks: the trace comes before the text of the report.
@@ -45,16 +43,16 @@ pub fn pick_answer(
     picks: &[u64],
     budget: u64,
     all: bool,
-) -> Result<Answer, AllocError>
-    requires { budget ≤ 1000000 }
+) -> Result<Output, AllocError>
+    requires { budget ≤ MOST_STEPS }
     ensures { IfOk result (λ answer.
-        IsPickAnswer ⟦<Script as Runs>⟧.is_picked_run script.now picks.now budget all answer.status (string_bytes answer.text)) }
+        IsPickAnswer ⟦<Script as RunMeaning>⟧.is_picked_run script.now picks.now budget all answer.status (string_bytes answer.text)) }
 {
     let report = run_picks(alloc, script, picks, budget)?;
     let mut text = trace_text(alloc, &report)?;
-    let answer = report_answer(alloc, script, &report, budget, all)?;
+    let answer = report_answer(alloc, script, &report, all)?;
     text.push_str(answer.text.as_str())?;
-    Ok(Answer {
+    Ok(Output {
         status: answer.status,
         text,
     })
@@ -64,91 +62,33 @@ pub fn pick_answer(
 fn report_answer(
     alloc: Global,
     script: &Script,
-    report: &Report<Value, Event>,
-    budget: u64,
+    report: &Report<Any, Event>,
     all: bool,
-) -> Result<Answer, AllocError>
-    requires { HasStates script.now.declarations report.now }
+) -> Result<Output, AllocError>
+    requires { report.now.outcome ≡ Ended → length report.now.states ≡ length (variables_of script.now.declarations) }
     ensures { IfOk result (λ answer.
-        IsReportAnswer (variables_of script.now.declarations) budget all report.now answer.status (string_bytes answer.text)) }
+        IsReportAnswer script.now all report.now answer.status (string_bytes answer.text)) }
+{
+    let text = report_text(alloc, script, report, all)?;
+    Ok(Output {
+        status: status_of(report),
+        text,
+    })
+}
+
+/// The status that goes with a report.
+fn status_of(report: &Report<Any, Event>) -> Status
+    ensures { result ≡ outcome_status report.now.blocked report.now.outcome }
 {
     match &report.outcome {
         Outcome::Ended => {
-            let text = report_text(alloc, script, report, all)?;
             if report.blocked == 0 {
-                Ok(Answer {
-                    status: Status::Done,
-                    text,
-                })
+                Status::Done
             } else {
-                Ok(Answer {
-                    status: Status::Blocked,
-                    text,
-                })
+                Status::Blocked
             }
         }
-        Outcome::Error {
-            kind,
-            variable,
-            task,
-        } => {
-            let text = error_answer(alloc, script.declarations(), *kind, *variable, task)?;
-            Ok(Answer {
-                status: Status::Error,
-                text,
-            })
-        }
-        Outcome::Budget => {
-            let text = budget_line(alloc, budget)?;
-            Ok(Answer {
-                status: Status::Budget,
-                text,
-            })
-        }
+        Outcome::Error { .. } => Status::Error,
+        Outcome::Budget => Status::Budget,
     }
-}
-
-/// The name of the variable with this number, `-` where there is none.
-fn variable_name(declarations: &[Declaration], variable: usize) -> &str
-    ensures { result.now ≡ variable_text (variables_of declarations.now) (Some variable) }
-{
-    let mut left = variable;
-    for i in 0..declarations.len() {
-        if let Declaration::Variable(name, _) = &declarations[i] {
-            if left == 0 {
-                return name.as_str();
-            }
-            left -= 1;
-        }
-    }
-    "-"
-}
-
-/// A variable's name in an error line.
-fn variable_text(declarations: &[Declaration], variable: Option<usize>) -> &str
-    ensures { result.now ≡ variable_text (variables_of declarations.now) variable }
-{
-    match variable {
-        None => "-",
-        Some(v) => variable_name(declarations, v),
-    }
-}
-
-/// The line of a run's error.
-fn error_answer(
-    alloc: Global,
-    declarations: &[Declaration],
-    kind: ErrorKind,
-    variable: Option<usize>,
-    task: &TaskName<Event>,
-) -> Result<String, AllocError>
-    ensures { IfOk result (λ text. string_bytes text ≡ error_text (kind_name kind) (variable_text (variables_of declarations.now) variable) (task_text task.now)) }
-{
-    let task = task.text(alloc)?;
-    error_line(
-        alloc,
-        kind_name(kind),
-        variable_text(declarations, variable),
-        task.as_str(),
-    )
 }

@@ -1,24 +1,21 @@
-ghost use Rattle.std.specs.Prelude.{◌≡◌, ◌≤◌, [], false, true, IfOk, IsOkAnd, string_bytes};
-ghost use Rattle.lvish_cli.specs.Orders.{IsWithin};
+ghost use Rattle.std.specs.Prelude.{◌≡◌, ◌≤◌, [], false, true, IfOk, IsOkAnd};
+ghost use Rattle.lvish_cli.specs.Orders.{IsInBounds};
 
 use crate::commands::{USUAL_STEPS, USUAL_WORKERS, program};
-use crate::order::{Order, UsageFault};
+use crate::order::{Order, Source, UsageFault};
 use crate::picks::Picks;
 use clap::error::ErrorKind;
 use clap::{ArgMatches, Error};
+use lvish_run::{MOST_STEPS, MOST_WORKERS};
 use std::alloc::{AllocError, Global};
 use std::convert::AsStr;
 
-const MOST_STEPS: u64 = 1_000_000;
-
-const MOST_WORKERS: usize = 8;
-
-/// The order that the words give, and the path of its script; the empty path is standard input.
-pub fn order_of<S: AsStr>(alloc: Global, words: &[S]) -> Result<(Order, String), UsageFault>
-    ensures within { IfOk result (λ asked. IsWithin asked.0) }
+/// The order that the words give, and where its script is.
+pub fn order_of<S: AsStr>(alloc: Global, words: &[S]) -> Result<(Order, Source), UsageFault>
+    ensures within { IfOk result (λ asked. IsInBounds asked.0) }
     // With no words, standard input is run with all defaults, and every variable is reported.
     ensures none { words.now ≡ [] → IsOkAnd result (λ asked.
-        (asked.0 ≡ Order.Run 2 100000 true) × (string_bytes asked.1 ≡ [])) }
+        (asked.0 ≡ Order.Run 2 100000 true) × (asked.1 ≡ Source.StandardInput)) }
 {
     if words.is_empty() {
         let order = Order::Run {
@@ -26,7 +23,7 @@ pub fn order_of<S: AsStr>(alloc: Global, words: &[S]) -> Result<(Order, String),
             budget: USUAL_STEPS,
             all: true,
         };
-        return Ok((order, String::new(alloc)));
+        return Ok((order, Source::StandardInput));
     }
     let command = program(alloc)?;
     match command.try_get_matches_from(words) {
@@ -35,9 +32,9 @@ pub fn order_of<S: AsStr>(alloc: Global, words: &[S]) -> Result<(Order, String),
     }
 }
 
-/// The order of words that match, and the path of its script.
-fn asked(alloc: Global, matches: &ArgMatches<'_>) -> Result<(Order, String), UsageFault>
-    ensures { IfOk result (λ asked. IsWithin asked.0) }
+/// The order of words that match, and the file of its script.
+fn asked(alloc: Global, matches: &ArgMatches<'_>) -> Result<(Order, Source), UsageFault>
+    ensures { IfOk result (λ asked. IsInBounds asked.0) }
 {
     let (order, words) = match matches.subcommand() {
         Some(("check", words)) => (check_of(words), words),
@@ -46,12 +43,12 @@ fn asked(alloc: Global, matches: &ArgMatches<'_>) -> Result<(Order, String), Usa
         _ => return Err(UsageFault::Refused(String::new(alloc))),
     };
     let path = String::from_str(alloc, words.get_str("file").unwrap_or(""))?;
-    Ok((order, path))
+    Ok((order, Source::File(path)))
 }
 
 /// The order of the words of a check.
 fn check_of(words: &ArgMatches<'_>) -> Order
-    ensures { IsWithin result }
+    ensures { IsInBounds result }
 {
     Order::Check {
         ends: words.get_flag("ends"),
@@ -61,7 +58,7 @@ fn check_of(words: &ArgMatches<'_>) -> Order
 
 /// The order of the words of a run.
 fn run_of(words: &ArgMatches<'_>) -> Order
-    ensures { IsWithin result }
+    ensures { IsInBounds result }
 {
     Order::Run {
         workers: workers_of(words),
@@ -72,7 +69,7 @@ fn run_of(words: &ArgMatches<'_>) -> Order
 
 /// The order of the words of a run by picks.
 fn pick_of(alloc: Global, words: &ArgMatches<'_>) -> Result<Order, AllocError>
-    ensures { IfOk result IsWithin }
+    ensures { IfOk result IsInBounds }
 {
     Ok(Order::Pick {
         picks: picks_of(alloc, words)?,

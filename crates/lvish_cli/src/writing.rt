@@ -1,7 +1,9 @@
-ghost use Rattle.std.specs.Prelude.{OnOk, OnErr};
+ghost use Rattle.std.specs.Prelude.{◌≡◌, ◌⊎◌, OnOk, OnErr};
 ghost use Rattle.std.specs.Io.KnownBytes.{Appends};
+ghost use Rattle.lvish_cli.specs.declared.status.Status.TheVariants.{Unwritten};
 ghost use Rattle.lvish_cli.specs.Streams.{TakesFront};
 
+use crate::status::Status;
 use std::io::Write;
 use thiserror::Error;
 
@@ -27,5 +29,16 @@ pub fn write_text<W: Write>(writer: &mut W, text: &[u8]) -> Result<(), WriteFaul
     match writer.flush() {
         Ok(()) => Ok(()),
         Err(_) => Err(WriteFault),
+    }
+}
+
+/// Writes the whole text, and answers the status, which is another one where the writer failed.
+pub(crate) fn write_answer<W: Write>(writer: &mut W, text: &[u8], status: Status) -> Status
+    ensures { ((result ≡ status) × Appends (W.contents writer.old) (W.contents writer.new) text.now)
+        ⊎ ((result ≡ Unwritten) × TakesFront (W.contents writer.old) (W.contents writer.new) text.now) }
+{
+    match write_text(writer, text) {
+        Ok(()) => status,
+        Err(_) => Status::Unwritten,
     }
 }

@@ -1,9 +1,4 @@
-pub mod Bools
-pub mod Numbers
-pub mod Kept
-pub mod Trees
-pub mod Patch
-pub mod Following
-pub mod Names
-pub mod Landing
-pub mod CodeSound
+mod Kept
+mod Patch
+mod Landing
+mod CodeSound

@@ -2,9 +2,7 @@
 use Rattle.std.proofs.Common.{◌≡◌, ℕ, ◌+◌, ◌-◌, List, [], ◌∷◌, ◌++◌, length, sym, ap, ◌∙◌, arith, append_assoc, length-append}
 use Rattle.std.specs.List.{slice_set}
 use Rattle.std.proofs.Math.Seq.{set-append_seam}
-use Rattle.lvish_code.specs.declared.operand.Operand.{Operand}
-use Rattle.lvish_code.specs.declared.instruction.Instruction.{Instruction}
-use Rattle.lvish_code.specs.declared.instruction.Instruction.TheVariants.{SkipIfZero, GoOn, BackUnlessZero}
+use Rattle.lvish_code.specs.Vocabulary.{Operand, Instruction, SkipIfZero, GoOn, BackUnlessZero}
 use Rattle.lvish_code.specs.Compile.{if_code, if_else_code, while_code}
 
 two_writes : (c a b : List Instruction) (x y i j : Instruction) → slice_set (slice_set (c ++ x ∷ (a ++ y ∷ b)) (length c) i) (length (c ++ i ∷ a)) j ≡ c ++ i ∷ (a ++ j ∷ b)

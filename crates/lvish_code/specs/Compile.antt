@@ -5,39 +5,19 @@ use Rattle.std.specs.Ordering.{int_eq}
 use Rattle.lvish_syntax.specs.Words.{Word}
 use Rattle.lvish_syntax.specs.Nested.{statements, nested}
 use Rattle.lvish_syntax.specs.Sound.{variable_names, pool_names, procedure_names, own_binds, locals_of}
-use Rattle.lvish_syntax.specs.declared.kind.SimpleKind.{SimpleKind}
-use Rattle.lvish_syntax.specs.declared.kind.SimpleKind.TheVariants.{Cell}
-use Rattle.lvish_syntax.specs.declared.kind.VariableKind.{VariableKind}
-use Rattle.lvish_syntax.specs.declared.kind.VariableKind.TheVariants.{Simple, Map, Pair, Tally}
-use Rattle.lvish_syntax.specs.declared.term.Term.{Term}
+use Rattle.lvish_code.specs.Vocabulary.{SimpleKind, Cell, VariableKind, Simple, Map, Pair, Tally, Term, LetValue, Threshold, Declaration, Command, Statement, out-Statement, Procedure, Script, Operand, Expression, Target, First, Second, Wanted, Put, Get, Fork, Handle, Freeze, Instruction, Ask, Let, Call, SkipIfZero, BackUnlessZero, GoOn, Return, Routine}
 use Rattle.lvish_syntax.specs.declared.term.Term.TheVariants as t
-use Rattle.lvish_syntax.specs.declared.value.Value.{Value}
-use Rattle.lvish_syntax.specs.declared.value.Value.TheVariants as v
-use Rattle.lvish_syntax.specs.declared.threshold.Threshold.{Threshold}
+use Rattle.lvish_syntax.specs.declared.let_value.LetValue.TheVariants as v
 use Rattle.lvish_syntax.specs.declared.threshold.Threshold.TheVariants as r
-use Rattle.lvish_syntax.specs.declared.declaration.Declaration.{Declaration}
 use Rattle.lvish_syntax.specs.declared.declaration.Declaration.TheVariants.{Variable, Pool}
-use Rattle.lvish_syntax.specs.declared.command.Command.{Command}
 use Rattle.lvish_syntax.specs.declared.command.Command.TheVariants as c
-use Rattle.lvish_syntax.specs.declared.statement.Statement.{Statement, Do, If', IfElse', While', Row_of-Statement, end_of-Statement, more_of-Statement}
-use Rattle.lvish_syntax.specs.declared.statement.Statement.TheViews.{out-Statement}
-use Rattle.lvish_syntax.specs.declared.procedure.Procedure.{Procedure}
-use Rattle.lvish_syntax.specs.declared.script.Script.{Script}
-use Rattle.lvish_code.specs.declared.operand.Operand.{Operand}
+use Rattle.lvish_syntax.specs.declared.statement.Statement.{Do, If', IfElse', While', Row_of-Statement, end_of-Statement, more_of-Statement}
 use Rattle.lvish_code.specs.declared.operand.Operand.TheVariants.{Local, Number}
-use Rattle.lvish_code.specs.declared.expression.Expression.{Expression}
 use Rattle.lvish_code.specs.declared.expression.Expression.TheVariants.{Same, Combined}
-use Rattle.lvish_code.specs.declared.target.Target.{Target}
 use Rattle.lvish_code.specs.declared.target.Target.TheVariants.{Whole, Entry, Side, Amount, Total}
-use Rattle.lvish_code.specs.declared.target.Side.TheVariants.{First, Second}
-use Rattle.lvish_code.specs.declared.wanted.Wanted.{Wanted}
 use Rattle.lvish_code.specs.declared.wanted.Wanted.TheVariants.{Any, In, At}
-use Rattle.lvish_code.specs.declared.instruction.Action.TheVariants.{Put, Get, Fork, Handle, Freeze}
-use Rattle.lvish_code.specs.declared.instruction.Instruction.{Instruction}
-use Rattle.lvish_code.specs.declared.instruction.Instruction.TheVariants.{Ask, Let, Call, SkipIfZero, BackUnlessZero, GoOn, Return}
-use Rattle.lvish_code.specs.declared.routine.Routine.{Routine}
-use Rattle.lvish_code.specs.declared.code.Code.{Code}
-use Rattle.lvish_code.specs.Numbering.{number_of, each_once}
+use Rattle.lvish_code.specs.Flat.{Code}
+use Rattle.lvish_code.specs.Numbering.{name_number, each_once}
 
 -- ---- names and numbers
 
@@ -57,6 +37,7 @@ local_names p = each_once (locals_of p)
 abbrev pub binds_of : Statement → List Word
 binds_of s = flat_map (λ s. own_binds (out-Statement s)) (nested s)
 
+-- the kind of a declared variable
 abbrev pub declared_kind : Declaration → List VariableKind
 declared_kind (Variable n k) = k ∷ []
 declared_kind (Pool p v) = []
@@ -77,14 +58,17 @@ names_of script p = record {
 
 -- ---- parts of instructions
 
+-- what stands for a term
 abbrev pub operand_of : Names → Term → Operand
-operand_of names (t.Local x) = Local (number_of names.locals x)
+operand_of names (t.Local x) = Local (name_number names.locals x)
 operand_of names (t.Number n) = Number n
 
-abbrev pub expression_of : Names → Value → Expression
+-- what a `let` gives
+abbrev pub expression_of : Names → LetValue → Expression
 expression_of names (v.Same a) = Same (operand_of names a)
 expression_of names (v.Combined a o b) = Combined (operand_of names a) o (operand_of names b)
 
+-- what a get waits for
 abbrev pub wanted_of : Names → Threshold → Wanted
 wanted_of names r.Any = Any
 wanted_of names (r.In zs) = In zs
@@ -110,13 +94,15 @@ part_of names (Some (Pair k j)) a = side_of k j a
 part_of names (Some Tally) a = Amount (operand_of names a)
 part_of names k a = Whole Cell
 
+-- the kind of a variable
 abbrev pub kind_in : Names → Word → Option VariableKind
-kind_in names v = slice_get names.kinds (number_of names.variables v)
+kind_in names v = slice_get names.kinds (name_number names.variables v)
 
 -- what a put or a get on this variable is about
 abbrev pub whole : Names → Word → Target
 whole names v = whole_of (kind_in names v)
 
+-- what a put or a get with a term on this variable is about
 abbrev pub part : Names → Word → Term → Target
 part names v a = part_of names (kind_in names v) a
 
@@ -124,16 +110,16 @@ part names v a = part_of names (kind_in names v) a
 
 -- the instruction of a statement of one line
 abbrev pub command_code : Names → Command → Instruction
-command_code names (c.Let x a) = Let (number_of names.locals x) (expression_of names a)
-command_code names (c.Put v a) = Ask (Put (number_of names.variables v) (whole names v) (operand_of names a))
-command_code names (c.PutAt v k a) = Ask (Put (number_of names.variables v) (part names v k) (operand_of names a))
-command_code names (c.Get x v w) = Ask (Get (number_of names.locals x) (number_of names.variables v) (whole names v) (wanted_of names w))
-command_code names (c.GetAt x v k w) = Ask (Get (number_of names.locals x) (number_of names.variables v) (part names v k) (wanted_of names w))
-command_code names (c.Fork n ts) = Ask (Fork (number_of names.procedures n) (map (operand_of names) ts))
-command_code names (c.Call n ts) = Call (number_of names.procedures n) (map (operand_of names) ts)
-command_code names (c.Handle p n) = Ask (Handle (number_of names.pools p) (number_of names.procedures n))
-command_code names (c.Freeze x v ps) = Ask (Freeze (number_of names.locals x) (number_of names.variables v) (map (number_of names.pools) ps) None)
-command_code names (c.FreezeEach x v ps n) = Ask (Freeze (number_of names.locals x) (number_of names.variables v) (map (number_of names.pools) ps) (Some (number_of names.procedures n)))
+command_code names (c.Let x a) = Let (name_number names.locals x) (expression_of names a)
+command_code names (c.Put v a) = Ask (Put (name_number names.variables v) (whole names v) (operand_of names a))
+command_code names (c.PutAt v k a) = Ask (Put (name_number names.variables v) (part names v k) (operand_of names a))
+command_code names (c.Get x v w) = Ask (Get (name_number names.locals x) (name_number names.variables v) (whole names v) (wanted_of names w))
+command_code names (c.GetAt x v k w) = Ask (Get (name_number names.locals x) (name_number names.variables v) (part names v k) (wanted_of names w))
+command_code names (c.Fork n ts) = Ask (Fork (name_number names.procedures n) (map (operand_of names) ts))
+command_code names (c.Call n ts) = Call (name_number names.procedures n) (map (operand_of names) ts)
+command_code names (c.Handle p n) = Ask (Handle (name_number names.pools p) (name_number names.procedures n))
+command_code names (c.Freeze x v ps) = Ask (Freeze (name_number names.locals x) (name_number names.variables v) (map (name_number names.pools) ps) None)
+command_code names (c.FreezeEach x v ps n) = Ask (Freeze (name_number names.locals x) (name_number names.variables v) (map (name_number names.pools) ps) (Some (name_number names.procedures n)))
 
 -- a block behind a test that passes it
 abbrev pub if_code : Operand → List Instruction → List Instruction
@@ -176,7 +162,7 @@ routine_of names p = record {
 -- the number of the variable of a declared pool, where the variables have these names
 abbrev pub declared_pool : List Word → Declaration → List ℕ
 declared_pool variables (Variable n k) = []
-declared_pool variables (Pool p v) = number_of variables v ∷ []
+declared_pool variables (Pool p v) = name_number variables v ∷ []
 
 -- the variable of each pool in order
 abbrev pub pool_variables : List Word → List Declaration → List ℕ
@@ -186,5 +172,5 @@ pool_variables variables ds = flat_map (declared_pool variables) ds
 pub record IsCodeOf (script : Script) (code : Code) : Type 0 where
   pub kinds : code.kinds ≡ variable_kinds script.declarations
   pub pools : code.pools ≡ pool_variables (variable_names script.declarations) script.declarations
-  pub main : code.main ≡ number_of (procedure_names script.procedures) (codes "main")
+  pub main : code.main ≡ name_number (procedure_names script.procedures) (codes "main")
   pub routines : code.routines ≡ map (λ p. routine_of (names_of script p) p) script.procedures

@@ -2,15 +2,8 @@
 use Rattle.std.specs.Prelude.{◌≡◌, ℕ, ◌+◌, ◌-◌, ◌≤◌, List, [], ◌∷◌, ◌++◌, length, Option, Some, None}
 use Rattle.std.specs.List.{slice_get}
 use Rattle.lvish_syntax.specs.Nested.{statements}
-use Rattle.lvish_syntax.specs.declared.term.Term.{Term}
-use Rattle.lvish_syntax.specs.declared.command.Command.{Command}
-use Rattle.lvish_syntax.specs.declared.statement.Statement.{Statement}
-use Rattle.lvish_syntax.specs.declared.statement.Statement.TheViews.{out-Statement}
+use Rattle.lvish_code.specs.Vocabulary.{Term, Command, Statement, out-Statement, Block, Operand, Instruction, SkipIfZero, BackUnlessZero, GoOn, Return}
 use Rattle.lvish_syntax.specs.declared.statement.Statement.TheOpen.{Statement-F, Do, If, IfElse, While}
-use Rattle.lvish_syntax.specs.declared.statement.Block.{Block}
-use Rattle.lvish_code.specs.declared.operand.Operand.{Operand}
-use Rattle.lvish_code.specs.declared.instruction.Instruction.{Instruction}
-use Rattle.lvish_code.specs.declared.instruction.Instruction.TheVariants.{SkipIfZero, BackUnlessZero, GoOn, Return}
 use Rattle.lvish_code.specs.Compile.{Names, operand_of, command_code, statement_code}
 
 -- the instructions stand in the code from this place on
@@ -29,11 +22,11 @@ pub data Follows (names : Names) (code : List Instruction) : ℕ → List Statem
 -- ---- what a statement's test chooses
 
 -- the term that a statement tests
-abbrev pub test_of : Statement-F Statement Block → Option Term
-test_of (Do c) = None
-test_of (If t a) = Some t
-test_of (IfElse t a b) = Some t
-test_of (While t a) = Some t
+abbrev pub tested_term : Statement-F Statement Block → Option Term
+tested_term (Do c) = None
+tested_term (If t a) = Some t
+tested_term (IfElse t a b) = Some t
+tested_term (While t a) = Some t
 
 -- the statements that follow where the term isn't 0, of a statement before others
 abbrev pub taken : Statement → Statement-F Statement Block → List Statement → List Statement
@@ -68,11 +61,12 @@ module _ (names : Names) (code : List Instruction) where
     pub rest : List Statement
     pub term : Term
     pub is : ks ≡ statement ∷ rest
-    pub tests : test_of (out-Statement statement) ≡ Some term
+    pub tests : tested_term (out-Statement statement) ≡ Some term
     pub operand_is : operand_of names term ≡ operand
     pub follows_taken : Follows names code if_not (taken statement (out-Statement statement) rest)
     pub follows_passed : Follows names code if_zero (passed (out-Statement statement) rest)
 
+  -- what an instruction does at a place from which these statements follow
   abbrev pub Does : ℕ → List Statement → Instruction → Type 0
   Does place ks (SkipIfZero o n) = DoesTest ks o (place + 1) (place + 1 + n)
   Does place ks (BackUnlessZero o n) = DoesTest ks o (place - n) (place + 1) × (n ≤ place)

@@ -6,8 +6,8 @@ use Rattle.lvish_syntax.specs.Words.{Word}
 use Rattle.lvish_syntax.specs.Name.{has_name}
 
 -- the number of a name among names, from 0: where it stands first, and the length where it doesn't stand
-abbrev pub number_of : List Word → Word → ℕ
-number_of names x = position_or_len (λ y. bytes_eq y x) names
+abbrev pub name_number : List Word → Word → ℕ
+name_number names x = position_or_len (λ y. bytes_eq y x) names
 
 -- names, and one more where it isn't among them
 abbrev pub with_name : List Word → Word → List Word

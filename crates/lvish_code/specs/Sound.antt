@@ -2,40 +2,30 @@
 use Rattle.std.specs.Prelude.{◌≡◌, ℕ, ◌+◌, ◌<◌, ◌≤◌, ℤ, Bool, true, false, ◌&&◌, ◌==◌, nat_lt, nat_le, List, length, Option, Some, None, is_some}
 use Rattle.std.specs.List.{slice_get, list_all}
 use Rattle.lvish_syntax.specs.Sound.{is_level, are_one}
-use Rattle.lvish_syntax.specs.declared.kind.SimpleKind.{SimpleKind}
-use Rattle.lvish_syntax.specs.declared.kind.SimpleKind.TheVariants.{Cell, Set, Max}
-use Rattle.lvish_syntax.specs.declared.kind.VariableKind.{VariableKind}
-use Rattle.lvish_syntax.specs.declared.kind.VariableKind.TheVariants.{Simple, Map, Pair, Tally}
-use Rattle.lvish_code.specs.declared.operand.Operand.{Operand}
+use Rattle.lvish_code.specs.Vocabulary.{SimpleKind, Cell, Set, Max, VariableKind, Simple, Map, Pair, Tally, Operand, Expression, Target, First, Second, Wanted, Action, Put, Get, Fork, Handle, Freeze, Instruction, Ask, Let, Call, SkipIfZero, BackUnlessZero, GoOn, Return, Routine}
 use Rattle.lvish_code.specs.declared.operand.Operand.TheVariants.{Local, Number}
-use Rattle.lvish_code.specs.declared.expression.Expression.{Expression}
 use Rattle.lvish_code.specs.declared.expression.Expression.TheVariants.{Same, Combined}
-use Rattle.lvish_code.specs.declared.target.Target.{Target}
 use Rattle.lvish_code.specs.declared.target.Target.TheVariants.{Whole, Entry, Side, Amount, Total}
-use Rattle.lvish_code.specs.declared.target.Side.TheVariants.{First, Second}
-use Rattle.lvish_code.specs.declared.wanted.Wanted.{Wanted}
 use Rattle.lvish_code.specs.declared.wanted.Wanted.TheVariants.{Any, In, At}
-use Rattle.lvish_code.specs.declared.instruction.Action.{Action}
-use Rattle.lvish_code.specs.declared.instruction.Action.TheVariants.{Put, Get, Fork, Handle, Freeze}
-use Rattle.lvish_code.specs.declared.instruction.Instruction.{Instruction}
-use Rattle.lvish_code.specs.declared.instruction.Instruction.TheVariants.{Ask, Let, Call, SkipIfZero, BackUnlessZero, GoOn, Return}
-use Rattle.lvish_code.specs.declared.routine.Routine.{Routine}
 
--- whether there is a routine, and it takes so many values
-abbrev pub takes : ℕ → Option Routine → Bool
-takes count None = false
-takes count (Some r) = r.parameters == count
+-- whether there is a routine, and it takes this many values
+abbrev pub takes_count : ℕ → Option Routine → Bool
+takes_count count None = false
+takes_count count (Some r) = r.parameters == count
 
--- ---- among so many locals
+-- ---- among this many locals
 
+-- whether an operand names a local that exists
 abbrev pub is_operand_sound : ℕ → Operand → Bool
 is_operand_sound n (Local x) = nat_lt x n
 is_operand_sound n (Number z) = true
 
+-- whether the operands of an expression do
 abbrev pub is_expression_sound : ℕ → Expression → Bool
 is_expression_sound n (Same a) = is_operand_sound n a
 is_expression_sound n (Combined a o b) = is_operand_sound n a && is_operand_sound n b
 
+-- whether two kinds are one
 abbrev pub is_same_kind : SimpleKind → SimpleKind → Bool
 is_same_kind Cell Cell = true
 is_same_kind Set Set = true
@@ -87,28 +77,30 @@ abbrev pub is_on : ℕ → Option ℕ → Bool
 is_on v None = false
 is_on v (Some w) = w == v
 
+-- whether the procedure of an `each`, if there is one, takes a key and a number
 abbrev pub is_each_sound : List Routine → Option ℕ → Bool
 is_each_sound rs None = true
-is_each_sound rs (Some k) = takes 2 (slice_get rs k)
+is_each_sound rs (Some k) = takes_count 2 (slice_get rs k)
 
--- whether an action names what there is, and fits it
+-- whether an action names what exists, and fits it
 abbrev pub is_action_sound : List VariableKind → List ℕ → List Routine → ℕ → Action → Bool
 is_action_sound kinds pools rs n (Put v t a) = is_some (target_kind t) && is_target_sound (slice_get kinds v) n t && is_operand_sound n a
 is_action_sound kinds pools rs n (Get x v t w) = nat_lt x n && is_target_sound (slice_get kinds v) n t && is_wanted_sound (target_kind t) n w
-is_action_sound kinds pools rs n (Fork k os) = takes (length os) (slice_get rs k) && list_all (is_operand_sound n) os
-is_action_sound kinds pools rs n (Handle p k) = nat_lt p (length pools) && takes 2 (slice_get rs k)
+is_action_sound kinds pools rs n (Fork k os) = takes_count (length os) (slice_get rs k) && list_all (is_operand_sound n) os
+is_action_sound kinds pools rs n (Handle p k) = nat_lt p (length pools) && takes_count 2 (slice_get rs k)
 is_action_sound kinds pools rs n (Freeze x v ps each) = nat_lt x n && nat_lt v (length kinds) && list_all (λ p. is_on v (slice_get pools p)) ps && is_each_sound rs each
 
+-- whether an instruction names what exists, and fits it
 abbrev pub is_instruction_sound : List VariableKind → List ℕ → List Routine → ℕ → Instruction → Bool
 is_instruction_sound kinds pools rs n (Ask a) = is_action_sound kinds pools rs n a
 is_instruction_sound kinds pools rs n (Let x e) = nat_lt x n && is_expression_sound n e
-is_instruction_sound kinds pools rs n (Call k os) = takes (length os) (slice_get rs k) && list_all (is_operand_sound n) os
+is_instruction_sound kinds pools rs n (Call k os) = takes_count (length os) (slice_get rs k) && list_all (is_operand_sound n) os
 is_instruction_sound kinds pools rs n (SkipIfZero a m) = is_operand_sound n a
 is_instruction_sound kinds pools rs n (BackUnlessZero a m) = is_operand_sound n a
 is_instruction_sound kinds pools rs n (GoOn m) = true
 is_instruction_sound kinds pools rs n Return = true
 
--- whether an instruction at this place among so many leads to places among them alone, and is the last one where it returns
+-- whether an instruction at this place among this many leads only to places among them, and is the last one where it returns
 abbrev pub lands : ℕ → ℕ → Instruction → Bool
 lands count place (SkipIfZero a m) = nat_lt (place + 1 + m) count
 lands count place (BackUnlessZero a m) = nat_le m place && nat_lt (place + 1) count
@@ -116,16 +108,18 @@ lands count place (GoOn m) = nat_lt (place + 1 + m) count
 lands count place Return = place + 1 == count
 lands count place i = nat_lt (place + 1) count
 
+-- what holds of each routine
 pub record IsRoutineSound (kinds : List VariableKind) (pools : List ℕ) (rs : List Routine) (r : Routine) : Type 0 where
   pub parameters : r.parameters ≤ r.locals
   pub begins : 0 < length r.instructions
   pub instructions : list_all (is_instruction_sound kinds pools rs r.locals) r.instructions ≡ true
   pub landing : (place : ℕ) (i : Instruction) → slice_get r.instructions place ≡ Some i → lands (length r.instructions) place i ≡ true
 
+-- what holds of each code
 pub record IsCodeSound (kinds : List VariableKind) (pools : List ℕ) (main : ℕ) (rs : List Routine) : Type 0 where
   pub few_variables : length kinds ≤ 64
   pub few_pools : length pools ≤ 64
   pub few_routines : length rs ≤ 64
   pub pools_known : list_all (λ v. nat_lt v (length kinds)) pools ≡ true
-  pub main_takes : takes 0 (slice_get rs main) ≡ true
+  pub main_takes : takes_count 0 (slice_get rs main) ≡ true
   pub routines_sound : (k : ℕ) (r : Routine) → slice_get rs k ≡ Some r → IsRoutineSound kinds pools rs r

@@ -8,6 +8,7 @@ use crate::routine::{Routine, Routines};
 use crate::tables::{Tables, pool_variables};
 use lvish_syntax::{Script, VariableKind};
 use std::alloc::{AllocError, Global};
+use std::marker::Model;
 
 /// The flat code of a script.
 ///
@@ -19,7 +20,15 @@ pub struct Code {
     pools: Indices,
     main: usize,
     routines: Routines,
-    pub ghost sound: { IsCodeSound kinds pools main routines },
+    ghost sound: { IsCodeSound kinds pools main routines },
+}
+
+impl Model for Code {
+    ghost use Rattle.lvish_code.specs.Flat.{Code};
+
+    ghost Value = { Code };
+
+    ghost view = { λ c. record { kinds = c.kinds; pools = c.pools; main = c.main; routines = c.routines; sound = c.sound } };
 }
 
 impl Code {

@@ -34,11 +34,11 @@ pub enum Instruction {
     Let(usize, Expression),
     /// Runs the procedure on the values of the operands in a frame of its own.
     Call(usize, Operands),
-    /// A counted test: where the operand is 0, passes so many instructions forward.
+    /// A counted test: where the operand is 0, passes this many instructions forward.
     SkipIfZero(Operand, usize),
-    /// A counted test: where the operand isn't 0, goes to the instruction that stands so many before.
+    /// A counted test: where the operand isn't 0, goes to the instruction this many places before.
     BackUnlessZero(Operand, usize),
-    /// Passes so many instructions forward.
+    /// Passes this many instructions forward.
     GoOn(usize),
     /// The end of the procedure.
     Return,

@@ -1,8 +1,8 @@
 ghost use Rattle.std.specs.Prelude.{◌≡◌, OnOk, [], length};
-ghost use Rattle.lvish_code.specs.Numbering.{number_of, with_name};
+ghost use Rattle.lvish_code.specs.Numbering.{name_number, with_name};
 
 use indexmap::IndexSet;
-use lvish_syntax::Name;
+use lvish_syntax::Identifier;
 use std::alloc::{AllocError, Global};
 use std::marker::Model;
 
@@ -30,7 +30,7 @@ impl<'a> Numbering<'a> {
     }
 
     /// Adds a name, unless it is there.
-    pub fn add(&mut self, name: &'a Name) -> Result<(), AllocError>
+    pub fn add(&mut self, name: &'a Identifier) -> Result<(), AllocError>
         ensures { OnOk result (self.new ≡ with_name self.old name.now) }
     {
         self.names.insert_full(name.as_str())?;
@@ -46,7 +46,7 @@ impl<'a> Numbering<'a> {
 
     /// The number of a name, and how many names there are where it isn't one of them.
     pub fn number_of(&self, name: &str) -> usize
-        ensures { result ≡ number_of self.now name.now }
+        ensures { result ≡ name_number self.now name.now }
     {
         self.names.get_index_of(name).unwrap_or(self.names.len())
     }

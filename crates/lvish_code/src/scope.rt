@@ -6,7 +6,9 @@ use crate::operand::{Operand, Operands};
 use crate::tables::Tables;
 use crate::target::{Side, Target};
 use crate::wanted::Wanted;
-use lvish_syntax::{Command, Name, Names, SimpleKind, Term, Threshold, Value, VariableKind};
+use lvish_syntax::{
+    Command, Identifier, Identifiers, LetValue, SimpleKind, Term, Threshold, VariableKind,
+};
 use std::alloc::{AllocError, Global};
 
 /// What the names in a procedure stand for.
@@ -18,32 +20,32 @@ pub struct Scope<'t, 's> {
 
 impl Scope<'_, '_> {
     ghost use Rattle.std.specs.Prelude.{◌≡◌, IfOk, map};
-    ghost use Rattle.lvish_code.specs.Numbering.{number_of};
+    ghost use Rattle.lvish_code.specs.Numbering.{name_number};
     ghost use Rattle.lvish_code.specs.Compile.{operand_of, expression_of, wanted_of, kind_in, whole, part, command_code};
     ghost use Rattle.lvish_code.specs.InScope.{names_in};
     ghost use Rattle.lvish_code.specs.declared.instruction.Action.TheVariants.{Put, Get, Freeze};
     ghost use Rattle.lvish_code.specs.declared.instruction.Instruction.TheVariants.{Ask};
 
-    fn local(&self, name: &Name) -> usize
-        ensures { result ≡ number_of (names_in self.now).locals name.now }
+    fn local(&self, name: &Identifier) -> usize
+        ensures { result ≡ name_number (names_in self.now).locals name.now }
     {
         self.locals.number_of(name.as_str())
     }
 
-    fn variable(&self, name: &Name) -> usize
-        ensures { result ≡ number_of (names_in self.now).variables name.now }
+    fn variable(&self, name: &Identifier) -> usize
+        ensures { result ≡ name_number (names_in self.now).variables name.now }
     {
         self.tables.variables.number_of(name.as_str())
     }
 
-    fn pool(&self, name: &Name) -> usize
-        ensures { result ≡ number_of (names_in self.now).pools name.now }
+    fn pool(&self, name: &Identifier) -> usize
+        ensures { result ≡ name_number (names_in self.now).pools name.now }
     {
         self.tables.pools.number_of(name.as_str())
     }
 
-    fn procedure(&self, name: &Name) -> usize
-        ensures { result ≡ number_of (names_in self.now).procedures name.now }
+    fn procedure(&self, name: &Identifier) -> usize
+        ensures { result ≡ name_number (names_in self.now).procedures name.now }
     {
         self.tables.procedures.number_of(name.as_str())
     }
@@ -68,8 +70,8 @@ impl Scope<'_, '_> {
         Ok(Operands::new(operands))
     }
 
-    fn pools(&self, alloc: Global, names: &[Name]) -> Result<Indices, AllocError>
-        ensures { IfOk result (λ p. p ≡ map (number_of (names_in self.now).pools) names.now) }
+    fn pools(&self, alloc: Global, names: &[Identifier]) -> Result<Indices, AllocError>
+        ensures { IfOk result (λ p. p ≡ map (name_number (names_in self.now).pools) names.now) }
     {
         let mut pools = Vec::with_capacity(alloc, names.len())?;
         for name in names {
@@ -78,12 +80,12 @@ impl Scope<'_, '_> {
         Ok(Indices::new(pools))
     }
 
-    fn expression(&self, value: &Value) -> Expression
+    fn expression(&self, value: &LetValue) -> Expression
         ensures { result ≡ expression_of (names_in self.now) value.now }
     {
         match value {
-            Value::Same(term) => Expression::Same(self.operand(term)),
-            Value::Combined(left, operator, right) => {
+            LetValue::Same(term) => Expression::Same(self.operand(term)),
+            LetValue::Combined(left, operator, right) => {
                 Expression::Combined(self.operand(left), *operator, self.operand(right))
             }
         }
@@ -101,7 +103,7 @@ impl Scope<'_, '_> {
         }
     }
 
-    fn kind(&self, variable: &Name) -> Option<VariableKind>
+    fn kind(&self, variable: &Identifier) -> Option<VariableKind>
         ensures { result ≡ kind_in (names_in self.now) variable.now }
     {
         self.tables
@@ -111,7 +113,7 @@ impl Scope<'_, '_> {
             .copied()
     }
 
-    fn whole(&self, variable: &Name) -> Target
+    fn whole(&self, variable: &Identifier) -> Target
         ensures { result ≡ whole (names_in self.now) variable.now }
     {
         match self.kind(variable) {
@@ -121,7 +123,7 @@ impl Scope<'_, '_> {
         }
     }
 
-    fn part(&self, variable: &Name, place: &Term) -> Target
+    fn part(&self, variable: &Identifier, place: &Term) -> Target
         ensures { result ≡ part (names_in self.now) variable.now place.now }
     {
         match self.kind(variable) {
@@ -135,8 +137,8 @@ impl Scope<'_, '_> {
         }
     }
 
-    fn put(&self, variable: &Name, target: Target, term: &Term) -> Instruction
-        ensures { result ≡ Ask (Put (number_of (names_in self.now).variables variable.now) target (operand_of (names_in self.now) term.now)) }
+    fn put(&self, variable: &Identifier, target: Target, term: &Term) -> Instruction
+        ensures { result ≡ Ask (Put (name_number (names_in self.now).variables variable.now) target (operand_of (names_in self.now) term.now)) }
     {
         Instruction::Ask(Action::Put(self.variable(variable), target, self.operand(term)))
     }
@@ -144,12 +146,12 @@ impl Scope<'_, '_> {
     fn get(
         &self,
         alloc: Global,
-        local: &Name,
-        variable: &Name,
+        local: &Identifier,
+        variable: &Identifier,
         target: Target,
         threshold: &Threshold,
     ) -> Result<Instruction, AllocError>
-        ensures { IfOk result (λ i. i ≡ Ask (Get (number_of (names_in self.now).locals local.now) (number_of (names_in self.now).variables variable.now) target (wanted_of (names_in self.now) threshold.now))) }
+        ensures { IfOk result (λ i. i ≡ Ask (Get (name_number (names_in self.now).locals local.now) (name_number (names_in self.now).variables variable.now) target (wanted_of (names_in self.now) threshold.now))) }
     {
         let wanted = self.wanted(alloc, threshold)?;
         let local = self.local(local);
@@ -159,12 +161,12 @@ impl Scope<'_, '_> {
     fn freeze(
         &self,
         alloc: Global,
-        local: &Name,
-        variable: &Name,
-        pools: &Names,
+        local: &Identifier,
+        variable: &Identifier,
+        pools: &Identifiers,
         each: Option<usize>,
     ) -> Result<Instruction, AllocError>
-        ensures { IfOk result (λ i. i ≡ Ask (Freeze (number_of (names_in self.now).locals local.now) (number_of (names_in self.now).variables variable.now) (map (number_of (names_in self.now).pools) pools.now) each)) }
+        ensures { IfOk result (λ i. i ≡ Ask (Freeze (name_number (names_in self.now).locals local.now) (name_number (names_in self.now).variables variable.now) (map (name_number (names_in self.now).pools) pools.now) each)) }
     {
         let pools = self.pools(alloc, pools.as_slice())?;
         let local = self.local(local);

@@ -1,18 +1,19 @@
 -- What the entries of a put bring.
-use Rattle.std.proofs.Common.{◌≡◌, ◌==◌, ℕ, Bool, true, false, not, ◌&&◌, ◌||◌, List, [], ◌∷◌, map, filter, length, Option, Some, None, is_some, true≢false, refl, sym, ◌∙◌, ap, subst, arith}
+use Rattle.std.proofs.Common.{◌≡◌, ◌==◌, ℕ, Bool, true, false, not, ◌&&◌, ◌||◌, List, [], ◌∷◌, map, filter, length, Option, Some, None, is_some, true≢false, refl, sym, ◌∙◌, ap, subst, arith, ◌++◌}
 use Rattle.std.proofs.lemmas.Bool.Decides.{nat_tests}
 use Rattle.std.specs.declared.cmp.Ordering.{Ordering}
 use Rattle.std.specs.declared.cmp.Ordering.TheVariants.{Less, Equal, Greater}
 use Rattle.std.specs.Ordering.{eq_by_cmp, is_eq, ordering_then}
-use Rattle.std.specs.Cmp.{IsTotalOrder, Equal-is, alike_right, eq_by_cmp_equiv, then_flip, tied_then}
+use Rattle.std.specs.Cmp.{IsTotalOrder, Equal-is, eq_by_cmp_equiv, on_total, then_total, tied_then}
 use Rattle.std.specs.Set.{is_member}
 use Rattle.std.specs.List.Sorted.{IsStrictlySortedBy}
 use Rattle.std.proofs.lemmas.Map.Made.{is_member-filter}
 use Rattle.std.proofs.lemmas.List.Kept.{IsStrictlySortedBy-filter}
-use Rattle.lvish_lattice.specs.Lattice.{IsJoin, IsBelow, HasEvents, fresh_of, events_beyond}
+use Rattle.lvish_lattice.specs.Lattice.{IsJoin, IsAtOrBelow, HasEvents, fresh_of, events_beyond}
 use Rattle.lvish_lattice.specs.Ascending.{same_members, nothing_rises}
-use Rattle.lvish_compound.specs.Keyed.{key, at}
-use Rattle.lvish_compound.specs.KeyedEvents.{both_tie, by_both, events_by, events_of, events_have, events_rise}
+use Rattle.lvish_compound.specs.Keyed.{key, at, both_tie, by_both, events_by, events_of}
+use Rattle.lvish_compound.specs.laws.KeyedLaws.{events_have, events_rise}
+use Rattle.std.proofs.lemmas.List.{append-nil}
 
 pub no_length : {A : Type 0} (xs : List A) (n : ℕ) → length xs ≡ n → true ≡ (n == 0) → xs ≡ []
 no_length [] n e t = refl
@@ -29,21 +30,8 @@ module _ {K E : Type 0} (R : K → K → Ordering) (C : E → E → Ordering) (o
   both_equal Equal c h = (refl, h)
   both_equal Greater c h = absurd (cc h)
 
-  chain : (x y z : K × E) (k m : Ordering) → R x.0 y.0 ≡ k → R y.0 z.0 ≡ m → ordering_then k (C x.1 y.1) ≡ Less → ordering_then m (C y.1 z.1) ≡ Less → by_both R C x z ≡ Less
-  chain x y z Less Less a b p q = ap (λ r. ordering_then r (C x.1 z.1)) (o.trans x.0 y.0 z.0 a b)
-  chain x y z Less Equal a b p q = ap (λ r. ordering_then r (C x.1 z.1)) (sym (alike_right o y.0 z.0 x.0 b) ∙ a)
-  chain x y z Equal Less a b p q = ap (λ r. ordering_then r (C x.1 z.1)) (o.congr x.0 y.0 z.0 a ∙ b)
-  chain x y z Equal Equal a b p q = ap (λ r. ordering_then r (C x.1 z.1)) (o.congr x.0 y.0 z.0 a ∙ b) ∙ oc.trans x.1 y.1 z.1 p q
-  chain x y z Greater m a b p q = absurd (cc p)
-  chain x y z Less Greater a b p q = absurd (cc q)
-  chain x y z Equal Greater a b p q = absurd (cc q)
-
   total_both : IsTotalOrder (by_both R C)
-  total_both = record {
-    antisymm = λ x y. (λ i. ordering_then (o.antisymm x.0 y.0 i) (oc.antisymm x.1 y.1 i)) ∙ then_flip (R y.0 x.0) (C y.1 x.1);
-    trans = λ x y z p q. chain x y z (R x.0 y.0) (R y.0 z.0) refl refl p q;
-    congr = λ x y z e. let b = both_equal (R x.0 y.0) (C x.1 y.1) e in λ i. ordering_then (o.congr x.0 y.0 z.0 b.0 i) (oc.congr x.1 y.1 z.1 b.1 i);
-  }
+  total_both = then_total (on_total (λ (p : K × E). p.0) o) (on_total (λ (p : K × E). p.1) oc)
 
 -- the part of a lattice
 module _ {L E : Type 0} {least : L} {join : L → L → Option L} {ev : L → List E} (C : E → E → Ordering) (oc : IsTotalOrder C) (same_event : (x y : E) → C x y ≡ Equal → x ≡ y) (j : IsJoin least join) (h : HasEvents least join (eq_by_cmp C) C ev) where
@@ -90,18 +78,12 @@ module _ {L E : Type 0} {least : L} {join : L → L → Option L} {ev : L → Li
   old_join : (x p c : L) → join x p ≡ Some c → kept x (ev c) ≡ [] → c ≡ x
   old_join x p c e n = h.determine c x (same_members oc same_event _ _ (h.ascending c) (h.ascending x) (λ q. only_old (has (ev x) q) (has (ev p) q) (has (ev c) q) (h.union x p c e q) (sym (kept_has x (ev c) q) ∙ ap (λ ys. has ys q) n)))
 
-  pub nothing_fresh : (x p : L) → fresh_of join (eq_by_cmp C) ev x p ≡ [] → (IsBelow join p x → ⊥) → join x p ≡ None
+  pub nothing_fresh : (x p : L) → fresh_of join (eq_by_cmp C) ev x p ≡ [] → (IsAtOrBelow join p x → ⊥) → join x p ≡ None
   nothing_fresh x p n b = by_join (join x p) refl n
     where
       by_join : (r : Option L) → join x p ≡ r → events_beyond (eq_by_cmp C) ev x r ≡ [] → r ≡ None
       by_join None e n = refl
       by_join (Some c) e n = absurd (b (j.commutative p x ∙ e ∙ ap Some (old_join x p c e n)))
-
-  pub something_fresh : (x p : L) → (fresh_of join (eq_by_cmp C) ev x p ≡ [] → ⊥) → is_some (join x p) ≡ true
-  something_fresh x p n = elim (join x p) as (λ r. (events_beyond (eq_by_cmp C) ev x r ≡ [] → ⊥) → is_some r ≡ true) [ None ↦ λ n. absurd (n refl) | Some c ↦ λ _. refl ] n
-
-  pub below_joins : (x p : L) → IsBelow join p x → is_some (join x p) ≡ true
-  below_joins x p b = ap is_some (j.commutative x p ∙ b)
 
   -- the same by a test that holds where two events tie
   module _ (eq : E → E → Bool) (ties : (x y : E) → eq x y ≡ is_eq (C x y)) where
@@ -111,14 +93,8 @@ module _ {L E : Type 0} {least : L} {join : L → L → Option L} {ev : L → Li
     pub brings_all : (x p : L) (vs : List E) → least ≡ x → vs ≡ ev p → (is_some (join x p) ≡ true) × (vs ≡ fresh_of join eq ev x p)
     brings_all x p vs e f = subst (λ (z : L). (is_some (join z p) ≡ true) × (vs ≡ fresh_of join eq ev z p)) e ((to_least p).0, f ∙ (to_least p).1 ∙ by_test least p)
 
-    pub brings_top : (x held p : L) (vs : List E) → held ≡ x → vs ≡ fresh_of join eq ev held p → vs ≡ [] → (IsBelow join p held → ⊥) → join x p ≡ None
+    pub brings_top : (x held p : L) (vs : List E) → held ≡ x → vs ≡ fresh_of join eq ev held p → vs ≡ [] → (IsAtOrBelow join p held → ⊥) → join x p ≡ None
     brings_top x held p vs e f n b = ap (λ z. join z p) (sym e) ∙ nothing_fresh held p (by_test held p ∙ sym f ∙ n) b
-
-    pub brings_some : (x held p : L) (vs : List E) → held ≡ x → vs ≡ fresh_of join eq ev held p → (vs ≡ [] → ⊥) → (is_some (join x p) ≡ true) × (vs ≡ fresh_of join eq ev x p)
-    brings_some x held p vs e f n = subst (λ (z : L). (is_some (join z p) ≡ true) × (vs ≡ fresh_of join eq ev z p)) e (something_fresh held p (λ h. n (f ∙ sym (by_test held p) ∙ h)), f)
-
-    pub brings_below : (x held p : L) (vs : List E) → held ≡ x → vs ≡ fresh_of join eq ev held p → IsBelow join p held → (is_some (join x p) ≡ true) × (vs ≡ fresh_of join eq ev x p)
-    brings_below x held p vs e f b = subst (λ (z : L). (is_some (join z p) ≡ true) × (vs ≡ fresh_of join eq ev z p)) e (below_joins held p b, f)
 
   -- the whole list of entries
   module _ {K : Type 0} (R : K → K → Ordering) (o : IsTotalOrder R) (same_key : (x y : K) → R x y ≡ Equal → x ≡ y) where
@@ -154,3 +130,7 @@ module _ {L E : Type 0} {least : L} {join : L → L → Option L} {ev : L → Li
         ∙ sym (by_tie (events_by (fresh_at es) fs) q ∙ events_have R C least join (fresh_at es) o same_key (λ k. least_brings (at R least join es k)) fs t q.0 q.1
         ∙ ap (λ r. has (events_beyond (eq_by_cmp C) ev (at R least join es q.0) r) q.1) (joins q.0)
         ∙ kept_has (at R least join es q.0) (ev (at R least join gs q.0)) q.1))
+
+module _ {K L E : Type 0} (ev : K → L → List E) where
+  pub events_all : (all old : List (K × E)) (xs : List (K × L)) → old ++ events_by ev xs ≡ all → xs ≡ [] → old ≡ all
+  events_all all old xs h e = sym (append-nil old) ∙ ap (λ zs. old ++ events_by ev zs) (sym e) ∙ h

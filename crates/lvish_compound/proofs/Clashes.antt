@@ -1,9 +1,9 @@
 -- Where joins are top, and where states clash.
 use Rattle.std.specs.Prelude.{◌≡◌, ◌⊎◌, ◌↔◌, true, false, cond, List, [], ◌∷◌, map, Option, Some, None, option_and_then, refl}
 use Rattle.std.proofs.Common.{sym, ◌∙◌, ap, inl, inr, ⊎_elim}
-use Rattle.std.specs.Cmp.{IsTotalOrder, tied_itself}
+use Rattle.std.specs.Cmp.{IsTotalOrder}
 use Rattle.std.specs.List.Sorted.{IsStrictlySortedBy}
-use Rattle.std.specs.Ordering.{eq_by_cmp, is_eq}
+use Rattle.std.specs.Ordering.{eq_by_cmp}
 use Rattle.std.specs.declared.cmp.Ordering.{Ordering}
 use Rattle.std.specs.declared.cmp.Ordering.TheVariants.{Equal}
 use Rattle.std.specs.declared.cmp.Ord as ord
@@ -16,8 +16,11 @@ use Rattle.lvish_lattice.specs.Top.{IsTopWhere}
 use Rattle.lvish_lattice.specs.declared.lattice.Lattice as lattice
 use Rattle.lvish_compound.specs.declared.map_of.MapOf.{MapOf}
 use Rattle.lvish_compound.specs.Clashes.{JoinToTop, AtSomeKey, AtSomeSide}
-use Rattle.lvish_compound.specs.Keyed.{key, at, add, add_all, add_there, add_joins, add_rises, at_below}
+use Rattle.lvish_compound.specs.Keyed.{key, at, add, add_all}
+use Rattle.lvish_compound.specs.laws.KeyedLaws.{add_there, add_joins, add_rises, at_below, at_first}
+use Rattle.lvish_compound.specs.laws.Pointwise.{right_unit}
 use Rattle.lvish_compound.specs.MapOf as map_of
+use Rattle.lvish_compound.specs.laws.MapLaws as map_laws
 use Rattle.lvish_compound.specs.Pair as pair
 
 module _ {K L : Type 0} (R : K → K → Ordering) (least : L) (join : L → L → Option L) (o : IsTotalOrder R) (j : IsJoin least join) where
@@ -35,18 +38,12 @@ module _ {K L : Type 0} (R : K → K → Ordering) (least : L) (join : L → L �
       by_join None e = refl
       by_join (Some w) e = let m = add_there R least join o j k v es w e in absurd (some_is_not_none (add R least join k v es) m.0 m.1 h)
 
-  at_first : (f : K × L) (fs es : List (K × L)) → join (at R least join es f.0) f.1 ≡ None → TopAt es (f ∷ fs) f.0
-  at_first f fs es h = ap (λ c. join (at R least join es f.0) (cond (is_eq c) f.1 (at R least join fs f.0))) (tied_itself o f.0) ∙ h
-
-  right_unit : (a : L) → join a least ≡ Some a
-  right_unit a = j.commutative a least ∙ j.unit a
-
   -- a key where the rest joins to top, once the first entry is added, isn't that of the entry
   at_later : (f : K × L) (fs es gs : List (K × L)) (q : K) → Ascends es → Ascends (f ∷ fs) → add R least join f.0 f.1 es ≡ Some gs → TopAt gs fs q → TopAt es (f ∷ fs) q
   unfolding IsStrictlySortedBy
   at_later f fs es gs q s t e top = elim (eq_by_cmp R q f.0) as (λ b. eq_by_cmp R q f.0 ≡ b → join (at R least join es q) (cond b f.1 least) ≡ Some (at R least join gs q) → join (at R least join es q) (cond b f.1 (at R least join fs q)) ≡ None) [
-    | true ↦ λ is one. absurd (some_is_not_none (join (at R least join gs q) (at R least join fs q)) _ (ap (join (at R least join gs q)) (at_below R least join o j f.0 q fs t.0 is) ∙ right_unit _) top)
-    | false ↦ λ is one. ap (λ (r : Option L). option_and_then (λ x. join x (at R least join fs q)) r) (sym (right_unit (at R least join es q)) ∙ one) ∙ top
+    | true ↦ λ is one. absurd (some_is_not_none (join (at R least join gs q) (at R least join fs q)) _ (ap (join (at R least join gs q)) (at_below R least join o f.0 q fs t.0 is) ∙ right_unit j _) top)
+    | false ↦ λ is one. ap (λ (r : Option L). option_and_then (λ x. join x (at R least join fs q)) r) (sym (right_unit j (at R least join es q)) ∙ one) ∙ top
   ] refl (add_joins R least join o j f.0 f.1 es gs s e q)
 
   all_top : (fs es : List (K × L)) → Ascends es → Ascends fs → add_all R least join es fs ≡ None → (q : K) × TopAt es fs q
@@ -55,7 +52,7 @@ module _ {K L : Type 0} (R : K → K → Ordering) (least : L) (join : L → L �
   all_top (f ∷ fs) es s t h = by_add (add R least join f.0 f.1 es) refl (λ gs. all_top fs gs)
     where
       by_add : (r : Option (List (K × L))) → add R least join f.0 f.1 es ≡ r → ((gs : List (K × L)) → Ascends gs → Ascends fs → add_all R least join gs fs ≡ None → (q : K) × TopAt gs fs q) → (q : K) × TopAt es (f ∷ fs) q
-      by_add None e later = (f.0, at_first f fs es (add_top f.0 f.1 es e))
+      by_add None e later = (f.0, ap (join (at R least join es f.0)) (at_first R least join o f fs) ∙ add_top f.0 f.1 es e)
       by_add (Some gs) e later =
           let p : (q : K) × TopAt gs fs q = later gs (add_rises R least join o j f.0 f.1 es gs s e) t.1 (sym (ap (option_and_then (λ hs. add_all R least join hs fs)) e) ∙ h) in
           (p.0, at_later f fs es gs p.0 s t e p.1)
@@ -68,14 +65,14 @@ module _ {K L E : Type 0} {ko : ord.Ghosts K} {ke : partial_eq.Ghosts K} {kp : p
     where
       by_add : (r : Option (List (K × L))) → add_all ko.cmp l.least l.joined a.entries b.entries ≡ r → r ≡ None
       by_add None e = refl
-      by_add (Some es) e = let w = map_of.with_entries o same_key j itself same a b es e in absurd (some_is_not_none (map_of.joined a b) w.0 w.2 h)
+      by_add (Some es) e = let w = map_laws.with_entries o same_key j itself same a b es e in absurd (some_is_not_none (map_of.joined a b) w.0 w.2 h)
 
   no_join : (a b : MapOf K L E ko ke kp l le eo ee ep eh) (q : K) → l.joined (map_of.at a q) (map_of.at b q) ≡ None → map_of.joined a b ≡ None
   no_join a b q h = by_join (map_of.joined a b) refl
     where
       by_join : (r : Option (MapOf K L E ko ke kp l le eo ee ep eh)) → map_of.joined a b ≡ r → r ≡ None
       by_join None e = refl
-      by_join (Some c) e = absurd (some_is_not_none (l.joined (map_of.at a q) (map_of.at b q)) _ (map_of.joins_places o same_key j itself same a b c e q) h)
+      by_join (Some c) e = absurd (some_is_not_none (l.joined (map_of.at a q) (map_of.at b q)) _ (map_laws.joins_places o same_key j itself same a b c e q) h)
 
   pub maps_top : IsTopWhere (map_of.joined {ko = ko} {ke = ke} {kp = kp} {l = l} {le = le} {eo = eo} {ee = ee} {ep = ep} {eh = eh}) (AtSomeKey {ko = ko} {ke = ke} {kp = kp} {l = l} {le = le} {eo = eo} {ee = ee} {ep = ep} {eh = eh} (JoinToTop l.joined))
   maps_top a b = (λ h. all_top ko.cmp l.least l.joined o j b.entries a.entries a.ascending b.ascending (no_entries a b h), λ w. no_join a b w.0 w.1)

@@ -1,15 +1,16 @@
 -- What a call on entries means for the map.
-use Rattle.std.proofs.Common.{◌≡◌, true≢false, Bool, true, false, not, ◌&&◌, MatchOption, List, [], ◌∷◌, map, Option, Some, None, Result, Ok, Err, IfOk, IfErr, is_some, unwrap_or, option_and_then, refl, sym, ◌∙◌, ap, subst}
+use Rattle.std.proofs.Common.{◌≡◌, Bool, true, false, not, ◌&&◌, MatchOption, List, [], ◌∷◌, map, Option, Some, None, Result, Ok, Err, IfOk, IfErr, is_some, unwrap_or, option_and_then, refl, sym, ◌∙◌, ap, subst}
+use Rattle.std.proofs.lemmas.Result.{IfErr-weaker, IfOk-weaker}
 use Rattle.std.specs.Cmp.{IsTotalOrder, both_tied}
 use Rattle.std.specs.Ordering.{eq_by_cmp, is_eq}
 use Rattle.std.specs.declared.cmp.Ordering.{Ordering}
 use Rattle.std.specs.declared.cmp.Ordering.TheVariants.{Equal}
 use Rattle.std.specs.List.Sorted.{IsStrictlySortedBy}
 use Rattle.lvish_lattice.specs.Lattice.{IsIdentity, IsJoin, HasEvents, fresh_of, events_beyond}
-use Rattle.lvish_lattice.specs.Ascending.{and_left}
-use Rattle.lvish_compound.specs.Keyed.{key, has_no, add, add_all, add_rises, add_above}
-use Rattle.lvish_compound.specs.MapOf.{same_map, map_of, map_of-entries, joined, at, map_events_of, with_entries, joins_places}
-use Rattle.lvish_compound.specs.KeyedEvents.{events_by}
+use Rattle.lvish_compound.specs.Keyed.{key, has_no, add, add_all, events_by}
+use Rattle.lvish_compound.specs.laws.KeyedLaws.{add_rises, add_above}
+use Rattle.lvish_compound.specs.MapOf.{same_map, map_of, map_of-entries, joined, at, map_events_of}
+use Rattle.lvish_compound.specs.laws.MapLaws.{with_entries, joins_places}
 use Rattle.lvish_compound.proofs.Brought.{brought}
 use Rattle.std.specs.declared.cmp.Ord as ord
 use Rattle.std.specs.declared.cmp.PartialEq as partial_eq
@@ -17,14 +18,6 @@ use Rattle.std.specs.declared.cmp.PartialOrd as partial_ord
 use Rattle.std.specs.declared.hash.Hash as hash
 use Rattle.lvish_lattice.specs.declared.lattice.Lattice as lattice
 use Rattle.lvish_compound.specs.declared.map_of.MapOf.{MapOf}
-
--- the only part of a map isn't bottom
-pub only_above : {K L : Type 0} (eq : L → L → Bool) (least : L) (es : List (K × L)) (k : K) (v : L) → es ≡ (k, v) ∷ [] → has_no eq least es ≡ true → eq v least ≡ false
-only_above eq least es k v e n = by_test (eq v least) (and_left _ _ (sym (ap (has_no eq least) e) ∙ n))
-  where
-    by_test : (b : Bool) → not b ≡ true → b ≡ false
-    by_test true h = absurd (true≢false (sym h))
-    by_test false h = refl
 
 module _ {K L Refused : Type 0} (R : K → K → Ordering) (least : L) (join : L → L → Option L) (o : IsTotalOrder R) (j : IsJoin least join) (k : K) (v : L) (es fs : List (K × L)) (q : Result Bool Refused)
     (ok : IfOk q (λ b. (b ≡ is_some (add R least join k v es)) × (fs ≡ unwrap_or (add R least join k v es) es))) (err : IfErr q (λ _. fs ≡ es)) where
@@ -74,18 +67,10 @@ module _ {K L E : Type 0} {ko : ord.Ghosts K} {ke : partial_eq.Ghosts K} {kp : p
     pub merged_result : (k : K) (v : L) → b.entries ≡ (k, v) ∷ []
         → IfOk q (λ r. (r ≡ is_some (add ko.cmp l.least l.joined k v a.entries)) × (m.entries ≡ unwrap_or (add ko.cmp l.least l.joined k v a.entries) a.entries))
         → IfOk q (λ r. (r ≡ is_some (joined a b)) × (m ≡ unwrap_or (joined a b) a))
-    merged_result k v e ok = by_result q ok
-      where
-        by_result : (q : Result Bool Refused) → IfOk q (λ r. (r ≡ is_some (add ko.cmp l.least l.joined k v a.entries)) × (m.entries ≡ unwrap_or (add ko.cmp l.least l.joined k v a.entries) a.entries)) → IfOk q (λ r. (r ≡ is_some (joined a b)) × (m ≡ unwrap_or (joined a b) a))
-        by_result (Ok r) ok = merged_one a b m k v r e ok.0 ok.1
-        by_result (Err f) ok = tt
+    merged_result k v e ok = IfOk-weaker q _ _ (λ r h. merged_one a b m k v r e h.0 h.1) ok
 
     pub merge_refused : IfErr q (λ _. m.entries ≡ a.entries) → IfErr q (λ _. m ≡ a)
-    merge_refused err = by_result q err
-      where
-        by_result : (q : Result Bool Refused) → IfErr q (λ _. m.entries ≡ a.entries) → IfErr q (λ _. m ≡ a)
-        by_result (Ok r) err = tt
-        by_result (Err f) err = same_map m a err
+    merge_refused err = IfErr-weaker q _ _ (λ _ h. same_map m a h) err
 
   -- what a put brings to a map
   module _ (o : IsTotalOrder ko.cmp) (same_key : (x y : K) → ko.cmp x y ≡ Equal → x ≡ y) (j : IsJoin l.least l.joined) (itself : (x : L) → le.eq x x ≡ true) (same : IsIdentity le.eq)

@@ -1,31 +1,31 @@
 -- The entries of a tree, as the list that they stand for.
-use Rattle.std.proofs.Common.{◌≡◌, ◌↔◌, ℕ, ◌<◌, length, slice_get, IsSome, IfSome, MatchOption, arith, Bool, true, false, cond, not, List, [], ◌∷◌, ◌++◌, map, Option, Some, None, Result, Ok, Err, IfOk, IfErr, option_map, option_and_then, unwrap_or, is_some, true≢false, refl, sym, ◌∙◌, ap, subst}
+use Rattle.std.proofs.Common.{◌≡◌, ◌↔◌, ℕ, ◌<◌, length, slice_get, IsSome, IfSome, MatchOption, arith, Bool, true, false, cond, not, List, [], ◌∷◌, ◌++◌, map, Option, Some, None, Result, IfOk, IfErr, option_map, option_and_then, unwrap_or, is_some, true≢false, refl, sym, ◌∙◌, ap, subst}
 use Rattle.std.proofs.lemmas.Map.{lookup-none}
+use Rattle.std.proofs.lemmas.Result.{IfErr-weaker, IfOk-weaker}
 use Rattle.std.proofs.lemmas.Map.Entries.{none_below_head}
 use Rattle.std.specs.Map.{lookup, set_value}
 use Rattle.std.specs.BTreeMap.{is_at, insert_entry}
 use Rattle.std.specs.declared.cmp.Ordering.{Ordering}
 use Rattle.std.specs.declared.cmp.Ordering.TheVariants.{Less, Equal, Greater}
 use Rattle.std.specs.Ordering.{eq_by_cmp, is_eq, is_lt, ordering_reverse, match_ordering}
-use Rattle.std.specs.Cmp.{IsTotalOrder, Equal-is, tied_itself}
+use Rattle.std.specs.Cmp.{IsTotalOrder, Equal-is}
 use Rattle.std.specs.List.{AllByRecursion}
 use Rattle.std.specs.List.Sorted.{IsStrictlySortedBy}
 use Rattle.lvish_lattice.specs.Lattice.{IsJoin}
 use Rattle.lvish_lattice.specs.Ascending.{and_left, and_right}
-use Rattle.lvish_compound.specs.Pointwise.{same_some}
-use Rattle.lvish_compound.specs.Keyed.{key, has_no, at, add, add_all, all_joins, all_there}
+use Rattle.std.proofs.lemmas.Option.{same_Some}
+use Rattle.lvish_compound.specs.Keyed.{key, has_no, at, add, add_all}
+use Rattle.lvish_compound.specs.laws.KeyedLaws.{at_below, at_first, all_joins, all_there}
+use Rattle.lvish_compound.specs.laws.Embedded.{map_twice}
+use Rattle.lvish_compound.specs.laws.Pointwise.{right_unit}
 
 -- the only entry, read as the first
 pub only_by : {A K L : Type 0} (shows : A → K × L) (es : List (K × L)) (n : ℕ) (r : Option A) → n ≡ length es → n ≡ 1 → (IsSome r ↔ (0 < length es)) → IfSome r (λ p. slice_get es 0 ≡ Some (shows p))
     → MatchOption r (length es ≡ 1 → ⊥) (λ p. es ≡ shows p ∷ [])
 only_by shows es n None e one has first = absurd (true≢false (sym (has.1 (omega arith))))
 only_by shows [] n (Some p) e one has first = absurd (omega arith)
-only_by shows (x ∷ []) n (Some p) e one has first = ap (λ z. z ∷ []) (same_some _ _ first)
+only_by shows (x ∷ []) n (Some p) e one has first = ap (λ z. z ∷ []) (same_Some _ _ first)
 only_by shows (x ∷ y ∷ es) n (Some p) e one has first = absurd (omega arith)
-
-twice : {A B C : Type 0} (f : B → C) (g : A → B) (x : Option A) → option_map f (option_map g x) ≡ option_map (λ y. f (g y)) x
-twice f g None = refl
-twice f g (Some y) = refl
 
 module _ {K L : Type 0} (R : K → K → Ordering) where
   abbrev S : List (K × L) → Type 0
@@ -35,7 +35,7 @@ module _ {K L : Type 0} (R : K → K → Ordering) where
   set_same k x [] h = refl
   set_same k x (e ∷ es) h = elim (R k e.0) as (λ r. cond (is_eq r) (Some e.1) (lookup (is_at (R k)) es) ≡ Some x → cond (is_eq r) ((e.0, x) ∷ es) (e ∷ set_value (is_at (R k)) es x) ≡ e ∷ es) [
     | Less ↦ λ h. ap (λ fs. e ∷ fs) (set_same k x es h)
-    | Equal ↦ λ h. ap (λ y. (e.0, y) ∷ es) (sym (same_some _ _ h))
+    | Equal ↦ λ h. ap (λ y. (e.0, y) ∷ es) (sym (same_Some _ _ h))
     | Greater ↦ λ h. ap (λ fs. e ∷ fs) (set_same k x es h)
   ] h
 
@@ -97,8 +97,8 @@ module _ {K L : Type 0} (R : K → K → Ordering) (least : L) (join : L → L �
     add_found k v x (e ∷ es) s h = elim (R k e.0) as (λ r. R k e.0 ≡ r → cond (is_eq r) (Some e.1) (lookup (is_at (R k)) es) ≡ Some x
         → match_ordering r (Some ((k, v) ∷ e ∷ es)) (option_map (λ w. (e.0, w) ∷ es) (join e.1 v)) (option_map (λ fs. e ∷ fs) (add R least join k v es)) ≡ option_map (λ w. cond (is_eq r) ((e.0, w) ∷ es) (e ∷ set_value (is_at (R k)) es w)) (join x v)) [
           | Less ↦ λ r h. absurd (cc (sym (lookup-none (is_at (R k)) es (none_below_head o k e es s r).1) ∙ h))
-          | Equal ↦ λ r h. ap (λ y. option_map (λ w. (e.0, w) ∷ es) (join y v)) (same_some _ _ h)
-          | Greater ↦ λ r h. ap (option_map (λ fs. e ∷ fs)) (add_found k v x es s.1 h) ∙ twice (λ fs. e ∷ fs) (λ w. set_value (is_at (R k)) es w) (join x v)
+          | Equal ↦ λ r h. ap (λ y. option_map (λ w. (e.0, w) ∷ es) (join y v)) (same_Some _ _ h)
+          | Greater ↦ λ r h. ap (option_map (λ fs. e ∷ fs)) (add_found k v x es s.1 h) ∙ map_twice (λ w. set_value (is_at (R k)) es w) (λ fs. e ∷ fs) (join x v)
         ] refl h
 
     -- a part that is joined where it stands, unless the join is top
@@ -113,12 +113,10 @@ module _ {K L : Type 0} (R : K → K → Ordering) (least : L) (join : L → L �
 
     pub put_by : {Refused : Type 0} (k : K) (v x w : L) (es fs : List (K × L)) (q : Result Bool Refused) → S R es → lookup (is_at (R k)) es ≡ Some x → fs ≡ set_value (is_at (R k)) es w
         → IfOk q (λ b. (b ≡ is_some (join x v)) × (w ≡ unwrap_or (join x v) x)) → IfOk q (λ b. (b ≡ is_some (add R least join k v es)) × (fs ≡ unwrap_or (add R least join k v es) es))
-    put_by k v x w es fs (Ok b) s h new m = put_found k v x w es fs b s h new m.0 m.1
-    put_by k v x w es fs (Err r) s h new m = tt
+    put_by k v x w es fs q s h new m = IfOk-weaker q _ _ (λ b p. put_found k v x w es fs b s h new p.0 p.1) m
 
     pub kept_by : {Refused : Type 0} (k : K) (x w : L) (es fs : List (K × L)) (q : Result Bool Refused) → lookup (is_at (R k)) es ≡ Some x → fs ≡ set_value (is_at (R k)) es w → IfErr q (λ _. w ≡ x) → IfErr q (λ _. fs ≡ es)
-    kept_by k x w es fs (Ok b) h new m = tt
-    kept_by k x w es fs (Err r) h new m = new ∙ ap (set_value (is_at (R k)) es) m ∙ set_same R k x es h
+    kept_by k x w es fs q h new m = IfErr-weaker q _ _ (λ _ p. new ∙ ap (set_value (is_at (R k)) es) p ∙ set_same R k x es h) m
 
   -- one entry of the second list joined to the first
   pub joined_more : (all : Option (List (K × L))) (es fs xs ys : List (K × L)) (k : K) (p : L) (b : Bool) → add_all R least join es xs ≡ all → xs ≡ (k, p) ∷ ys → b ≡ true
@@ -145,27 +143,17 @@ module _ {K L : Type 0} (R : K → K → Ordering) (least : L) (join : L → L �
     abbrev pub AllBelow : List (K × L) → List (K × L) → Type 0
     AllBelow xs ys = (q : K) → join (at R least join xs q) (at R least join ys q) ≡ Some (at R least join ys q)
 
-    past : (k q : K) (es : List (K × L)) → AllByRecursion (λ y. R k y ≡ Less) (map key es) → eq_by_cmp R q k ≡ true → At es q ≡ least
-    past k q [] b t = refl
-    past k q (e ∷ es) b t = ap (λ r. cond (is_eq r) e.1 (At es q)) (o.congr q k e.0 ((Equal-is (R q k)).0 t) ∙ b.0) ∙ past k q es b.1 t
-
-    own : (e : K × L) (es : List (K × L)) → At (e ∷ es) e.0 ≡ e.1
-    own e es = ap (λ c. cond (is_eq c) e.1 (At es e.0)) (tied_itself o e.0)
-
-    right_unit : (a : L) → join a least ≡ Some a
-    right_unit a = j.commutative a least ∙ j.unit a
-
     pub rest_rises : (e : K × L) (xs es : List (K × L)) → xs ≡ e ∷ es → S R xs → S R es
     unfolding IsStrictlySortedBy
     rest_rises e xs es h s = (subst (λ zs. S R zs) h s).1
 
     head_below : (e : K × L) (es ys : List (K × L)) → AllBelow (e ∷ es) ys → join e.1 (At ys e.0) ≡ Some (At ys e.0)
-    head_below e es ys h = ap (λ x. join x (At ys e.0)) (sym (own e es)) ∙ h e.0
+    head_below e es ys h = ap (λ x. join x (At ys e.0)) (sym (at_first R least join o e es)) ∙ h e.0
 
     tail_below : (e : K × L) (es ys : List (K × L)) → S R (e ∷ es) → AllBelow (e ∷ es) ys → AllBelow es ys
     unfolding IsStrictlySortedBy
     tail_below e es ys s h q = elim (eq_by_cmp R q e.0) as (λ b. eq_by_cmp R q e.0 ≡ b → join (cond b e.1 (At es q)) (At ys q) ≡ Some (At ys q) → join (At es q) (At ys q) ≡ Some (At ys q)) [
-      | true ↦ λ t _. ap (λ x. join x (At ys q)) (past e.0 q es s.0 t) ∙ j.unit (At ys q)
+      | true ↦ λ t _. ap (λ x. join x (At ys q)) (at_below R least join o e.0 q es s.0 t) ∙ j.unit (At ys q)
       | false ↦ λ _ h. h
     ] refl (h q)
 
@@ -190,7 +178,7 @@ module _ {K L : Type 0} (R : K → K → Ordering) (least : L) (join : L → L �
     -- one whose key holds bottom
     pub none_below : (eq : L → L → Bool) → ((x : L) → eq x x ≡ true) → (all xs es ys : List (K × L)) (k : K) (p : L) → has_no eq least xs ≡ true → (AllBelow xs ys ↔ AllBelow all ys) → xs ≡ (k, p) ∷ es → least ≡ At ys k → AllBelow all ys → ⊥
     none_below eq itself all xs es ys k p n h e f r = not_below all xs es ys k p least h e f (λ b.
-        let bottom : p ≡ least = same_some _ _ (sym (right_unit p) ∙ b) in
+        let bottom : p ≡ least = same_Some _ _ (sym (right_unit j p) ∙ b) in
         true≢false (sym (and_left _ _ (ap (has_no eq least) (sym e) ∙ n)) ∙ ap (λ z. not (eq z least)) bottom ∙ ap not (itself least))) r
 
     pub rest_above : (eq : L → L → Bool) (e : K × L) (xs es : List (K × L)) → xs ≡ e ∷ es → has_no eq least xs ≡ true → has_no eq least es ≡ true
@@ -207,9 +195,9 @@ module _ {K L : Type 0} (R : K → K → Ordering) (least : L) (join : L → L �
     unfolding IsStrictlySortedBy
     each_from es [] s h = tt
     each_from es (f ∷ fs) s h = (
-      ap (λ x. is_some (join (At es f.0) x)) (sym (own f fs)) ∙ h f.0,
+      ap (λ x. is_some (join (At es f.0) x)) (sym (at_first R least join o f fs)) ∙ h f.0,
       each_from es fs s.1 (λ q. elim (eq_by_cmp R q f.0) as (λ b. eq_by_cmp R q f.0 ≡ b → is_some (join (At es q) (cond b f.1 (At fs q))) ≡ true → is_some (join (At es q) (At fs q)) ≡ true) [
-        | true ↦ λ t _. ap is_some (ap (join (At es q)) (past f.0 q fs s.0 t) ∙ right_unit (At es q))
+        | true ↦ λ t _. ap is_some (ap (join (At es q)) (at_below R least join o f.0 q fs s.0 t) ∙ right_unit j (At es q))
         | false ↦ λ _ h. h
       ] refl (h q)),
     )
@@ -229,7 +217,7 @@ module _ {K L : Type 0} (R : K → K → Ordering) (least : L) (join : L → L �
 
     module _ (same_key : (x y : K) → R x y ≡ Equal → x ≡ y) where
       each_all : (es fs : List (K × L)) → Each es fs → (q : K) → (w : L) × (join (At es q) (At fs q) ≡ Some w)
-      each_all es [] h q = (At es q, right_unit _)
+      each_all es [] h q = (At es q, right_unit j _)
       each_all es (f ∷ fs) h q =
           let rest : (w : L) × (join (At es q) (At fs q) ≡ Some w) = each_all es fs h.1 q in
           elim (eq_by_cmp R q f.0) as (λ b. eq_by_cmp R q f.0 ≡ b → (w : L) × (join (At es q) (cond b f.1 (At fs q)) ≡ Some w)) [
@@ -240,6 +228,3 @@ module _ {K L : Type 0} (R : K → K → Ordering) (least : L) (join : L → L �
       -- where each has one, so have the lists
       pub there : (es all xs : List (K × L)) → S R es → S R all → (Each es xs ↔ Each es all) → xs ≡ [] → (gs : List (K × L)) × (add_all R least join es all ≡ Some gs)
       there es all xs s t h e = all_there R least join o j es all s t (each_all es all (h.0 (subst (λ zs. Each es zs) (sym e) tt)))
-
-    pub each_more : (es all xs fs : List (K × L)) (k : K) (p : L) → (Each es xs ↔ Each es all) → xs ≡ (k, p) ∷ fs → is_some (join (At es k) p) ≡ true → (Each es fs ↔ Each es all)
-    each_more es all xs fs k p h e t = (λ r. h.0 (subst (λ zs. Each es zs) (sym e) (t, r)), λ r. (subst (λ zs. Each es zs) e (h.1 r)).1)

@@ -8,10 +8,9 @@ use Rattle.lvish_compound.specs.declared.number_test.Test.{Test}
 use Rattle.lvish_compound.specs.declared.number_test.Test.TheVariants.{Any, In, At}
 use Rattle.lvish_compound.specs.declared.place.Place.{Place}
 use Rattle.lvish_compound.specs.declared.place.Place.TheVariants as place
-use Rattle.lvish_compound.specs.Counters.{max_by}
-use Rattle.lvish_compound.specs.Numbers.{is_level, are_levels, is_total, are_totals}
-use Rattle.lvish_compound.specs.Places.{fits, fits_kind, is_side}
-use Rattle.lvish_compound.specs.Refusals.{Mentions, IsBeyond, IsNoSide, IsBeyondCounters, IsBeyondTotal, IsBeyondTotals, IsRefused}
+use Rattle.lvish_compound.specs.Numbers.{max_by, is_level, are_levels, is_total, are_totals}
+use Rattle.lvish_compound.specs.Places.{test_fits, fits_kind, is_side}
+use Rattle.lvish_compound.specs.Refusals.{Mentions, IsBeyond, IsNoSide, IsBeyondCounters, IsBeyondTotal, IsBeyondTotals, IsReadRefused}
 
 held_by : (n : ℕ) (t : Bool) (h : nat_le n 1000 ≡ t) → is_some (max_by n t h) ≡ t
 held_by n true h = refl
@@ -68,17 +67,13 @@ abbrev IsRefusedKind : Kind → Test → Type 0
 IsRefusedKind l t = (l ≡ kind.Map) ⊎ (l ≡ kind.Tally) ⊎ ((l ≡ kind.Max) × IsBeyondCounters t)
 
 kinds_refused : (l : Kind) (t : Test) → (fits_kind l t ≡ false) ↔ IsRefusedKind l t
-kinds_refused kind.Cell t = (λ h. absurd cc, ⊎_elim (λ e. absurd cc) (⊎_elim (λ e. absurd cc) (λ e. absurd (cc e.0))))
-kinds_refused kind.Set t = (λ h. absurd cc, ⊎_elim (λ e. absurd cc) (⊎_elim (λ e. absurd cc) (λ e. absurd (cc e.0))))
 kinds_refused kind.Max t = (λ h. inr (inr (refl, (tests_beyond t).0 h)), ⊎_elim (λ e. absurd cc) (⊎_elim (λ e. absurd cc) (λ e. (tests_beyond t).1 e.1)))
 kinds_refused kind.Map t = (λ _. inl refl, λ _. refl)
 kinds_refused kind.Tally t = (λ _. inr (inl refl), λ _. refl)
+kinds_refused l t = (λ h. absurd cc, ⊎_elim (λ e. absurd cc) (⊎_elim (λ e. absurd cc) (λ e. absurd (cc e.0))))
 
-pub refused_where : (p : Place) (t : Test) → (fits p t ≡ false) ↔ IsRefused p t
-refused_where place.Cell t = (λ h. absurd cc, λ w. absurd w)
-refused_where place.Set t = (λ h. absurd cc, λ w. absurd w)
+pub refused_where : (p : Place) (t : Test) → (test_fits p t ≡ false) ↔ IsReadRefused p t
 refused_where place.Max t = tests_beyond t
-refused_where (place.Key k) t = (λ h. absurd cc, λ w. absurd w)
 refused_where (place.Amount k) t = tests_beyond t
 refused_where place.Total t = totals_beyond t
 refused_where (place.Side i l) t = by_side (is_side i) refl
@@ -86,3 +81,4 @@ refused_where (place.Side i l) t = by_side (is_side i) refl
     by_side : (b : Bool) → is_side i ≡ b → ((b && fits_kind l t) ≡ false) ↔ (IsNoSide i ⊎ IsRefusedKind l t)
     by_side false e = (λ _. inl ((no_side i).0 e), λ _. refl)
     by_side true e = (λ h. inr ((kinds_refused l t).0 h), ⊎_elim (λ w. absurd (not_true (is_side i) e ((no_side i).1 w))) (kinds_refused l t).1)
+refused_where p t = (λ h. absurd cc, λ w. absurd w)

@@ -1,10 +1,8 @@
 -- Where the states of a script's variables clash.
 use Rattle.std.specs.Prelude.{◌≡◌, ◌≢◌, ◌↔◌, ℤ, Bool, true, false, cond, Option, Some, None, option_map, refl}
 use Rattle.std.proofs.Common.{sym, ◌∙◌, ap, true≢false}
-use Rattle.std.proofs.lemmas.Cmp.{int_cmp_total, int_eq_equiv}
+use Rattle.std.proofs.lemmas.Cmp.{int_eq_equiv}
 use Rattle.std.specs.Ordering.{int_eq}
-use Rattle.lvish_lattice.specs.GrowSet as set
-use Rattle.lvish_lattice.specs.Listed.{some_is_not_none}
 use Rattle.lvish_lattice.specs.Plain.{int_identical}
 use Rattle.lvish_lattice.specs.Top.{IsTopWhere, TwoValues}
 use Rattle.lvish_lattice.specs.declared.flat.Flat.TheVariants.{Value}
@@ -13,11 +11,12 @@ use Rattle.lvish_compound.specs.declared.any.Any.TheVariants.{Part, Map, Sides, 
 use Rattle.lvish_compound.specs.declared.part.Part as part
 use Rattle.lvish_compound.specs.declared.part.Part.TheVariants.{Empty, Cell, Set, Max}
 use Rattle.lvish_compound.specs.Clashes.{AtSomeKey, PartsClash, Clash}
-use Rattle.lvish_compound.specs.Held.{Held, held}
+use Rattle.lvish_compound.specs.Held.{HeldState, held}
 use Rattle.lvish_compound.specs.MapOf as map_of
 use Rattle.lvish_compound.specs.Parts as parts
 use Rattle.lvish_compound.specs.States.{nothing, of_map, of_pair, of_tally, unless_part, joined}
-use Rattle.lvish_compound.specs.TallyLaws.{tallies_top}
+use Rattle.lvish_compound.specs.laws.NumberLaws.{sets_join}
+use Rattle.lvish_compound.specs.laws.TallyLaws.{tallies_top}
 use Rattle.lvish_compound.proofs.Clashes.{pairs_clash}
 
 mapped_top : {A B : Type 0} (f : A → B) (r : Option A) → (option_map f r ≡ None) ↔ (r ≡ None)
@@ -28,61 +27,31 @@ cells_by : (t : Bool) (m n : ℤ) → int_eq m n ≡ t → (option_map parts.of_
 cells_by true m n e = (λ h. absurd cc, λ d. absurd (d (int_identical m n e)))
 cells_by false m n e = (λ _ s. true≢false (sym (int_eq_equiv.refl m) ∙ ap (int_eq m) s ∙ e), λ _. refl)
 
-sets_join : (x y : Held Set) → set.joined x y ≢ None
-sets_join x y h = some_is_not_none (set.joined x y) _ (set.joined-union int_cmp_total x y) h
-
 pub parts_top : IsTopWhere parts.joined PartsClash
 parts_top Empty t = (λ h. absurd cc, λ w. absurd (w.0 refl))
-parts_top (Cell m) Empty = (λ h. absurd cc, λ w. absurd (w.1 refl))
+parts_top s Empty = (λ h. absurd cc, λ w. absurd (w.1 refl))
 parts_top (Cell m) (Cell n) = cells_by (int_eq m n) m n refl
-parts_top (Cell m) (Set y) = (λ _. (λ e. absurd cc, λ e. absurd cc), λ _. refl)
-parts_top (Cell m) (Max y) = (λ _. (λ e. absurd cc, λ e. absurd cc), λ _. refl)
-parts_top (Set x) Empty = (λ h. absurd cc, λ w. absurd (w.1 refl))
-parts_top (Set x) (Cell n) = (λ _. (λ e. absurd cc, λ e. absurd cc), λ _. refl)
 parts_top (Set x) (Set y) = (λ h. sets_join x.state y.state ((mapped_top (held Set Empty) _).0 h), λ w. absurd w)
-parts_top (Set x) (Max y) = (λ _. (λ e. absurd cc, λ e. absurd cc), λ _. refl)
-parts_top (Max x) Empty = (λ h. absurd cc, λ w. absurd (w.1 refl))
-parts_top (Max x) (Cell n) = (λ _. (λ e. absurd cc, λ e. absurd cc), λ _. refl)
-parts_top (Max x) (Set y) = (λ _. (λ e. absurd cc, λ e. absurd cc), λ _. refl)
 parts_top (Max x) (Max y) = (λ h. absurd cc, λ w. absurd w)
+parts_top s t = (λ _. (λ e. absurd cc, λ e. absurd cc), λ _. refl)
 
 -- a part and a state of another kind
-unless_top : (s : part.Part) (t : Any) → t ≢ nothing → (unless_part s t ≡ None) ↔ (Part s ≢ nothing)
-unless_top Empty t d = (λ h. absurd cc, λ w. absurd (w refl))
-unless_top (Cell n) t d = (λ _ e. absurd cc, λ _. refl)
-unless_top (Set x) t d = (λ _ e. absurd cc, λ _. refl)
-unless_top (Max x) t d = (λ _ e. absurd cc, λ _. refl)
+unless_top : (s : part.Part) (t : Any) → (unless_part s t ≡ None) ↔ (Part s ≢ nothing)
+unless_top Empty t = (λ h. absurd cc, λ w. absurd (w refl))
+unless_top s t = (λ _ e. absurd cc, λ _. refl)
 
 part_first : (s : part.Part) (t : Any) → t ≢ nothing → (unless_part s t ≡ None) ↔ ((Part s ≢ nothing) × (t ≢ nothing))
-part_first s t d = let u = unless_top s t d in (λ h. (u.0 h, d), λ w. u.1 w.0)
+part_first s t d = let u = unless_top s t in (λ h. (u.0 h, d), λ w. u.1 w.0)
 
 part_second : (s : part.Part) (t : Any) → t ≢ nothing → (unless_part s t ≡ None) ↔ ((t ≢ nothing) × (Part s ≢ nothing))
-part_second s t d = let u = unless_top s t d in (λ h. (d, u.0 h), λ w. u.1 w.1)
+part_second s t d = let u = unless_top s t in (λ h. (d, u.0 h), λ w. u.1 w.1)
 
-map_there : (x : _) → Map x ≢ nothing
-map_there x e = absurd cc
-
-sides_there : (z : _) → Sides z ≢ nothing
-sides_there z e = absurd cc
-
-tally_there : (x : _) → Tally x ≢ nothing
-tally_there x e = absurd cc
-
-module _ (maps : (x y : Held Map) → (map_of.joined x y ≡ None) ↔ AtSomeKey TwoValues x y) where
+module _ (maps : (x y : HeldState Map) → (map_of.joined x y ≡ None) ↔ AtSomeKey TwoValues x y) where
   pub states_top : IsTopWhere joined Clash
   states_top (Part s) (Part t) = let p = parts_top s t in (λ h. p.0 ((mapped_top Part _).0 h), λ w. (mapped_top Part _).1 (p.1 w))
-  states_top (Part s) (Map y) = part_first s (Map y) (map_there y)
-  states_top (Part s) (Sides z) = part_first s (Sides z) (sides_there z)
-  states_top (Part s) (Tally y) = part_first s (Tally y) (tally_there y)
-  states_top (Map x) (Part t) = part_second t (Map x) (map_there x)
   states_top (Map x) (Map y) = let p = maps x.state y.state in (λ h. p.0 ((mapped_top of_map _).0 h), λ w. (mapped_top of_map _).1 (p.1 w))
-  states_top (Map x) (Sides z) = (λ _. (map_there x, sides_there z), λ _. refl)
-  states_top (Map x) (Tally y) = (λ _. (map_there x, tally_there y), λ _. refl)
-  states_top (Sides x) (Part t) = part_second t (Sides x) (sides_there x)
-  states_top (Sides x) (Map y) = (λ _. (sides_there x, map_there y), λ _. refl)
-  states_top (Sides x) (Tally y) = (λ _. (sides_there x, tally_there y), λ _. refl)
-  states_top (Tally x) (Part t) = part_second t (Tally x) (tally_there x)
-  states_top (Tally x) (Map y) = (λ _. (tally_there x, map_there y), λ _. refl)
-  states_top (Tally x) (Sides z) = (λ _. (tally_there x, sides_there z), λ _. refl)
-  states_top (Tally x) (Tally y) = let p = tallies_top x.state y.state in (λ h. p.0 ((mapped_top of_tally _).0 h), λ w. (mapped_top of_tally _).1 (p.1 w))
   states_top (Sides x) (Sides z) = let p = pairs_clash parts_top parts_top x.pair z.pair in (λ h. p.0 ((mapped_top of_pair _).0 h), λ w. (mapped_top of_pair _).1 (p.1 w))
+  states_top (Tally x) (Tally y) = let p = tallies_top x.state y.state in (λ h. p.0 ((mapped_top of_tally _).0 h), λ w. (mapped_top of_tally _).1 (p.1 w))
+  states_top (Part s) t = part_first s t (λ e. absurd cc)
+  states_top s (Part t) = part_second t s (λ e. absurd cc)
+  states_top s t = (λ _. (λ e. absurd cc, λ e. absurd cc), λ _. refl)

@@ -1,15 +1,16 @@
 -- What a call on the amounts of a tally means for the tally.
-use Rattle.std.specs.Prelude.{◌≡◌, ℕ, ℤ, ◌+◌, ◌<◌, ◌≤◌, Bool, true, false, List, [], ◌∷◌, Option, Some, None, option_and_then, is_some, unwrap_or, Result, Ok, Err, IfOk, refl}
+use Rattle.std.specs.Prelude.{◌≡◌, ℕ, ℤ, ◌+◌, ◌<◌, ◌≤◌, Bool, true, false, List, [], ◌∷◌, Option, Some, None, option_and_then, is_some, unwrap_or, Result, IfOk, refl}
 use Rattle.std.proofs.Common.{sym, ◌∙◌, ap, arith, true≢false}
 use Rattle.std.proofs.lemmas.List.Sums.{sum_by-cons}
+use Rattle.std.proofs.lemmas.Result.{IfOk-weaker}
 use Rattle.lvish_lattice.specs.Lattice.{events_beyond, fresh_of}
 use Rattle.lvish_lattice.specs.declared.max_counter.MaxCounter.{MaxCounter}
 use Rattle.lvish_compound.specs.declared.tally.Tally.{Tally}
 use Rattle.lvish_compound.specs.Amounts.{total_of, gains, gain}
-use Rattle.lvish_compound.specs.AmountLaws.{gain_within}
+use Rattle.lvish_compound.specs.laws.AmountLaws.{gain_within}
 use Rattle.lvish_compound.specs.MapOf as map_of
 use Rattle.lvish_compound.specs.Tally.{Amounts, entries_of, tally_of, joined, events_of}
-use Rattle.lvish_compound.specs.TallyLaws.{same_tally, total_of_join, past_bound, made_there, joined_tally}
+use Rattle.lvish_compound.specs.laws.TallyLaws.{same_tally, total_of_join, past_bound, made_there, joined_tally}
 
 -- a walk over the entries that are put
 pub gained_more : (es fs ks ms : List (ℤ × MaxCounter)) (f : ℤ × MaxCounter) (g : ℕ) → g + gain es ks ≡ gain es fs → ks ≡ f ∷ ms → (g + gains es f) + gain es ms ≡ gain es fs
@@ -54,8 +55,7 @@ merged_one s t n b is e = by_join (map_of.joined s.amounts t.amounts) refl is e
 
 -- amounts that are merged are those of the join
 pub merged : {Refused : Type 0} (s t n : Tally) (q : Result Bool Refused) → IfOk q (λ b. (b ≡ is_some (map_of.joined s.amounts t.amounts)) × (n.amounts ≡ unwrap_or (map_of.joined s.amounts t.amounts) s.amounts)) → IfOk q (λ b. (b ≡ is_some (joined s t)) × (n ≡ unwrap_or (joined s t) s))
-merged s t n (Ok b) h = merged_one s t n b h.0 h.1
-merged s t n (Err e) h = tt
+merged s t n q h = IfOk-weaker q _ _ (λ b w. merged_one s t n b w.0 w.1) h
 
 -- what a put within the bound brings
 pub tally_fresh : (eq : ℤ × ℤ → ℤ × ℤ → Bool) (s t : Tally) → sum s t ≤ 10000 → fresh_of map_of.joined eq map_of.map_events_of s.amounts t.amounts ≡ fresh_of joined eq events_of s t

@@ -9,21 +9,21 @@ use Rattle.lvish_lattice.specs.declared.flat.Flat.TheVariants.{Value}
 use Rattle.lvish_lattice.specs.declared.max_counter.MaxCounter.{MaxCounter}
 use Rattle.lvish_lattice.specs.GrowSet as grow_set
 use Rattle.lvish_lattice.specs.MaxCounter.{number_of, zero as no_amount}
-use Rattle.lvish_lattice.specs.MaxCounterLaws.{same_counter}
+use Rattle.lvish_lattice.specs.laws.MaxCounterLaws.{same_counter}
 use Rattle.lvish_compound.specs.declared.any.Any.{Any}
 use Rattle.lvish_compound.specs.declared.any.Any.TheVariants.{Part, Map}
 use Rattle.lvish_compound.specs.declared.pair.Pair.{Pair}
 use Rattle.lvish_compound.specs.declared.part.Part as part
 use Rattle.lvish_compound.specs.declared.part.Part.TheVariants.{Empty, Set, Max}
-use Rattle.lvish_compound.specs.Counters.{max_of, max_by}
-use Rattle.lvish_compound.specs.Held.{Held, held, held_above, state_in}
+use Rattle.lvish_compound.specs.Numbers.{max_of, max_by}
+use Rattle.lvish_compound.specs.Held.{HeldState, held, state_in, held_above}
 use Rattle.lvish_compound.specs.MapOf as map_of
 use Rattle.lvish_compound.specs.MapReads.{holding}
-use Rattle.lvish_compound.specs.PairLaws.{same_pair}
+use Rattle.lvish_compound.specs.laws.PairLaws.{same_pair}
 use Rattle.lvish_compound.specs.States.{of_map, of_pair, of_tally, singleton, counter, counted, entry, amount, side}
-use Rattle.lvish_compound.specs.Keyed.{alone}
+use Rattle.lvish_compound.specs.Keyed.{single_entry}
 use Rattle.lvish_compound.specs.Tally.{single, entries_of, amounts_of, amount_test}
-use Rattle.lvish_compound.specs.TallyLaws.{same_tally}
+use Rattle.lvish_compound.specs.laws.TallyLaws.{same_tally}
 use Rattle.lvish_compound.specs.declared.tally.Tally.{Tally}
 
 first_of : (x : ℤ) (xs : List ℤ) → Contains (x ∷ xs) x
@@ -46,7 +46,7 @@ one_item n (x ∷ y ∷ ys) s h =
     absurd (cc (sym (tied_itself int_cmp_total n) ∙ (λ i. int_cmp (sym first i) (sym second i)) ∙ s.0.0))
 
 -- the set of one element
-pub set_is : (s : Held Set) (n m : ℤ) → m ≡ n → ((x : ℤ) → Contains (grow_set.items_of s) x ↔ Contains (m ∷ []) x) → s ≡ singleton n
+pub set_is : (s : HeldState Set) (n m : ℤ) → m ≡ n → ((x : ℤ) → Contains (grow_set.items_of s) x ↔ Contains (m ∷ []) x) → s ≡ singleton n
 set_is s n m e h = grow_set.same_set s (singleton m) (one_item m (grow_set.items_of s) s.ascending h) ∙ ap singleton e
 
 max_there : (n : ℕ) (t : Bool) (e : nat_le n 1000 ≡ t) (c : MaxCounter) → c.value ≡ n → t ≡ true → max_by n t e ≡ Some c
@@ -60,17 +60,17 @@ max_of_number c = max_there c.value (nat_le c.value 1000) refl c refl (le-leb c.
 pub counter_is : (n : ℤ) (c : MaxCounter) (x : _) → number_of c ≡ n → state_in Max x ≡ c → counter n ≡ Some (Part (Max x))
 counter_is n c x e f = ap counter (sym e) ∙ ap (option_map (λ d. Part (held Max Empty d))) (max_of_number c ∙ ap (λ (d : MaxCounter). Some d) (sym f)) ∙ ap (λ s. Some (Part s)) (held_above Max Empty x)
 
-abbrev one_entry : ℤ → ℤ → Held Map
+abbrev one_entry : ℤ → ℤ → HeldState Map
 one_entry k v = holding k (Value v)
 
 -- the map of one entry
-pub entry_is : (m : Held Map) (k v l w : ℤ) → l ≡ k → w ≡ v → map_of.entries_of m ≡ map_of.entries_of (one_entry l w) → of_map m ≡ entry k v
+pub entry_is : (m : HeldState Map) (k v l w : ℤ) → l ≡ k → w ≡ v → map_of.entries_of m ≡ map_of.entries_of (one_entry l w) → of_map m ≡ entry k v
 entry_is m k v l w e f h = ap of_map (map_of.same_map m (one_entry l w) h ∙ (λ i. one_entry (e i) (f i)))
 
 -- the tally of one key and its amount
-pub amount_is : (t : Tally) (k l n : ℤ) (c : MaxCounter) → number_of c ≡ n → l ≡ k → entries_of t ≡ alone amount_test no_amount l c → amount k n ≡ Some (of_tally t)
+pub amount_is : (t : Tally) (k l n : ℤ) (c : MaxCounter) → number_of c ≡ n → l ≡ k → entries_of t ≡ single_entry amount_test no_amount l c → amount k n ≡ Some (of_tally t)
 amount_is t k l n c e f h =
-    let same : t ≡ single k c = same_tally t (single k c) (map_of.same_map (amounts_of t) (amounts_of (single k c)) (h ∙ ap (λ q. alone amount_test no_amount q c) f)) in
+    let same : t ≡ single k c = same_tally t (single k c) (map_of.same_map (amounts_of t) (amounts_of (single k c)) (h ∙ ap (λ q. single_entry amount_test no_amount q c) f)) in
     ap (amount k) (sym e) ∙ ap (option_map (counted k)) (max_of_number c) ∙ ap (λ (s : Tally). Some (of_tally s)) (sym same)
 
 -- a part as one of two sides

@@ -15,7 +15,7 @@ module _ {L E : Type 0} {l : lattice.Ghosts L E} {le : partial_eq.Ghosts L} {eo 
   abbrev pub state_of : Above L E l le eo ee ep eh → L
   state_of a = a.state
 
-  -- by their states
+  -- whether two of them have the same state
   abbrev pub alike : Above L E l le eo ee ep eh → Above L E l le eo ee ep eh → Bool
   alike a b = le.eq a.state b.state
 

@@ -6,7 +6,7 @@ use Rattle.lvish_compound.specs.declared.place.Place.{Place}
 use Rattle.lvish_compound.specs.declared.number_test.Test.{Test}
 use Rattle.lvish_compound.specs.StateReads.{MemberAt, answer_at}
 
--- where is read
+-- the place that is read
 abbrev pub place_of : AnyRead → Place
 place_of r = r.place
 

@@ -1,21 +1,7 @@
 -- Where reads of a script's variables wait.
-use Rattle.std.specs.Prelude.{◌≡◌, ℕ, ℤ, pos, Bool, true, false, cond, nat_eq, ◌||◌, List, Option, Some, None, option_map, refl}
-use Rattle.std.proofs.Common.{◌∙◌, ap, subst}
-use Rattle.std.proofs.lemmas.Cmp.{int_cmp_total, int_eq_equiv}
-use Rattle.std.specs.Set.{is_member}
-use Rattle.std.specs.Ordering.{int_eq, int_cmp}
-use Rattle.lvish_lattice.specs.Lattice.{BringsAt, IsWatched}
-use Rattle.lvish_lattice.specs.Listed.{one_of, one_is_each, found, missed}
-use Rattle.lvish_lattice.specs.Plain.{int_identical}
-use Rattle.lvish_lattice.specs.declared.flat.Flat.{Flat}
-use Rattle.lvish_lattice.specs.declared.flat.Flat.TheVariants.{Bottom, Value}
-use Rattle.lvish_lattice.specs.declared.max_counter.MaxCounter.{MaxCounter}
-use Rattle.lvish_lattice.specs.Flat as flat
-use Rattle.lvish_lattice.specs.FlatLaws.{flat_has_events}
-use Rattle.lvish_lattice.specs.GrowSet as set
-use Rattle.lvish_lattice.specs.MaxCounter as max
-use Rattle.lvish_lattice.specs.MaxCounter.{number_of}
-use Rattle.lvish_lattice.specs.MaxCounterLaws.{level_is_there}
+use Rattle.std.specs.Prelude.{ℕ, ℤ, pos, cond, nat_eq, Option, Some, None, option_map}
+use Rattle.std.specs.Ordering.{int_eq}
+use Rattle.lvish_lattice.specs.Listed.{one_of}
 use Rattle.lvish_compound.specs.declared.any.Any.{Any}
 use Rattle.lvish_compound.specs.declared.any_read.AnyRead.{AnyRead}
 use Rattle.lvish_compound.specs.declared.event.Event.{Event}
@@ -23,31 +9,11 @@ use Rattle.lvish_compound.specs.declared.kind.Kind.{Kind}
 use Rattle.lvish_compound.specs.declared.kind.Kind.TheVariants as kind
 use Rattle.lvish_compound.specs.declared.number_test.Test.{Test}
 use Rattle.lvish_compound.specs.declared.number_test.Test.TheVariants as test
-use Rattle.lvish_compound.specs.declared.part.Part.{Part}
-use Rattle.lvish_compound.specs.declared.part.Part.TheVariants.{Empty, Cell, Set, Max}
+use Rattle.lvish_compound.specs.declared.part.Part.TheVariants.{Cell, Set, Max}
 use Rattle.lvish_compound.specs.declared.place.Place.{Place}
 use Rattle.lvish_compound.specs.declared.place.Place.TheVariants as place
-use Rattle.lvish_compound.specs.declared.side_of.SideOf.{SideOf}
-use Rattle.lvish_compound.specs.declared.side_of.SideOf.TheVariants.{One, Two}
-use Rattle.lvish_compound.specs.Held.{Held}
-use Rattle.lvish_compound.specs.AnyReads.{answer_of}
-use Rattle.lvish_compound.specs.EventNames.{PartEvent, RawEvent, WholeEvent, part_event, name_of, whole_name, whole_apart, sides_eq}
-use Rattle.lvish_compound.specs.MapOf as map_of
-use Rattle.lvish_compound.specs.Numbers.{cell_answer, first_that, is_reached}
-use Rattle.lvish_compound.specs.Pair as pair
-use Rattle.lvish_compound.specs.PartLaws as part_laws
-use Rattle.lvish_compound.specs.Parts as parts
-use Rattle.lvish_compound.specs.Renamed.{has_name}
-use Rattle.lvish_compound.specs.SideEvents.{has_one, has_two}
-use Rattle.lvish_compound.specs.StateEvents.{IsByName, part_eq, entry_eq, side_eq, raw_eq, whole_eq, raw_events, whole_events, whole_same, whole_itself, names_there}
-use Rattle.lvish_compound.specs.StateLaws.{three_in, tally_in, view, cells, value_itself, same_value}
-use Rattle.lvish_compound.specs.StateReads.{cell_in, set_in, max_in, part_answer, part_in, map_in, side_in, answer_at}
-use Rattle.lvish_compound.specs.States.{events_of}
-use Rattle.lvish_compound.specs.Tally as tally
-use Rattle.lvish_compound.specs.TallyLaws.{amount_has}
-use Rattle.lvish_compound.specs.Watching.{brings_there, was_there}
 
--- the numbers of a cell and of an entry are alike to who waits there
+-- at a cell and at an entry, an event of any number can wake a read
 abbrev pub spot_by : Kind → ℤ → ℤ
 spot_by kind.Cell n = pos 0
 spot_by kind.Set n = n
@@ -59,17 +25,17 @@ abbrev pub spot_of : Event → Event
 spot_of e = record { key = e.key; kind = e.kind; number = spot_by e.kind e.number }
 
 -- the one number that is waited for
-abbrev pub one_in : Test → Option ℤ
-one_in test.Any = None
-one_in (test.In xs) = one_of int_eq xs
-one_in (test.At n) = Some n
+abbrev pub one_tested : Test → Option ℤ
+one_tested test.Any = None
+one_tested (test.In xs) = one_of int_eq xs
+one_tested (test.At n) = Some n
 
 abbrev pub number_by : Kind → Test → Option ℤ
 number_by kind.Cell t = Some (pos 0)
-number_by kind.Set t = one_in t
-number_by kind.Max t = one_in t
+number_by kind.Set t = one_tested t
+number_by kind.Max t = one_tested t
 number_by kind.Map t = None
-number_by kind.Tally t = one_in t
+number_by kind.Tally t = one_tested t
 
 abbrev pub at_spot : ℤ → Kind → ℤ → Event
 at_spot k l n = record { key = k; kind = l; number = n }
@@ -89,168 +55,3 @@ watched_at (place.Side i l) t = option_map (at_spot (side_key i) l) (number_by l
 
 abbrev pub watched : AnyRead → Option Event
 watched r = watched_at r.place r.test
-
--- a cell
-no_answer : (a : ℤ) (o : Option ℤ) → o ≡ None → o ≡ Some a → ⊥
-no_answer a None e h = cc
-no_answer a (Some x) e h = cc
-
-cell_waits : (t : Test) (old new : Flat ℤ) (a : ℤ) → cell_answer t old ≡ None → cell_answer t new ≡ Some a → BringsAt int_eq flat.events_of (spot_by kind.Cell) old new (pos 0)
-cell_waits t old Bottom a none some = absurd cc
-cell_waits t Bottom (Value x) a none some = record { event = x; there = ap (λ b. b || false) (int_eq_equiv.refl x); missing = refl; at = refl }
-cell_waits t (Value y) (Value x) a none some = record { event = x; there = ap (λ b. b || false) (int_eq_equiv.refl x); missing = by_test (int_eq x y) refl; at = refl }
-  where
-    by_test : (b : Bool) → int_eq x y ≡ b → (int_eq x y || false) ≡ false
-    by_test true h = absurd (no_answer a (cell_answer t (Value x)) (ap (λ (v : ℤ). cell_answer t (Value v)) (int_identical x y h) ∙ none) some)
-    by_test false h = ap (λ b. b || false) h
-
--- where an answer comes to who waits for one number alone, that number passes, and before it didn't
-when_some : (b : Bool) (n a : ℤ) → cond b (Some n) None ≡ Some a → b ≡ true
-when_some true n a e = refl
-when_some false n a e = absurd cc
-
-when_none : (b : Bool) (n : ℤ) → cond b (Some n) None ≡ None → b ≡ false
-when_none true n e = absurd cc
-when_none false n e = refl
-
-one_passes : (t : Test) (w : ℤ) → one_in t ≡ Some w → (before after : ℤ → Bool) (a : ℤ) → first_that before t ≡ None → first_that after t ≡ Some a → (after w ≡ true) × (before w ≡ false)
-one_passes test.Any w is before after a none some = absurd cc
-one_passes (test.In xs) w is before after a none some =
-    let one = one_is_each int_eq int_identical xs w is in
-    let f = found after xs a some in
-    (ap after (one.1 a f.0) ∙ f.1, missed before xs w none one.0)
-one_passes (test.At n) w is before after a none some =
-    let e : n ≡ w = cc in
-    (subst (λ k. after k ≡ true) e (when_some (after n) n a some), subst (λ k. before k ≡ false) e (when_none (before n) n none))
-
-set_waits : (t : Test) (w : ℤ) → one_in t ≡ Some w → (old new : Held Set) (a : ℤ) → first_that (is_member int_eq (set.items_of old)) t ≡ None → first_that (is_member int_eq (set.items_of new)) t ≡ Some a → BringsAt int_eq set.items_of (spot_by kind.Set) old new w
-set_waits t w is old new a none some =
-    let p = one_passes t w is (is_member int_eq (set.items_of old)) (is_member int_eq (set.items_of new)) a none some in
-    record { event = w; there = p.0; missing = p.1; at = refl }
-
-max_waits : (t : Test) (w : ℤ) → one_in t ≡ Some w → (old new : MaxCounter) (a : ℤ) → first_that (is_reached (number_of old)) t ≡ None → first_that (is_reached (number_of new)) t ≡ Some a → BringsAt int_eq max.events_of (spot_by kind.Max) old new w
-max_waits t w is old new a none some =
-    let p = one_passes t w is (is_reached (number_of old)) (is_reached (number_of new)) a none some in
-    let l = level_is_there old new w p.0 p.1 in
-    record { event = w; there = l.0; missing = l.1; at = refl }
-
--- the events of a part, by its cell, its set and its counter
-part_events : (p : Part) → parts.events_of p ≡ pair.events_of flat.events_of (pair.events_of set.items_of max.events_of) (part_laws.view p)
-part_events Empty = refl
-part_events (Cell n) = refl
-part_events (Set x) = refl
-part_events (Max x) = refl
-
-abbrev later_eq : SideOf ℤ ℤ → SideOf ℤ ℤ → Bool
-later_eq = sides_eq int_eq int_eq
-
-in_later : (x : Held Set) (c : MaxCounter) → List (SideOf ℤ ℤ)
-in_later x c = pair.events_of set.items_of max.events_of (record { one = x; two = c })
-
-has_cell : (p : Part) (n : ℤ) → is_member part_eq (parts.events_of p) (One n) ≡ is_member int_eq (flat.events_of (cell_in p)) n
-has_cell p n = ap (λ es. is_member part_eq es (One n)) (part_events p)
-    ∙ has_one int_eq later_eq part_eq (λ x z. refl) (λ y w. refl) (λ x y. refl) (λ x y. refl) (flat.events_of (cell_in p)) (pair.events_of set.items_of max.events_of (part_laws.view p).two) n
-
-has_set : (p : Part) (n : ℤ) → is_member part_eq (parts.events_of p) (Two (One n)) ≡ is_member int_eq (set.items_of (set_in p)) n
-has_set p n = ap (λ es. is_member part_eq es (Two (One n))) (part_events p)
-    ∙ has_two int_eq later_eq part_eq (λ x z. refl) (λ y w. refl) (λ x y. refl) (λ x y. refl) (flat.events_of (cell_in p)) (pair.events_of set.items_of max.events_of (part_laws.view p).two) (One n)
-    ∙ has_one int_eq int_eq later_eq (λ x z. refl) (λ y w. refl) (λ x y. refl) (λ x y. refl) (set.items_of (set_in p)) (max.events_of (max_in p)) n
-
-has_max : (p : Part) (n : ℤ) → is_member part_eq (parts.events_of p) (Two (Two n)) ≡ is_member int_eq (max.events_of (max_in p)) n
-has_max p n = ap (λ es. is_member part_eq es (Two (Two n))) (part_events p)
-    ∙ has_two int_eq later_eq part_eq (λ x z. refl) (λ y w. refl) (λ x y. refl) (λ x y. refl) (flat.events_of (cell_in p)) (pair.events_of set.items_of max.events_of (part_laws.view p).two) (Two n)
-    ∙ has_two int_eq int_eq later_eq (λ x z. refl) (λ y w. refl) (λ x y. refl) (λ x y. refl) (set.items_of (set_in p)) (max.events_of (max_in p)) n
-
-abbrev part_spot : PartEvent → Kind × ℤ
-part_spot (One n) = (kind.Cell, pos 0)
-part_spot (Two (One n)) = (kind.Set, n)
-part_spot (Two (Two n)) = (kind.Max, n)
-
-some_same : (x y : ℤ) → Some x ≡ Some y → x ≡ y
-some_same x y e = cc
-
-part_waits : (l : Kind) (t : Test) (w : ℤ) → number_by l t ≡ Some w → (old new : Part) (a : ℤ) → part_answer l t old ≡ None → part_answer l t new ≡ Some a → BringsAt part_eq parts.events_of part_spot old new (l, w)
-part_waits kind.Cell t w is old new a none some = subst (λ w. BringsAt part_eq parts.events_of part_spot old new (kind.Cell, w)) (some_same (pos 0) w is)
-    (brings_there cell_in (λ n. One n) (λ v. (kind.Cell, v)) has_cell (λ n. refl) old new (pos 0) (cell_waits t (cell_in old) (cell_in new) a none some))
-part_waits kind.Set t w is old new a none some = brings_there set_in (λ n. Two (One n)) (λ v. (kind.Set, v)) has_set (λ n. refl) old new w (set_waits t w is (set_in old) (set_in new) a none some)
-part_waits kind.Max t w is old new a none some = brings_there max_in (λ n. Two (Two n)) (λ v. (kind.Max, v)) has_max (λ n. refl) old new w (max_waits t w is (max_in old) (max_in new) a none some)
-part_waits kind.Map t w is old new a none some = absurd cc
-part_waits kind.Tally t w is old new a none some = absurd cc
-
--- a part's event under a key
-abbrev spot_there : ℤ → Kind × ℤ → Event
-spot_there k v = at_spot k v.0 v.1
-
-part_spots : (k : ℤ) (e : PartEvent) → spot_of (part_event k e) ≡ spot_there k (part_spot e)
-part_spots k (One n) = refl
-part_spots k (Two (One n)) = refl
-part_spots k (Two (Two n)) = refl
-
-module _ (en : Event → Event → Bool) (by : IsByName en) where
-  has_whole : (s : Any) (r : WholeEvent) → is_member en (events_of s) (whole_name r) ≡ is_member whole_eq (whole_events (view s)) r
-  has_whole s r = ap (λ es. is_member en es (whole_name r)) (names_there s) ∙ has_name whole_same whole_itself by.same_name by.its_name whole_name whole_apart (whole_events (view s)) r
-
-  has_raw : (s : Any) (r : RawEvent) → is_member en (events_of s) (name_of r) ≡ is_member raw_eq (raw_events (three_in s)) r
-  has_raw s r = has_whole s (One r) ∙ has_one raw_eq entry_eq whole_eq (λ x z. refl) (λ y w. refl) (λ x y. refl) (λ x y. refl) (raw_events (three_in s)) (tally.events_of (tally_in s)) r
-
-  has_amount : (s : Any) (k n : ℤ) → is_member en (events_of s) (whole_name (Two (k, n))) ≡ is_member int_eq (max.events_of (tally.amount (tally_in s) k)) n
-  has_amount s k n = has_whole s (Two (k, n)) ∙ has_two raw_eq entry_eq whole_eq (λ x z. refl) (λ y w. refl) (λ x y. refl) (λ x y. refl) (raw_events (three_in s)) (tally.events_of (tally_in s)) (k, n) ∙ amount_has (tally_in s) k n
-
-  abbrev late_eq : SideOf (ℤ × ℤ) (SideOf PartEvent PartEvent) → SideOf (ℤ × ℤ) (SideOf PartEvent PartEvent) → Bool
-  late_eq = sides_eq entry_eq side_eq
-
-  has_part : (s : Any) (e : PartEvent) → is_member en (events_of s) (name_of (One e)) ≡ is_member part_eq (parts.events_of (part_in s)) e
-  has_part s e = has_raw s (One e) ∙ has_one part_eq late_eq raw_eq (λ x z. refl) (λ y w. refl) (λ x y. refl) (λ x y. refl) (parts.events_of (part_in s)) _ e
-
-  has_late : (s : Any) (e : SideOf (ℤ × ℤ) (SideOf PartEvent PartEvent)) → is_member en (events_of s) (name_of (Two e)) ≡ is_member late_eq (pair.events_of map_of.map_events_of (pair.events_of parts.events_of parts.events_of) (three_in s).two) e
-  has_late s e = has_raw s (Two e) ∙ has_two part_eq late_eq raw_eq (λ x z. refl) (λ y w. refl) (λ x y. refl) (λ x y. refl) (parts.events_of (part_in s)) _ e
-
-  has_entry : (s : Any) (k n : ℤ) → is_member en (events_of s) (name_of (Two (One (k, n)))) ≡ is_member int_eq (flat.events_of (map_of.at (map_in s) k)) n
-  has_entry s k n = has_late s (One (k, n)) ∙ has_one entry_eq side_eq late_eq (λ x z. refl) (λ y w. refl) (λ x y. refl) (λ x y. refl) (map_of.map_events_of (map_in s)) _ (k, n)
-      ∙ map_of.map_has int_cmp_total part_laws.ties cells value_itself same_value int_cmp int_cmp_total part_laws.ties (flat_has_events int_eq int_identical int_eq_equiv int_cmp) int_eq int_eq (λ x y. refl) (λ x y. refl) (map_in s) k n
-
-  has_side : (s : Any) (e : SideOf PartEvent PartEvent) → is_member en (events_of s) (name_of (Two (Two e))) ≡ is_member side_eq (pair.events_of parts.events_of parts.events_of (three_in s).two.two) e
-  has_side s e = has_late s (Two e) ∙ has_two entry_eq side_eq late_eq (λ x z. refl) (λ y w. refl) (λ x y. refl) (λ x y. refl) (map_of.map_events_of (map_in s)) _ e
-
-  has_first : (s : Any) (e : PartEvent) → is_member en (events_of s) (name_of (Two (Two (One e)))) ≡ is_member part_eq (parts.events_of (side_in 1 s)) e
-  has_first s e = has_side s (One e) ∙ has_one part_eq part_eq side_eq (λ x z. refl) (λ y w. refl) (λ x y. refl) (λ x y. refl) (parts.events_of (three_in s).two.two.one) (parts.events_of (three_in s).two.two.two) e
-
-  has_second : (s : Any) (e : PartEvent) → is_member en (events_of s) (name_of (Two (Two (Two e)))) ≡ is_member part_eq (parts.events_of (side_in 2 s)) e
-  has_second s e = has_side s (Two e) ∙ has_two part_eq part_eq side_eq (λ x z. refl) (λ y w. refl) (λ x y. refl) (λ x y. refl) (parts.events_of (three_in s).two.two.one) (parts.events_of (three_in s).two.two.two) e
-
-  abbrev Brings : Any → Any → Event → Type 0
-  Brings old new w = BringsAt en events_of spot_of old new w
-
-  whole_waits : (l : Kind) (t : Test) (w : Event) → option_map (at_spot (pos 0) l) (number_by l t) ≡ Some w → (old new : Any) (a : ℤ) → part_answer l t (part_in old) ≡ None → part_answer l t (part_in new) ≡ Some a → Brings old new w
-  whole_waits l t w is old new a none some =
-      let v = was_there (at_spot (pos 0) l) (number_by l t) w is in
-      subst (Brings old new) v.2 (brings_there part_in (λ e. name_of (One e)) (spot_there (pos 0)) has_part (part_spots (pos 0)) old new (l, v.0) (part_waits l t v.0 v.1 (part_in old) (part_in new) a none some))
-
-  side_waits : (first : Bool) (l : Kind) (t : Test) (w : Event) → option_map (at_spot (cond first (pos 1) (pos 2)) l) (number_by l t) ≡ Some w → (old new : Any) (a : ℤ)
-      → part_answer l t (cond first (three_in old).two.two.one (three_in old).two.two.two) ≡ None → part_answer l t (cond first (three_in new).two.two.one (three_in new).two.two.two) ≡ Some a → Brings old new w
-  side_waits true l t w is old new a none some =
-      let v = was_there (at_spot (pos 1) l) (number_by l t) w is in
-      subst (Brings old new) v.2 (brings_there (side_in 1) (λ e. name_of (Two (Two (One e)))) (spot_there (pos 1)) has_first (part_spots (pos 1)) old new (l, v.0) (part_waits l t v.0 v.1 (side_in 1 old) (side_in 1 new) a none some))
-  side_waits false l t w is old new a none some =
-      let v = was_there (at_spot (pos 2) l) (number_by l t) w is in
-      subst (Brings old new) v.2 (brings_there (side_in 2) (λ e. name_of (Two (Two (Two e)))) (spot_there (pos 2)) has_second (part_spots (pos 2)) old new (l, v.0) (part_waits l t v.0 v.1 (side_in 2 old) (side_in 2 new) a none some))
-
-  event_same : (d e : Event) → Some d ≡ Some e → d ≡ e
-  event_same d e h = cc
-
-  waits_at : (p : Place) (t : Test) (w : Event) → watched_at p t ≡ Some w → (old new : Any) (a : ℤ) → answer_at p t old ≡ None → answer_at p t new ≡ Some a → Brings old new w
-  waits_at place.Cell t w is old new a none some = whole_waits kind.Cell t w is old new a none some
-  waits_at place.Set t w is old new a none some = whole_waits kind.Set t w is old new a none some
-  waits_at place.Max t w is old new a none some = whole_waits kind.Max t w is old new a none some
-  waits_at (place.Key k) t w is old new a none some =
-      subst (Brings old new) (event_same (at_spot k kind.Map (pos 0)) w is)
-      (brings_there (λ s. map_of.at (map_in s) k) (λ n. name_of (Two (One (k, n)))) (at_spot k kind.Map) (λ s n. has_entry s k n) (λ n. refl) old new (pos 0) (cell_waits t (map_of.at (map_in old) k) (map_of.at (map_in new) k) a none some))
-  waits_at (place.Amount k) t w is old new a none some =
-      let v = was_there (at_spot k kind.Tally) (number_by kind.Tally t) w is in
-      subst (Brings old new) v.2
-      (brings_there (λ s. tally.amount (tally_in s) k) (λ n. whole_name (Two (k, n))) (at_spot k kind.Tally) (λ s n. has_amount s k n) (λ n. refl) old new v.0 (max_waits t v.0 v.1 (tally.amount (tally_in old) k) (tally.amount (tally_in new) k) a none some))
-  waits_at place.Total t w is old new a none some = absurd cc
-  waits_at (place.Side i l) t w is old new a none some = side_waits (nat_eq i 1) l t w is old new a none some
-
-  pub any_waits : IsWatched en events_of spot_of watched answer_of
-  any_waits r w is old new a none some = waits_at r.place r.test w is old new a none some

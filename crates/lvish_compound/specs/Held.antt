@@ -31,8 +31,8 @@ module _ {L E S : Type 0} {l : lattice.Ghosts L E} {le : partial_eq.Ghosts L} {e
   abbrev pub state_in : Above L E l le eo ee ep eh → L
   state_in x = x.state
 
-  abbrev pub Held : Type 0
-  Held = L
+  abbrev pub HeldState : Type 0
+  HeldState = L
 
   pub held_above : (nothing : S) (x : Above L E l le eo ee ep eh) → held nothing x.state ≡ put x
   held_above nothing x = ap (from nothing) (above_is x.state x refl)
@@ -40,10 +40,9 @@ module _ {L E S : Type 0} {l : lattice.Ghosts L E} {le : partial_eq.Ghosts L} {e
   pub held_bottom : (nothing : S) (s : L) → is_bottom s ≡ true → held nothing s ≡ nothing
   held_bottom nothing s e = ap (from nothing) (bottom_is_none s e)
 
-  held_case : (nothing : S) (P : S → Type 0) (s : L) (t : Bool) → is_bottom s ≡ t → (is_bottom s ≡ true → P nothing) → ((x : Above L E l le eo ee ep eh) → x.state ≡ s → P (put x)) → P (held nothing s)
-  held_case nothing P s true e f g = subst P (sym (held_bottom nothing s e)) (f e)
-  held_case nothing P s false e f g = subst P (sym (held_above nothing (record { state = s; rises = e }))) (g (record { state = s; rises = e }) refl)
-
   -- a fact of what is held, by whether it is bottom
   pub held_by : (nothing : S) (P : S → Type 0) (s : L) → (is_bottom s ≡ true → P nothing) → ((x : Above L E l le eo ee ep eh) → x.state ≡ s → P (put x)) → P (held nothing s)
-  held_by nothing P s f g = held_case nothing P s (is_bottom s) refl f g
+  held_by nothing P s f g = elim (is_bottom s) as (λ t. is_bottom s ≡ t → P (held nothing s)) [
+    | true ↦ λ e. subst P (sym (held_bottom nothing s e)) (f e)
+    | false ↦ λ e. let x : Above L E l le eo ee ep eh = record { state = s; rises = e } in subst P (sym (held_above nothing x)) (g x refl)
+  ] refl

@@ -1,12 +1,22 @@
 -- Which numbers a read waits for, and which of them a cell, a set or a counter answers.
-use Rattle.std.specs.Prelude.{◌≡◌, ℤ, pos, negsuc, Bool, true, false, cond, int_le, nat_le, Option, Some, None, Contains, find, is_some}
+use Rattle.std.specs.Prelude.{◌≡◌, ℤ, pos, negsuc, Bool, true, false, cond, int_le, nat_le, Option, Some, None, Contains, find, is_some, ℕ, refl}
 use Rattle.std.specs.List.{list_any, list_all}
 use Rattle.std.specs.Ordering.{int_eq}
 use Rattle.lvish_lattice.specs.declared.flat.Flat.{Flat}
 use Rattle.lvish_lattice.specs.declared.flat.Flat.TheVariants.{Bottom, Value}
 use Rattle.lvish_compound.specs.declared.number_test.Test.{Test}
 use Rattle.lvish_compound.specs.declared.number_test.Test.TheVariants.{Any, In, At}
-use Rattle.lvish_compound.specs.Counters.{max_of}
+use borrow.Author.Tests.{leb-true}
+use Rattle.lvish_lattice.specs.declared.max_counter.MaxCounter.{MaxCounter}
+
+abbrev pub max_by : (n : ℕ) (t : Bool) → nat_le n 1000 ≡ t → Option MaxCounter
+max_by n true h = Some (record { value = n; bounded = leb-true n 1000 h })
+max_by n false h = None
+
+-- the counter that holds a number, where it is from 0 to 1000
+abbrev pub max_of : ℤ → Option MaxCounter
+max_of (pos n) = max_by n (nat_le n 1000) refl
+max_of (negsuc n) = None
 
 -- whether a test waits for a number
 abbrev pub Waits : Test → ℤ → Type 0
@@ -17,22 +27,24 @@ Waits (At m) n = m ≡ n
 abbrev pub is_level : ℤ → Bool
 is_level n = is_some (max_of n)
 
+-- whether each of the numbers passes
+abbrev pub all_pass : (ℤ → Bool) → Test → Bool
+all_pass passes Any = true
+all_pass passes (In xs) = list_all passes xs
+all_pass passes (At n) = passes n
+
 -- whether a counter can hold each of the numbers
 abbrev pub are_levels : Test → Bool
-are_levels Any = true
-are_levels (In xs) = list_all is_level xs
-are_levels (At n) = is_level n
+are_levels t = all_pass is_level t
 
 -- whether a tally can have this total
 abbrev pub is_total : ℤ → Bool
 is_total (pos n) = nat_le n 10000
 is_total (negsuc n) = false
 
--- and each of these
+-- whether a tally can have each of the numbers as its total
 abbrev pub are_totals : Test → Bool
-are_totals Any = true
-are_totals (In xs) = list_all is_total xs
-are_totals (At n) = is_total n
+are_totals t = all_pass is_total t
 
 -- the value of a cell, where it is waited for
 abbrev pub cell_answer : Test → Flat ℤ → Option ℤ
@@ -61,6 +73,6 @@ HasOne (At n) = Unit {0}
 abbrev pub StandsFor : {S : Type 0} → (ℤ → Option S) → ℤ → S → Type 0
 StandsFor state n s = state n ≡ Some s
 
--- the members are the states that the numbers that are waited for stand for, each of which answers its number
+-- the members are the states for which the numbers of the test stand; each answers its number
 abbrev pub ByNumber : {S : Type 0} → Test → (ℤ → S → Type 0) → S → ℤ → Type 0
 ByNumber t at s n = Waits t n × at n s

@@ -10,6 +10,10 @@ of_one x = One x
 abbrev pub of_two : {X Y : Type 0} → Y → SideOf X Y
 of_two y = Two y
 
+-- the list of both sides
+abbrev pub sides : {X Y : Type 0} → List X → List Y → List (SideOf X Y)
+sides xs ys = map of_one xs ++ map of_two ys
+
 module _ {A B : Type 0} where
   -- a pair, where both sides are there
   abbrev pub both : Option A → Option B → Option (Pair A B)

@@ -19,26 +19,26 @@ abbrev pub is_side : ℕ → Bool
 is_side i = nat_eq i 1 || nat_eq i 2
 
 -- whether there is such a place, and it can hold the numbers
-abbrev pub fits : Place → Test → Bool
-fits place.Cell t = fits_kind kind.Cell t
-fits place.Set t = fits_kind kind.Set t
-fits place.Max t = fits_kind kind.Max t
-fits (place.Key k) t = true
-fits (place.Amount k) t = are_levels t
-fits place.Total t = are_totals t
-fits (place.Side i l) t = is_side i && fits_kind l t
+abbrev pub test_fits : Place → Test → Bool
+test_fits place.Cell t = fits_kind kind.Cell t
+test_fits place.Set t = fits_kind kind.Set t
+test_fits place.Max t = fits_kind kind.Max t
+test_fits (place.Key k) t = true
+test_fits (place.Amount k) t = are_levels t
+test_fits place.Total t = are_totals t
+test_fits (place.Side i l) t = is_side i && fits_kind l t
 
 -- the kind that is read at a place
-abbrev pub kind_at : Place → Kind
-kind_at place.Cell = kind.Cell
-kind_at place.Set = kind.Set
-kind_at place.Max = kind.Max
-kind_at (place.Key k) = kind.Map
-kind_at (place.Amount k) = kind.Tally
-kind_at place.Total = kind.Tally
-kind_at (place.Side i l) = l
+abbrev pub kind_read_at : Place → Kind
+kind_read_at place.Cell = kind.Cell
+kind_read_at place.Set = kind.Set
+kind_read_at place.Max = kind.Max
+kind_read_at (place.Key k) = kind.Map
+kind_read_at (place.Amount k) = kind.Tally
+kind_read_at place.Total = kind.Tally
+kind_read_at (place.Side i l) = l
 
--- any two values of a cell join to top, and no two sets, no two counters and no two tallies of each two totals
+-- whether states that stand for different numbers join to top: any two values of a cell do; sets, counters and tallies need a test of at most one number
 abbrev pub IsApart : Kind → Test → Type 0
 IsApart kind.Cell t = Unit {0}
 IsApart kind.Set t = HasOne t

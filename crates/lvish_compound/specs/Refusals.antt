@@ -41,10 +41,10 @@ IsBeyondTotal n = (n <ℤ pos 0) ⊎ (pos 10000 <ℤ n)
 abbrev pub IsBeyondTotals : Test → Type 0
 IsBeyondTotals t = (n : ℤ) × Mentions t n × IsBeyondTotal n
 
--- A read is refused: of a counter or of one amount of a tally by a number that no counter holds, of a tally's total by a number that is none, and of a side that there isn't, as a map or a tally, or as a counter by a number that no counter holds.
-abbrev pub IsRefused : Place → Test → Type 0
-IsRefused place.Max t = IsBeyondCounters t
-IsRefused (place.Amount k) t = IsBeyondCounters t
-IsRefused place.Total t = IsBeyondTotals t
-IsRefused (place.Side i l) t = IsNoSide i ⊎ (l ≡ kind.Map) ⊎ (l ≡ kind.Tally) ⊎ ((l ≡ kind.Max) × IsBeyondCounters t)
-IsRefused p t = ⊥
+-- A read is refused: of a counter or of one amount of a tally, by a number that no counter holds; of a tally's total, by a number that no total can be; of a side that does not exist, of a side as a map or a tally, and of a side as a counter by a number that no counter holds.
+abbrev pub IsReadRefused : Place → Test → Type 0
+IsReadRefused place.Max t = IsBeyondCounters t
+IsReadRefused (place.Amount k) t = IsBeyondCounters t
+IsReadRefused place.Total t = IsBeyondTotals t
+IsReadRefused (place.Side i l) t = IsNoSide i ⊎ (l ≡ kind.Map) ⊎ (l ≡ kind.Tally) ⊎ ((l ≡ kind.Max) × IsBeyondCounters t)
+IsReadRefused p t = ⊥

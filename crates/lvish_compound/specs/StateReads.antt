@@ -2,25 +2,19 @@
 use Rattle.std.specs.Prelude.{◌≡◌, ℕ, ℤ, pos, cond, nat_eq, Option, Some, None, option_and_then}
 use Rattle.std.specs.Set.{is_member}
 use Rattle.std.specs.Ordering.{int_eq}
-use Rattle.lvish_lattice.specs.declared.flat.Flat.{Flat}
-use Rattle.lvish_lattice.specs.declared.max_counter.MaxCounter.{MaxCounter}
 use Rattle.lvish_lattice.specs.GrowSet as grow_set
 use Rattle.lvish_lattice.specs.MaxCounter.{number_of}
 use Rattle.lvish_compound.specs.declared.any.Any.{Any}
-use Rattle.lvish_compound.specs.declared.any.Any.TheVariants as variant
 use Rattle.lvish_compound.specs.declared.kind.Kind.{Kind}
 use Rattle.lvish_compound.specs.declared.kind.Kind.TheVariants as kind
 use Rattle.lvish_compound.specs.declared.number_test.Test.{Test}
 use Rattle.lvish_compound.specs.declared.part.Part.{Part}
-use Rattle.lvish_compound.specs.declared.part.Part.TheVariants as part
 use Rattle.lvish_compound.specs.declared.place.Place.{Place}
 use Rattle.lvish_compound.specs.declared.place.Place.TheVariants as place
-use Rattle.lvish_compound.specs.Held.{Held}
 use Rattle.lvish_compound.specs.MapOf as map_of
 use Rattle.lvish_compound.specs.Numbers.{ByNumber, cell_answer, first_that, is_reached}
-use Rattle.lvish_compound.specs.PartLaws as part_laws
-use Rattle.lvish_compound.specs.StateLaws.{three_in, tally_in}
-use Rattle.lvish_compound.specs.States.{cell, set, counter, entry, amount, of_tally, side}
+use Rattle.lvish_compound.specs.Parts.{cell_in, set_in, max_in}
+use Rattle.lvish_compound.specs.States.{cell, set, counter, entry, amount, of_tally, side, part_in, map_in, sides_in, tally_in}
 use Rattle.lvish_compound.specs.Tally as tally
 use Rattle.lvish_compound.specs.declared.tally.Tally as tallies
 
@@ -46,19 +40,9 @@ StateAt (place.Amount k) n s = amount k n ≡ Some s
 StateAt place.Total n s = HasTotal n s
 StateAt (place.Side i l) n s = option_and_then (side i) (state_of l n) ≡ Some s
 
--- the members are the states that the numbers that are waited for stand for, each of which answers its number
+-- the members are the states for which the numbers of the test stand; each answers its number
 abbrev pub MemberAt : Place → Test → Any → ℤ → Type 0
 MemberAt p t s n = ByNumber t (StateAt p) s n
-
--- the cell, the set and the counter of a part, bottom where it is of another kind
-abbrev pub cell_in : Part → Flat ℤ
-cell_in s = (part_laws.view s).one
-
-abbrev pub set_in : Part → Held part.Set
-set_in s = (part_laws.view s).two.one
-
-abbrev pub max_in : Part → MaxCounter
-max_in s = (part_laws.view s).two.two
 
 -- the answer in a part
 abbrev pub part_answer : Kind → Test → Part → Option ℤ
@@ -68,15 +52,9 @@ part_answer kind.Max t s = first_that (is_reached (number_of (max_in s))) t
 part_answer kind.Map t s = None
 part_answer kind.Tally t s = None
 
--- the part, the map and the two sides of a state, bottom where it is of another kind
-abbrev pub part_in : Any → Part
-part_in s = (three_in s).one
-
-abbrev pub map_in : Any → Held variant.Map
-map_in s = (three_in s).two.one
-
+-- the side of this number
 abbrev pub side_in : ℕ → Any → Part
-side_in i s = cond (nat_eq i 1) (three_in s).two.two.one (three_in s).two.two.two
+side_in i s = cond (nat_eq i 1) (sides_in s).one (sides_in s).two
 
 -- the answer at a place
 abbrev pub answer_at : Place → Test → Any → Option ℤ

@@ -13,9 +13,9 @@ use Rattle.lvish_compound.specs.declared.part.Part.TheVariants.{Empty, Cell, Set
 use Rattle.lvish_compound.specs.declared.sides.Sides as sides
 use Rattle.lvish_compound.specs.declared.tally.Tally as tallies
 use Rattle.lvish_compound.specs.Above.{alike as same}
-use Rattle.lvish_compound.specs.Counters.{max_of}
+use Rattle.lvish_compound.specs.Numbers.{max_of}
 use Rattle.lvish_compound.specs.EventNames.{part_event, entry_event, tally_event, side_event}
-use Rattle.lvish_compound.specs.Held.{Held, held}
+use Rattle.lvish_compound.specs.Held.{HeldState, held, bottom_of}
 use Rattle.lvish_compound.specs.MapOf as map_of
 use Rattle.lvish_compound.specs.MapReads.{holding}
 use Rattle.lvish_compound.specs.Pair as pair
@@ -31,7 +31,7 @@ abbrev pub of_part : part.Part → Any
 of_part s = Part s
 
 -- a map, empty where it has no entry
-abbrev pub of_map : Held Map → Any
+abbrev pub of_map : HeldState Map → Any
 of_map m = held Map nothing m
 
 -- a tally, empty where it has no entry
@@ -49,14 +49,12 @@ of_pair p = from_sides (above p)
 -- the other state where the part is empty, and else top
 abbrev pub unless_part : part.Part → Any → Option Any
 unless_part Empty t = Some t
-unless_part (Cell n) t = None
-unless_part (Set x) t = None
-unless_part (Max x) t = None
+unless_part s t = None
 
 abbrev pub cell : ℤ → Any
 cell n = Part (Cell n)
 
-abbrev pub singleton : ℤ → Held Set
+abbrev pub singleton : ℤ → HeldState Set
 singleton n = record { items = n ∷ []; ascending = one_rises int_cmp n }
 
 -- the set of one element
@@ -90,9 +88,24 @@ part_aside i s = cond (nat_eq i 1) (Some (of_pair (record { one = s; two = Empty
 -- a state as a side: there are two sides, each of which is a part
 abbrev pub side : ℕ → Any → Option Any
 side i (Part s) = part_aside i s
-side i (Map x) = None
-side i (Sides z) = None
-side i (Tally x) = None
+side i s = None
+
+-- the part, the map, the two sides and the tally of a state, bottom where it is of another kind
+abbrev pub part_in : Any → part.Part
+part_in (Part s) = s
+part_in s = Empty
+
+abbrev pub map_in : Any → HeldState Map
+map_in (Map x) = x.state
+map_in s = bottom_of Map
+
+abbrev pub sides_in : Any → Pair part.Part part.Part
+sides_in (Sides z) = z.pair
+sides_in s = record { one = Empty; two = Empty }
+
+abbrev pub tally_in : Any → tallies.Tally
+tally_in (Tally x) = x.state
+tally_in s = bottom_of Tally
 
 -- different kinds join to top
 abbrev pub joined : Any → Any → Option Any
@@ -102,16 +115,11 @@ joined (Part s) (Sides z) = unless_part s (Sides z)
 joined (Part s) (Tally y) = unless_part s (Tally y)
 joined (Map x) (Part t) = unless_part t (Map x)
 joined (Map x) (Map y) = option_map of_map (map_of.joined x.state y.state)
-joined (Map x) (Sides z) = None
-joined (Map x) (Tally y) = None
 joined (Sides x) (Part t) = unless_part t (Sides x)
-joined (Sides x) (Map y) = None
 joined (Sides x) (Sides z) = option_map of_pair (parts.pairs_joined x.pair z.pair)
-joined (Sides x) (Tally y) = None
 joined (Tally x) (Part t) = unless_part t (Tally x)
-joined (Tally x) (Map y) = None
-joined (Tally x) (Sides z) = None
 joined (Tally x) (Tally y) = option_map of_tally (tally.joined x.state y.state)
+joined s t = None
 
 -- the events, each with its key, kind and number
 abbrev pub events_of : Any → List Event
@@ -120,7 +128,7 @@ events_of (Map x) = map entry_event (map_of.map_events_of x.state)
 events_of (Sides z) = map side_event (pair.events_of parts.events_of parts.events_of z.pair)
 events_of (Tally x) = map tally_event (tally.events_of x.state)
 
--- by kind and state
+-- whether two states have the same kind and hold the same
 abbrev pub alike : Any → Any → Bool
 alike (Part s) (Part t) = parts.alike s t
 alike (Map x) (Map y) = same x y

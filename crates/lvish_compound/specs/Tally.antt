@@ -5,7 +5,7 @@ use Rattle.std.specs.List.Sorted.{IsStrictlySortedBy}
 use Rattle.std.specs.Ordering.{int_cmp, int_eq}
 use borrow.Author.Tests.{leb-true, eqb-true}
 use Rattle.lvish_lattice.specs.declared.max_counter.MaxCounter.{MaxCounter}
-use Rattle.lvish_lattice.specs.Lattice.{IsBelow}
+use Rattle.lvish_lattice.specs.Lattice.{IsAtOrBelow}
 use Rattle.lvish_compound.specs.declared.tally.Tally.{Tally}
 use Rattle.lvish_compound.specs.Amounts as amounts
 use Rattle.lvish_compound.specs.MapOf as map_of
@@ -13,12 +13,12 @@ use Rattle.lvish_compound.specs.MapReads.{holding}
 use Rattle.lvish_lattice.specs.MaxCounter.{zero}
 
 -- the type of a function's values
-abbrev Values : {A B : Type 0} → (A → B) → Type 0
-Values {A} {B} f = B
+abbrev Codomain : {A B : Type 0} → (A → B) → Type 0
+Codomain {A} {B} f = B
 
 -- maps from keys to amounts
 abbrev pub Amounts : Type 0
-Amounts = Values (λ (t : Tally). t.amounts)
+Amounts = Codomain (λ (t : Tally). t.amounts)
 
 -- the amounts of a tally
 abbrev pub amounts_of : Tally → Amounts
@@ -68,7 +68,7 @@ alone_total k c false e = omega arith
 abbrev pub single : ℤ → MaxCounter → Tally
 single k c = record { amounts = holding k c; total = amounts.level c; counted = alone_total k c (amount_test c zero) refl; bounded = omega (arith, c.bounded) }
 
--- by their amounts
+-- whether two tallies have the same amounts
 abbrev pub alike : Tally → Tally → Bool
 alike s t = map_of.alike (λ (p q : ℤ × MaxCounter). int_eq p.0 q.0 && amount_test p.1 q.1) s.amounts t.amounts
 
@@ -81,13 +81,13 @@ abbrev pub IsPastTotal : Tally → Tally → Type 0
 IsPastTotal s t = (ks : List ℤ) × IsStrictlySortedBy int_cmp ks × (10000 < sum_by (greater_level s t) ks)
 
 -- there are as many events as the total says
-abbrev pub IsCounted : (Tally → List (ℤ × ℤ)) → Type 0
-IsCounted events = (t : Tally) → length (events t) ≡ total t
+abbrev pub IsTotalOfEvents : (Tally → List (ℤ × ℤ)) → Type 0
+IsTotalOfEvents events = (t : Tally) → length (events t) ≡ total t
 
 -- below a tally of at least this total there is one of this total
 abbrev pub AreReached : (Tally → Tally → Option Tally) → Type 0
-AreReached join = (n : ℕ) (s : Tally) → n ≤ total s → (t : Tally) × IsBelow join t s × (total t ≡ n)
+AreReached join = (n : ℕ) (s : Tally) → n ≤ total s → (t : Tally) × IsAtOrBelow join t s × (total t ≡ n)
 
 -- a tally below another has at most its total
 abbrev pub AreGrowing : (Tally → Tally → Option Tally) → Type 0
-AreGrowing join = (s t : Tally) → IsBelow join s t → total s ≤ total t
+AreGrowing join = (s t : Tally) → IsAtOrBelow join s t → total s ≤ total t

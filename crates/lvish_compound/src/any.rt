@@ -154,7 +154,7 @@ impl Any {
 impl PartialEq for Any {
     ghost use Rattle.std.specs.Cmp.{partial_equiv_from_equiv};
     ghost use Rattle.lvish_compound.specs.States.{alike};
-    ghost use Rattle.lvish_compound.specs.StateLaws.{alike_equiv};
+    ghost use Rattle.lvish_compound.specs.laws.StateLaws.{alike_equiv};
 
     ghost eq = { alike };
 
@@ -172,7 +172,7 @@ impl PartialEq for Any {
 }
 
 impl Eq for Any {
-    ghost use Rattle.lvish_compound.specs.StateLaws.{alike_equiv};
+    ghost use Rattle.lvish_compound.specs.laws.StateLaws.{alike_equiv};
 
     ghost laws = { alike_equiv };
 }
@@ -303,8 +303,8 @@ impl Lattice for Any {
     }
 
     ghost use Rattle.std.specs.Prelude.{refl};
-    ghost use Rattle.lvish_compound.specs.StateLaws.{alike_identical, any_is_join};
-    ghost use Rattle.lvish_compound.specs.StateEvents.{any_has_events, by_name, by_rank};
+    ghost use Rattle.lvish_compound.specs.laws.StateLaws.{alike_identical, any_is_join};
+    ghost use Rattle.lvish_compound.specs.laws.StateEvents.{any_has_events, by_name, by_rank};
 
     ghost identical = { alike_identical };
 

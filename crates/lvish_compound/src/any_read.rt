@@ -1,6 +1,6 @@
 ghost use Rattle.std.specs.Prelude.{◌≡◌, ◌↔◌, pos, true, IfOk, IsOk, IsErr, IsTrue};
-ghost use Rattle.lvish_compound.specs.Places.{fits, IsApart};
-ghost use Rattle.lvish_compound.specs.Refusals.{IsRefused};
+ghost use Rattle.lvish_compound.specs.Places.{test_fits, IsApart};
+ghost use Rattle.lvish_compound.specs.Refusals.{IsReadRefused};
 
 use crate::any::Any;
 use crate::event::Event;
@@ -16,7 +16,7 @@ use lvish_lattice::{Flat, Range, Reads};
 pub struct AnyRead {
     place: Place,
     test: Test,
-    ghost fits: { fits place test ≡ true },
+    ghost fits: { test_fits place test ≡ true },
 }
 
 impl AnyRead {
@@ -29,8 +29,8 @@ impl AnyRead {
     pub fn new(place: Place, test: Test) -> Result<AnyRead, Range>
         ensures place { IfOk result (λ r. place_of r ≡ place) }
         ensures test { IfOk result (λ r. test_of r ≡ test) }
-        ensures accepts { IsOk result ↔ IsTrue (fits place test) }
-        ensures refused { IsErr result ↔ IsRefused place test }
+        ensures accepts { IsOk result ↔ IsTrue (test_fits place test) }
+        ensures refused { IsErr result ↔ IsReadRefused place test }
     {
         if !place.fits(&test) {
             return Err(Range);
@@ -39,8 +39,7 @@ impl AnyRead {
     }
 }
 
-/// Whether states of the kind that stand for different numbers which are waited for always join to
-/// top.
+/// Whether any two states of the kind that stand for different numbers of the test join to top.
 fn is_apart(kind: Kind, test: &Test) -> bool
     ensures { IsTrue result ↔ IsApart kind test.now }
 {
@@ -54,10 +53,10 @@ fn is_apart(kind: Kind, test: &Test) -> bool
 }
 
 impl Test {
-    ghost use Rattle.lvish_compound.specs.StateReads.{part_answer, part_in, side_in, map_in};
+    ghost use Rattle.lvish_compound.specs.StateReads.{part_answer, side_in};
     ghost use Rattle.lvish_compound.specs.MapOf.{at};
     ghost use Rattle.lvish_compound.specs.Numbers.{cell_answer, first_that, is_reached};
-    ghost use Rattle.lvish_compound.specs.StateLaws.{tally_in};
+    ghost use Rattle.lvish_compound.specs.States.{part_in, map_in, tally_in};
     ghost use Rattle.lvish_compound.specs.Tally.{amount, total};
     ghost use Rattle.lvish_lattice.specs.MaxCounter.{number_of};
 
@@ -133,7 +132,7 @@ impl Test {
         }
     }
 
-    /// The answer to the total, which is kept and not summed anew.
+    /// The answer to the total, which the tally keeps, so nothing is summed here.
     fn in_total(&self, state: &Any) -> Option<i64>
         ensures { result ≡ first_that (is_reached (pos (total (tally_in state.now)))) self.now }
     {
@@ -215,12 +214,12 @@ impl Reads for Any {
     }
 
     ghost use Rattle.std.specs.Prelude.{refl};
-    ghost use Rattle.lvish_compound.specs.StateEvents.{by_name};
-    ghost use Rattle.lvish_compound.specs.AnyWatch.{any_waits};
+    ghost use Rattle.lvish_compound.specs.laws.StateEvents.{by_name};
+    ghost use Rattle.lvish_compound.specs.laws.WatchLaws.{any_waits};
 
     ghost waits = { any_waits ⟦<Event as PartialEq>⟧.eq (by_name _ (λ d e. refl)) };
 
-    ghost use Rattle.lvish_compound.specs.AnyReadLaws.{any_answers};
+    ghost use Rattle.lvish_compound.specs.laws.AnyReadLaws.{any_answers};
 
     ghost answers = { any_answers };
 }

@@ -142,7 +142,7 @@ impl<K: Plain, L: Lattice> Entries<K, L> {
         self.join_found(alloc, of, part)
     }
 
-    /// The same of a part that isn't bottom: then no key holds bottom.
+    /// Joins a part that isn't bottom to what the key holds, after which no key holds bottom.
     pub fn add(&mut self, alloc: Global, of: K, part: &L) -> Result<bool, AllocError>
         requires ascending { IsStrictlySortedBy K.cmp (map key self.old) }
         requires above { has_no L.eq L.least self.old ≡ true }

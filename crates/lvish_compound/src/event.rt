@@ -1,5 +1,5 @@
 ghost use Rattle.std.specs.Prelude.{◌≡◌};
-ghost use Rattle.lvish_compound.specs.Events.{event_order};
+ghost use Rattle.lvish_compound.specs.EventNames.{event_order};
 
 use crate::kind::Kind;
 use lvish_lattice::{Numbered, Plain};
@@ -27,7 +27,7 @@ impl Event {
 
 impl Plain for Event {
     ghost use Rattle.std.specs.Prelude.{refl};
-    ghost use Rattle.lvish_compound.specs.Events.{events_identical};
+    ghost use Rattle.lvish_compound.specs.laws.KindLaws.{events_identical};
 
     ghost identical = { events_identical _ (λ d e. refl) };
 }

@@ -2,8 +2,7 @@
 
 ghost use Rattle.std.specs.Prelude.{◌≡◌, ◌↔◌, ◌++◌, [], IfOk, IsTrue, MatchOption, is_some, Some, None, true, map};
 ghost use Rattle.std.specs.List.Sorted.{IsStrictlySortedBy};
-ghost use Rattle.lvish_compound.specs.Keyed.{key, at, add_all, has_no};
-ghost use Rattle.lvish_compound.specs.KeyedEvents.{of_key, events_of, events_by};
+ghost use Rattle.lvish_compound.specs.Keyed.{key, at, add_all, has_no, of_key, events_of, events_by};
 ghost use Rattle.lvish_lattice.specs.Lattice.{fresh_of};
 
 use crate::entries::Entries;

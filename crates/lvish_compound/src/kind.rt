@@ -11,7 +11,7 @@ pub enum Kind {
 }
 
 impl Plain for Kind {
-    ghost use Rattle.lvish_compound.specs.Kinds.{kinds_identical};
+    ghost use Rattle.lvish_compound.specs.laws.KindLaws.{kinds_identical};
 
     ghost identical = { kinds_identical };
 }

@@ -2,7 +2,7 @@
 
 ghost use Rattle.lvish_lattice.specs.Top.{IsTopWhere, TwoValues};
 ghost use Rattle.lvish_compound.specs.Clashes.{JoinToTop, AtSomeKey, AtSomeSide, PartsClash, Clash};
-ghost use Rattle.lvish_compound.specs.Tally.{IsPastTotal, IsCounted, AreReached, AreGrowing};
+ghost use Rattle.lvish_compound.specs.Tally.{IsPastTotal, IsTotalOfEvents, AreReached, AreGrowing};
 
 use crate::any::Any;
 use crate::map_of::MapOf;
@@ -54,7 +54,7 @@ pub fn tallies_join_to_top_past_the_total()
 
 /// The total of a tally is the number of its events.
 pub fn totals_count_events()
-    ensures { IsCounted ⟦<Tally as Lattice>⟧.events_of }
+    ensures { IsTotalOfEvents ⟦<Tally as Lattice>⟧.events_of }
 {}
 
 /// Below a tally whose total is at least some number there is one whose total is that number, and

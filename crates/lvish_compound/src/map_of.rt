@@ -1,7 +1,7 @@
 ghost use Rattle.std.specs.Prelude.{◌≡◌, [], map, true, IfOk, unwrap_or};
 ghost use Rattle.std.specs.Option.{option_copied};
 ghost use Rattle.std.specs.List.Sorted.{IsStrictlySortedBy, IsStrictlySortedBy-prop};
-ghost use Rattle.lvish_compound.specs.Keyed.{key, has_no, alone};
+ghost use Rattle.lvish_compound.specs.Keyed.{key, has_no, single_entry};
 
 use crate::entries::Entries;
 use crate::keyed;
@@ -32,7 +32,7 @@ impl<K: Plain, L: Lattice> MapOf<K, L> {
 
     /// The map with one key, empty where the part is bottom.
     pub fn one(alloc: Global, key: K, part: L) -> Result<MapOf<K, L>, AllocError>
-        ensures { IfOk result (λ m. entries_of m ≡ alone L.eq L.least key part) }
+        ensures { IfOk result (λ m. entries_of m ≡ single_entry L.eq L.least key part) }
     {
         let mut entries = Entries::new(alloc);
         if part != L::bottom(alloc) {
@@ -65,7 +65,8 @@ impl<K: Plain, L: Lattice> MapOf<K, L> {
 
 impl<K: Plain, L: Lattice> PartialEq for MapOf<K, L> {
     ghost use Rattle.std.specs.Cmp.{partial_equiv_from_equiv, and_equiv, on_equiv};
-    ghost use Rattle.lvish_compound.specs.MapOf.{alike, alike_equiv};
+    ghost use Rattle.lvish_compound.specs.MapOf.{alike};
+    ghost use Rattle.lvish_compound.specs.laws.MapLaws.{alike_equiv};
 
     ghost eq = { alike ⟦<(K, L) as PartialEq>⟧.eq };
 
@@ -78,7 +79,7 @@ impl<K: Plain, L: Lattice> PartialEq for MapOf<K, L> {
 
 impl<K: Plain, L: Lattice> Eq for MapOf<K, L> {
     ghost use Rattle.std.specs.Cmp.{and_equiv, on_equiv};
-    ghost use Rattle.lvish_compound.specs.MapOf.{alike_equiv};
+    ghost use Rattle.lvish_compound.specs.laws.MapLaws.{alike_equiv};
 
     ghost laws = { alike_equiv (and_equiv (on_equiv (λ (t : K × L). t.0) K.Eq.laws) (on_equiv (λ (t : K × L). t.1) L.Eq.laws)) };
 }
@@ -142,7 +143,7 @@ impl<K: Plain + Hash, L: Lattice> Lattice for MapOf<K, L> {
     ghost use Rattle.std.specs.Prelude.{refl};
     ghost use Rattle.lvish_lattice.specs.Ascending.{ties_are_same};
     ghost use Rattle.lvish_lattice.specs.Plain.{pairs_identical};
-    ghost use Rattle.lvish_compound.specs.MapOf.{alike_identical, map_is_join, map_has_events, events_by_ties};
+    ghost use Rattle.lvish_compound.specs.laws.MapLaws.{alike_identical, map_is_join, map_has_events, events_by_ties};
 
     ghost identical = { alike_identical (pairs_identical K.eq L.eq K.identical L.Lattice.identical _ (λ p q. refl)) };
 

@@ -51,8 +51,7 @@ impl<K: Plain + Hash, L: Reads> Reads for MapOf<K, L> {
     }
 
     ghost use Rattle.lvish_lattice.specs.Ascending.{ties_are_same};
-    ghost use Rattle.lvish_compound.specs.MapOf.{events_by_ties};
-    ghost use Rattle.lvish_compound.specs.MapReads.{map_answers, map_waits};
+    ghost use Rattle.lvish_compound.specs.laws.MapLaws.{events_by_ties, map_answers, map_waits};
 
     ghost waits = { map_waits K.Ord.total (ties_are_same K.cmp K.identical K.matches_eq) L.is_join (L.Eq.laws).refl L.Lattice.identical L.Event.cmp L.Event.Ord.total (ties_are_same L.Event.cmp L.Event.identical L.Event.matches_eq) (events_by_ties L.Event.matches_eq L.has_events) K.eq L.Event.eq K.matches_eq L.Event.matches_eq L.spot_of L.watched L.answer_of L.waits };
 

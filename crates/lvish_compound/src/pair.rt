@@ -97,7 +97,7 @@ impl<A: Lattice, B: Lattice> Lattice for Pair<A, B> {
     }
 
     ghost use Rattle.std.specs.Prelude.{refl};
-    ghost use Rattle.lvish_compound.specs.PairLaws.{pairs_identical, pair_is_join, pair_has_events};
+    ghost use Rattle.lvish_compound.specs.laws.PairLaws.{pairs_identical, pair_is_join, pair_has_events};
 
     ghost identical = { pairs_identical A.eq B.eq A.Lattice.identical B.Lattice.identical _ (λ p q. refl) };
 
@@ -161,7 +161,7 @@ impl<A: Reads, B: Reads> Reads for Pair<A, B> {
     }
 
     ghost use Rattle.std.specs.Prelude.{refl};
-    ghost use Rattle.lvish_compound.specs.PairLaws.{pair_answers, pair_waits};
+    ghost use Rattle.lvish_compound.specs.laws.Embedded.{pair_answers, pair_waits};
 
     ghost waits = { pair_waits A.Event.eq B.Event.eq A.events_of B.events_of A.spot_of B.spot_of A.watched B.watched A.answer_of B.answer_of _ (λ x z. refl) (λ y w. refl) (λ x y. refl) (λ x y. refl) A.waits B.waits };
 

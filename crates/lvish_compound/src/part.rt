@@ -2,7 +2,7 @@ ghost use Rattle.std.specs.Prelude.{◌≡◌, [], IfOk};
 ghost use Rattle.lvish_compound.specs.declared.part.Part.TheVariants.{Empty, Set, Max};
 ghost use Rattle.lvish_compound.specs.Held.{held};
 ghost use Rattle.lvish_compound.specs.Parts.{is_empty};
-ghost use Rattle.lvish_compound.specs.SideEvents.{sides};
+ghost use Rattle.lvish_compound.specs.Pair.{sides};
 
 use crate::above::Above;
 use crate::side_of::{SideOf, of_sides};
@@ -73,7 +73,7 @@ fn max_events(alloc: Global, numbers: &[i64]) -> Result<Vec<PartEvent>, AllocErr
 impl PartialEq for Part {
     ghost use Rattle.std.specs.Cmp.{partial_equiv_from_equiv};
     ghost use Rattle.lvish_compound.specs.Parts.{alike};
-    ghost use Rattle.lvish_compound.specs.PartLaws.{alike_equiv};
+    ghost use Rattle.lvish_compound.specs.laws.PartLaws.{alike_equiv};
 
     ghost eq = { alike };
 
@@ -91,7 +91,7 @@ impl PartialEq for Part {
 }
 
 impl Eq for Part {
-    ghost use Rattle.lvish_compound.specs.PartLaws.{alike_equiv};
+    ghost use Rattle.lvish_compound.specs.laws.PartLaws.{alike_equiv};
 
     ghost laws = { alike_equiv };
 }
@@ -203,7 +203,7 @@ impl Lattice for Part {
         }
     }
 
-    ghost use Rattle.lvish_compound.specs.PartLaws.{alike_identical, part_is_join, part_has_events};
+    ghost use Rattle.lvish_compound.specs.laws.PartLaws.{alike_identical, part_is_join, part_has_events};
 
     ghost identical = { alike_identical };
 

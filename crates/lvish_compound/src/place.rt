@@ -1,5 +1,5 @@
 ghost use Rattle.std.specs.Prelude.{◌≡◌};
-ghost use Rattle.lvish_compound.specs.Places.{fits, fits_kind, kind_at};
+ghost use Rattle.lvish_compound.specs.Places.{test_fits, fits_kind, kind_read_at};
 
 use crate::kind::Kind;
 use crate::number_test::Test;
@@ -35,7 +35,7 @@ impl Kind {
 impl Place {
     /// Whether there is such a place, and it can hold the numbers.
     pub(crate) fn fits(&self, test: &Test) -> bool
-        ensures { result ≡ fits self.now test.now }
+        ensures { result ≡ test_fits self.now test.now }
     {
         match *self {
             Place::Cell => true,
@@ -50,7 +50,7 @@ impl Place {
 
     /// The kind that is read here.
     pub(crate) fn kind(&self) -> Kind
-        ensures { result ≡ kind_at self.now }
+        ensures { result ≡ kind_read_at self.now }
     {
         match *self {
             Place::Cell => Kind::Cell,

@@ -13,7 +13,7 @@ pub enum SideOf<X, Y> {
 
 impl<X: Plain, Y: Plain> Plain for SideOf<X, Y> {
     ghost use Rattle.std.specs.Prelude.{refl};
-    ghost use Rattle.lvish_compound.specs.SideEvents.{sides_identical};
+    ghost use Rattle.lvish_compound.specs.laws.PairLaws.{sides_identical};
 
     ghost identical = { sides_identical X.eq Y.eq X.identical Y.identical _ (λ x z. refl) (λ y w. refl) (λ x y. refl) (λ x y. refl) };
 }

@@ -52,7 +52,8 @@ impl Sides {
 
 impl PartialEq for Sides {
     ghost use Rattle.std.specs.Cmp.{partial_equiv_from_equiv};
-    ghost use Rattle.lvish_compound.specs.Sides.{alike, alike_equiv};
+    ghost use Rattle.lvish_compound.specs.Sides.{alike};
+    ghost use Rattle.lvish_compound.specs.laws.SidesLaws.{alike_equiv};
 
     ghost eq = { alike };
 
@@ -64,7 +65,7 @@ impl PartialEq for Sides {
 }
 
 impl Eq for Sides {
-    ghost use Rattle.lvish_compound.specs.Sides.{alike_equiv};
+    ghost use Rattle.lvish_compound.specs.laws.SidesLaws.{alike_equiv};
 
     ghost laws = { alike_equiv };
 }

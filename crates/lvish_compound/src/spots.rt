@@ -19,11 +19,11 @@ pub(crate) fn at_spot(key: i64, kind: Kind, number: Option<i64>) -> Option<Event
 }
 
 impl Test {
-    ghost use Rattle.lvish_compound.specs.AnyWatch.{number_by, one_in};
+    ghost use Rattle.lvish_compound.specs.AnyWatch.{number_by, one_tested};
 
     /// The one number that is waited for.
     fn only(&self) -> Option<i64>
-        ensures { result ≡ one_in self.now }
+        ensures { result ≡ one_tested self.now }
     {
         match self {
             Test::Any => None,
@@ -32,7 +32,7 @@ impl Test {
         }
     }
 
-    /// The number at which events of the kind let a read pass.
+    /// The number at which events of the kind can wake a read.
     pub(crate) fn number_by(&self, kind: Kind) -> Option<i64>
         ensures { result ≡ number_by kind self.now }
     {

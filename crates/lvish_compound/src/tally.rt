@@ -2,7 +2,7 @@ ghost use Rattle.std.specs.Prelude.{◌≡◌, ◌≤◌, IfOk, pos, map, true};
 ghost use Rattle.std.specs.List.Sorted.{IsStrictlySortedBy};
 ghost use Rattle.std.specs.Ordering.{int_cmp};
 ghost use Rattle.lvish_compound.specs.Amounts.{total_of, level, gain};
-ghost use Rattle.lvish_compound.specs.Keyed.{key, has_no, alone};
+ghost use Rattle.lvish_compound.specs.Keyed.{key, has_no, single_entry};
 ghost use Rattle.lvish_lattice.specs.MaxCounter.{zero};
 ghost use Rattle.lvish_compound.specs.MapOf as map_of;
 
@@ -34,7 +34,7 @@ impl Tally {
 
     /// The map of one key and its amount, empty where that is 0.
     pub fn one(alloc: Global, key: i64, amount: MaxCounter) -> Result<Tally, AllocError>
-        ensures { IfOk result (λ t. entries_of t ≡ alone amount_test zero key amount) }
+        ensures { IfOk result (λ t. entries_of t ≡ single_entry amount_test zero key amount) }
     {
         let amounts = MapOf::one(alloc, key, amount)?;
         Ok(Tally {
@@ -85,7 +85,7 @@ impl Tally {
 impl PartialEq for Tally {
     ghost use Rattle.std.specs.Cmp.{partial_equiv_from_equiv};
     ghost use Rattle.lvish_compound.specs.Tally.{alike};
-    ghost use Rattle.lvish_compound.specs.TallyLaws.{alike_equiv};
+    ghost use Rattle.lvish_compound.specs.laws.TallyLaws.{alike_equiv};
 
     ghost eq = { alike };
 
@@ -97,7 +97,7 @@ impl PartialEq for Tally {
 }
 
 impl Eq for Tally {
-    ghost use Rattle.lvish_compound.specs.TallyLaws.{alike_equiv};
+    ghost use Rattle.lvish_compound.specs.laws.TallyLaws.{alike_equiv};
 
     ghost laws = { alike_equiv };
 }
@@ -165,7 +165,7 @@ impl Lattice for Tally {
         Ok(merged)
     }
 
-    ghost use Rattle.lvish_compound.specs.TallyLaws.{alike_identical, tally_is_join, tally_has_events};
+    ghost use Rattle.lvish_compound.specs.laws.TallyLaws.{alike_identical, tally_is_join, tally_has_events};
 
     ghost identical = { alike_identical };
 

@@ -1,32 +1,35 @@
 -- A step that is an error, over any machine.
 use Rattle.std.proofs.Common.{◌≡◌, ◌⊎◌, inl, inr, take, drop, ◌+◌, ◌≤◌, ◌<◌, ◌++◌, ℕ, List, [], ◌∷◌, length, Option, Some, append_assoc, refl, sym, ap, subst, ◌∙◌, arith, length-append}
+use Rattle.lvish_core.specs.declared.limits.TheConstants.{MOST_STEPS}
 use Rattle.lvish_calculus.specs.declared.request.ErrorKind.{ErrorKind}
 use Rattle.lvish_calculus.specs.declared.request.ErrorKind.TheVariants.{Conflict, Frozen}
 use Rattle.lvish_calculus.specs.declared.request.Request.TheVariants.{Put}
 use Rattle.lvish_calculus.specs.declared.label.Label.{Label}
-use Rattle.lvish_calculus.specs.declared.label.Label.TheVariants.{Task as Act}
+use Rattle.lvish_calculus.specs.declared.label.Label.TheVariants.{Act}
 use Rattle.lvish_calculus.specs.Machine.{Machine, IsLawful}
-use Rattle.lvish_calculus.specs.Calculus.{Name, Handler, State, Configuration, Running, Error, Changes, Fails, Nothing, Outcome, IsEnabled, CanStep, IsRun, after, next, outcome, start, step}
+use Rattle.lvish_calculus.specs.Calculus.{State, Configuration, Running, Error, Changes, Fails, Nothing, Effect, IsEnabled, CanStep, IsRun, after, next, effect, start, step}
+use Rattle.lvish_names.specs.Names.{Name, Handler}
 use Rattle.lvish_calculus.specs.Laws.{Reaches}
-use Rattle.lvish_calculus.specs.Handing.{IsNoLater, IsCoreRun}
-use Rattle.lvish_variable.specs.Variable.{View as Variable, logged}
+use Rattle.lvish_calculus.specs.Handing.{IsNoLater, HandsOldestFirst}
+use Rattle.lvish_variable.specs.Variable.{VariableView as Variable, logged}
 use Rattle.lvish_variable.specs.declared.put_fault.PutFault.{PutFault}
 use Rattle.lvish_variable.specs.declared.put_fault.PutFault.TheVariants.{Conflict as PutConflict, Frozen as PutFrozen}
 use Rattle.lvish_picture.specs.Logs.{IsInOrder}
 use Rattle.lvish_picture.specs.Picture.{IsPictured}
+use Rattle.lvish_picture.specs.Steps.{IsErring}
 use Rattle.lvish_picture.specs.Laws.{ErrorsAreSteps}
-use Rattle.lvish_picture.proofs.Lists.{whole, within, cut}
-use Rattle.lvish_core.specs.declared.place.Place.{Place}
+use Rattle.lvish_calculus.proofs.CoreRuns.{whole, within, cut}
+use Rattle.lvish_core.specs.declared.handler_place.HandlerPlace.{HandlerPlace}
 use Rattle.lvish_core.specs.declared.touched.Touched.TheVariants.{Other}
 use Rattle.lvish_core.specs.declared.fault.Stepped.TheVariants.{Error as ErrorStep}
-use Rattle.lvish_core.specs.Core.{View, state, IsRunTo, IsStep}
+use Rattle.lvish_core.specs.Core.{CoreView, state, IsRunTo, IsStep}
 use Rattle.lvish_core.specs.Changes.{nothing_moved, moved_in, task_touches, brings}
 use Rattle.lvish_core.specs.Beside.{RefusedAt}
 use Rattle.lvish_core.specs.Acts.{IsActing, IsFailing, IsMoving}
 use Rattle.lvish_core.specs.Kept.{IsKept}
-use Rattle.lvish_core.proofs.Gets.{some_same, rewritten}
-use Rattle.lvish_core.proofs.Goes.{at_state, pictured_by}
-use Rattle.lvish_core.proofs.Acting.{no_more}
+use Rattle.lvish_core.proofs.Gets.{rewritten}
+use Rattle.lvish_core.specs.laws.Runs.{at_state, pictured_by}
+use Rattle.lvish_core.proofs.Goes.{same_log}
 
 module _ {S E R A L : Type 0} (M : Machine S E R A L) where
   -- a run doesn't lead to an error and to a configuration without one
@@ -57,26 +60,22 @@ module _ {S E R A L : Type 0} (M : Machine S E R A L) where
     }
 
   -- what an error is told by
-  fails_does : (c : State S E L) (o : Outcome S E L) (kind : ErrorKind) (v : Option ℕ) (t : Name E) → after M c o ≡ Error kind v t → o ≡ Fails kind v t
+  fails_does : (c : State S E L) (o : Effect S E L) (kind : ErrorKind) (v : Option ℕ) (t : Name E) → after M c o ≡ Error kind v t → o ≡ Fails kind v t
   fails_does c (Changes ch) kind v t e = absurd (cc e)
-  fails_does c (Fails k w u) kind v t e = ap (λ d. of d) e
-    where
-      of : Configuration S E L → Outcome S E L
-      of (Running s) = Nothing
-      of (Error k w u) = Fails k w u
+  fails_does c (Fails k w u) kind v t e = cc e
   fails_does c Nothing kind v t e = absurd (cc e)
 
-module _ {P S E R A L : Type 0} (M : Machine S E R A L) (ok : IsLawful M) (law : ErrorsAreSteps M) (variables n : ℕ) (places : List (Handler E × Place)) (old : View P S E L)
+module _ {P S E R A L : Type 0} (M : Machine S E R A L) (ok : IsLawful M) (law : ErrorsAreSteps M) (variables n : ℕ) (places : List (Handler E × HandlerPlace)) (old : CoreView P S E L)
     (kept : IsKept M variables n places old) (t : Name E) (kind : ErrorKind) (v : Option ℕ) (h : IsFailing M old t kind v) where
-  abbrev later : Name E → View P S E L
+  abbrev later : Name E → CoreView P S E L
   later u = record { program = old.program; table = old.table; steps = old.steps + 1; fault = Some (record { kind = kind; variable = v; task = u }); touched = Some Other }
 
   abbrev said : (xs : List (Label E)) → IsPictured M old.table xs → IsEnabled M (state M old) (Act t) × (step M (state M old) (Act t) ≡ Error kind v t)
-      × IsRun M (Running (start M)) (xs ++ Act t ∷ []) (Error kind v t) × IsCoreRun M (xs ++ Act t ∷ [])
+      × IsRun M (Running (start M)) (xs ++ Act t ∷ []) (Error kind v t) × HandsOldestFirst M (xs ++ Act t ∷ [])
   said xs k = law xs old.table t h.acting.local h.forks h.adds h.puts h.request kind v k h.acting.asking h.errs
 
-  does : outcome M (state M old) (Act t) ≡ Fails kind v t
-  does = fails_does M (state M old) (outcome M (state M old) (Act t)) kind v t (said kept.standing.run kept.standing.pictured).1
+  does : effect M (state M old) (Act t) ≡ Fails kind v t
+  does = fails_does M (state M old) (effect M (state M old) (Act t)) kind v t (said kept.standing.run kept.standing.pictured).1
 
   leads : (xs : List (Label E)) → IsRunTo M old xs → IsRunTo M (later t) (xs ++ Act t ∷ [])
   leads xs r = let s = said xs (pictured_by M old xs h.acting.no_fault r) in record {
@@ -89,7 +88,7 @@ module _ {P S E R A L : Type 0} (M : Machine S E R A L) (ok : IsLawful M) (law :
   failed_step : IsStep M old (Act t) (later t) (ErrorStep kind)
   failed_step =
       let s = said kept.standing.run kept.standing.pictured in
-      let room : old.steps < 1000000 = h.acting.room in
+      let room : old.steps < MOST_STEPS = h.acting.room in
       record {
         enabled = (subst (λ (q : Configuration S E L). CanStep M q (Act t)) (sym (at_state M old h.acting.no_fault)) s.0, tt);
         program = refl;
@@ -98,14 +97,14 @@ module _ {P S E R A L : Type 0} (M : Machine S E R A L) (ok : IsLawful M) (law :
         stepped = sym (ap (λ (q : Configuration S E L). next M q (Act t)) (at_state M old h.acting.no_fault) ∙ s.1);
         answer = refl;
         leads = leads;
-        logs = λ u x y a b. ap (λ (z : Variable S E). z.log) (some_same (sym b ∙ a)) ∙ no_more x.log ∙ ap (λ o. x.log ++ brings M (state M old) u o) (sym does);
+        logs = λ u x y a b. same_log old.table.variables u x y a b ∙ ap (λ o. x.log ++ brings M (state M old) u o) (sym does);
         touched = ap Some (sym (ap (λ o. task_touches M (state M old) o) does));
         shows_before = λ k e. refl;
       }
 
   failed_kept : IsKept M variables n places (later t)
   failed_kept =
-      let room : old.steps < 1000000 = h.acting.room in
+      let room : old.steps < MOST_STEPS = h.acting.room in
       record {
         reached = record {
           labels = kept.reached.labels ++ Act t ∷ [];
@@ -127,28 +126,13 @@ module _ {P S E R A L : Type 0} (M : Machine S E R A L) (ok : IsLawful M) (law :
       (record { step = failed_step; change = sym (ap moved_in does) }, failed_kept)
 
 -- a put that the variable refuses
-module _ {P S E R A L : Type 0} (M : Machine S E R A L) (old : View P S E L) (t : Name E) (at : L) (f a p v : ℕ) (d : S) (acts : IsActing M old t at f a p (Put v d)) where
-  conflict_fails : (o : PutFault) (w : RefusedAt M.join d v old.table.variables o) (kind : ErrorKind) → o ≡ PutConflict → kind ≡ Conflict → IsFailing M old t kind (Some v)
-  conflict_fails o w kind oo kk = subst (λ k. IsFailing M old t k (Some v)) (sym kk) (record {
-    at = at;
-    forks = f;
-    adds = a;
-    puts = p;
-    request = Put v d;
-    acting = acts;
-    errs = let z = subst (λ q. RefusedAt M.join d v old.table.variables q) oo w in (z.from, z.was, z.refused, refl);
-  })
-
-  frozen_fails : (o : PutFault) (w : RefusedAt M.join d v old.table.variables o) (kind : ErrorKind) → o ≡ PutFrozen → kind ≡ Frozen → IsFailing M old t kind (Some v)
-  frozen_fails o w kind oo kk = subst (λ k. IsFailing M old t k (Some v)) (sym kk) (record {
-    at = at;
-    forks = f;
-    adds = a;
-    puts = p;
-    request = Put v d;
-    acting = acts;
-    errs = let z = subst (λ q. RefusedAt M.join d v old.table.variables q) oo w in (z.from, z.was, z.refused, refl);
-  })
+module _ {P S E R A L : Type 0} (M : Machine S E R A L) (old : CoreView P S E L) (t : Name E) (at : L) (f a p v : ℕ) (d : S) (acts : IsActing M old t at f a p (Put v d)) where
+  refused_fails : (o : PutFault) (kind : ErrorKind) → RefusedAt M.join d v old.table.variables o → ((o ≡ PutConflict) × (kind ≡ Conflict)) ⊎ ((o ≡ PutFrozen) × (kind ≡ Frozen)) → IsFailing M old t kind (Some v)
+  refused_fails o kind w by = record { at = at; forks = f; adds = a; puts = p; request = Put v d; acting = acts; errs = errs by }
+    where
+      errs : ((o ≡ PutConflict) × (kind ≡ Conflict)) ⊎ ((o ≡ PutFrozen) × (kind ≡ Frozen)) → IsErring M old.table t (Put v d) kind (Some v)
+      errs (inl e) = let z = rw e.0 at w in rw e.1 (z.from, z.was, z.refused, refl)
+      errs (inr e) = let z = rw e.0 at w in rw e.1 (z.from, z.was, z.refused, refl)
 
   -- as the core stands after its slice was handed out
   pub refused : (slice new : List (Variable S E)) (n : ℕ) → slice ≡ old.table.variables → n ≡ length old.table.variables → new ≡ slice → (o : PutFault) → RefusedAt M.join d v slice o → (kind : ErrorKind) → ((o ≡ PutConflict) × (kind ≡ Conflict)) ⊎ ((o ≡ PutFrozen) × (kind ≡ Frozen))
@@ -156,7 +140,4 @@ module _ {P S E R A L : Type 0} (M : Machine S E R A L) (old : View P S E L) (t 
   refused slice new n is len same o w kind by =
       subst (λ l. IsFailing M (record { program = old.program; table = record { variables = l; handlers = old.table.handlers; tasks = old.table.tasks }; steps = old.steps; fault = old.fault; touched = old.touched }) t kind (Some v))
       (sym (same ∙ is) ∙ rewritten old.table.variables new n len (ap length (same ∙ is)))
-      (let z = subst (λ l. RefusedAt M.join d v l o) is w in elim by [
-        | inl e ↦ conflict_fails o z kind e.0 e.1
-        | inr e ↦ frozen_fails o z kind e.0 e.1
-      ])
+      (refused_fails o kind (subst (λ l. RefusedAt M.join d v l o) is w) by)

@@ -1,30 +1,10 @@
 -- Elements of lists by their place.
 use Rattle.std.proofs.Math.Seq.{take-append_seam}
+use Rattle.std.proofs.lemmas.Option.{same_Some, slice_get_read}
 use Rattle.std.proofs.Common.{◌≡◌, ℕ, suc, zero, ◌<◌, List, [], ◌∷◌, ◌++◌, take, drop, length, get_or, slice_get, slice_set, Some, refl, sym, ap, ◌∙◌, arith}
 
-pub some_same : {X : Type 0} {x y : X} → Some x ≡ Some y → x ≡ y
-some_same e = cc
-
 pub get_some : {X : Type 0} (xs : List X) (i : ℕ) (x : X) → i < length xs → x ≡ get_or xs i x → slice_get xs i ≡ Some x
-get_some [] i x lt e = absurd (omega arith)
-get_some (y ∷ xs) zero x lt e = ap Some (sym e)
-get_some (y ∷ xs) (suc i) x lt e = get_some xs i x (omega arith) e
-
--- an element that is there, by its place
-pub got : {X : Type 0} (xs : List X) (i : ℕ) (x y : X) → slice_get xs i ≡ Some x → y ≡ get_or xs i y → y ≡ x
-got [] i x y at e = absurd (cc at)
-got (z ∷ xs) zero x y at e = e ∙ some_same at
-got (z ∷ xs) (suc i) x y at e = got xs i x y at e
-
-pub get_within : {X : Type 0} (xs : List X) (i : ℕ) (x : X) → slice_get xs i ≡ Some x → i < length xs
-get_within [] i x at = absurd (cc at)
-get_within (z ∷ xs) zero x at = omega arith
-get_within (z ∷ xs) (suc i) x at = let lt : i < length xs = get_within xs i x at in omega arith
-
-pub get_there : {X : Type 0} (xs : List X) (i : ℕ) → i < length xs → (x : X) × (slice_get xs i ≡ Some x)
-get_there [] i lt = absurd (omega arith)
-get_there (x ∷ xs) zero lt = (x, refl)
-get_there (x ∷ xs) (suc i) lt = get_there xs i (omega arith)
+get_some xs i x = slice_get_read xs (length xs) i x refl
 
 -- after a change at one place, the other elements are the old ones
 pub data SetRead {X : Type 0} (xs : List X) (v : ℕ) (x : X) (w : ℕ) (y : X) : Type 0 where
@@ -33,7 +13,7 @@ pub data SetRead {X : Type 0} (xs : List X) (v : ℕ) (x : X) (w : ℕ) (y : X) 
 
 pub set_read : {X : Type 0} (xs : List X) (v : ℕ) (x : X) (w : ℕ) (y : X) → v < length xs → slice_get (slice_set xs v x) w ≡ Some y → SetRead xs v x w y
 set_read [] v x w y lt at = absurd (omega arith)
-set_read (z ∷ xs) zero x zero y lt at = here refl (sym (some_same at))
+set_read (z ∷ xs) zero x zero y lt at = here refl (sym (same_Some _ _ at))
 set_read (z ∷ xs) zero x (suc w) y lt at = other (λ e. absurd (omega (arith, e))) at
 set_read (z ∷ xs) (suc v) x zero y lt at = other (λ e. absurd (omega (arith, e))) at
 set_read (z ∷ xs) (suc v) x (suc w) y lt at = elim (set_read xs v x w y (omega arith) at) [

@@ -1,99 +1,125 @@
 -- A step of a core that isn't an error, over any machine.
-use Rattle.std.proofs.Common.{◌≡◌, ◌+◌, ◌<◌, ◌≤◌, ℕ, List, [], ◌∷◌, ◌++◌, length, Some, None, slice_get, sym, ap, subst, ◌∙◌, arith, length-append}
+use Rattle.std.proofs.Common.{◌≡◌, ◌+◌, ◌<◌, ◌≤◌, ℕ, List, [], ◌∷◌, ◌++◌, length, Some, None, slice_get, slice_set, refl, sym, ap, subst, ◌∙◌, arith, length-append, append-nil}
+use Rattle.std.proofs.lemmas.Option.{same_Some, slice_get_within}
+use Rattle.lvish_core.specs.declared.limits.TheConstants.{MOST_STEPS}
 use Rattle.lvish_calculus.specs.declared.label.Label.{Label}
-use Rattle.lvish_calculus.specs.Machine.{Machine}
-use Rattle.lvish_calculus.specs.Calculus.{Handler, State, Configuration, Running, Change, Changes, CanStep, IsRun, after, changed, next, outcome, start, with_handler}
+use Rattle.lvish_calculus.specs.declared.label.Label.TheVariants.{Act}
+use Rattle.lvish_calculus.specs.declared.request.Request.{Request}
+use Rattle.lvish_calculus.specs.Machine.{Machine, IsLawful}
+use Rattle.lvish_calculus.specs.Calculus.{Task, State, Configuration, Running, IsLive, Change, Changes, CanStep, IsRun, after, changed, next, effect, request_effect, task_effect, start, with_task}
+use Rattle.lvish_names.specs.Names.{Name, Handler}
 use Rattle.lvish_calculus.specs.Live.{HasLive}
-use Rattle.lvish_variable.specs.Variable.{View as Variable}
-use Rattle.lvish_picture.specs.Picture.{IsPictured}
-use Rattle.lvish_picture.specs.Laws.{IsStep as TableStep}
-use Rattle.lvish_picture.specs.Counts.{IsCounted}
-use Rattle.lvish_core.specs.declared.place.Place.{Place}
+use Rattle.lvish_variable.specs.declared.entry.Entry.{Entry}
+use Rattle.lvish_variable.specs.Variable.{VariableView as Variable}
+use Rattle.lvish_picture.specs.Picture.{Table, IsPictured, task_of}
+use Rattle.lvish_picture.specs.Steps.{AreTasks}
+use Rattle.lvish_picture.specs.Laws.{IsTableStep as TableStep}
+use Rattle.lvish_picture.specs.Counts.{CountsRunning}
+use Rattle.lvish_core.specs.declared.handler_place.HandlerPlace.{HandlerPlace}
+use Rattle.lvish_core.specs.declared.touched.Touched.{Touched}
 use Rattle.lvish_core.specs.declared.fault.Stepped.TheVariants.{Done as DoneStep}
-use Rattle.lvish_core.specs.Core.{View, state, at_fault, picture, IsRunTo, IsStep, HandsNext, says}
-use Rattle.lvish_core.specs.Changes.{brings, put_brings, touched_by}
+use Rattle.lvish_core.specs.Core.{CoreView, state, at_fault, picture, IsRunTo, IsStep, HandsNext, says}
+use Rattle.lvish_core.specs.Changes.{brings, put_brings, moved_by, moved_in, task_touches, touched_by}
 use Rattle.lvish_core.specs.Places.{IsIndex}
+use Rattle.lvish_core.specs.Tasks.{Sets}
+use Rattle.lvish_core.specs.Acts.{IsActing, IsMoving}
 use Rattle.lvish_core.specs.Kept.{IsKept, AreFew}
+use Rattle.lvish_core.specs.laws.Runs.{running_same, at_state, pictured_by, run_to}
+use Rattle.lvish_core.proofs.Gets.{here, other, set_read}
+use Rattle.lvish_core.proofs.Turns.{Turn, Start, joined, left, live_is, no_more, live_after, few_after}
 
-pub running_same : {S E L : Type 0} {a b : State S E L} → Running a ≡ Running b → a ≡ b
-running_same e = cc
+-- a log that stays
+pub same_log : {S E : Type 0} (xs : List (Variable S E)) (v : ℕ) (x y : Variable S E) → slice_get xs v ≡ Some x → slice_get xs v ≡ Some y → y.log ≡ x.log ++ []
+same_log {S} {E} xs v x y a b = let e : y ≡ x = cc in ap (λ (z : Variable S E). z.log) e ∙ sym (append-nil x.log)
 
-module _ {P S E R A L : Type 0} (M : Machine S E R A L) where
-  -- the configuration without an error
-  pub at_state : (c : View P S E L) → c.fault ≡ None → picture M c ≡ Running (state M c)
-  at_state c f = ap (at_fault (state M c)) f
+-- the logs, where one variable is written
+pub written_log : {S E : Type 0} (xs : List (Variable S E)) (v : ℕ) (from to : Variable S E) → slice_get xs v ≡ Some from → (ys : List (Variable S E)) → ys ≡ slice_set xs v to
+    → (brought : ℕ → List (Entry E)) → to.log ≡ from.log ++ brought v → ((u : ℕ) → (u ≡ v → ⊥) → brought u ≡ []) → (u : ℕ) (x y : Variable S E) → slice_get xs u ≡ Some x → slice_get ys u ≡ Some y → y.log ≡ x.log ++ brought u
+written_log {S} {E} xs v from to was ys is brought at_v else u x y ax ay = elim (set_read xs v to u y (slice_get_within xs v from was) (ap (λ l. slice_get l u) (sym is) ∙ ay)) [
+  | here uv yt ↦
+      let same : x ≡ from = same_Some _ _ (sym ax ∙ ap (slice_get xs) uv ∙ was) in
+      ap (λ (z : Variable S E). z.log) yt ∙ at_v ∙ ap (λ (z : Variable S E). z.log ++ brought v) (sym same) ∙ ap (λ i. x.log ++ brought i) (sym uv)
+  | other ne oy ↦ same_log xs u x y ax oy ∙ ap (λ l. x.log ++ l) (sym (else u ne))
+]
 
-  -- without an error, the runs to a core are those that picture its table
-  pub pictured_by : (c : View P S E L) (xs : List (Label E)) → c.fault ≡ None → IsRunTo M c xs → IsPictured M c.table xs
-  pictured_by c xs f r = record { reached = subst (λ (q : Configuration S E L). IsRun M (Running (start M)) xs q) (at_state c f) r.reached; core = r.core; logs = r.logs; table = r.table }
+-- the core after a step: its table, and what the step concerned
+abbrev pub later : {P S E L : Type 0} → CoreView P S E L → Table S E L → Touched → CoreView P S E L
+later old table on = record { program = old.program; table = table; steps = old.steps + 1; fault = old.fault; touched = Some on }
 
-  pub run_to : (c : View P S E L) (xs : List (Label E)) → c.fault ≡ None → IsPictured M c.table xs → IsRunTo M c xs
-  run_to c xs f k = record { reached = subst (λ (q : Configuration S E L). IsRun M (Running (start M)) xs q) (sym (at_state c f)) k.reached; core = k.core; logs = k.logs; table = k.table }
+module _ {P S E R A L : Type 0} (M : Machine S E R A L) (ok : IsLawful M) (variables n : ℕ) (places : List (Handler E × HandlerPlace)) (old : CoreView P S E L) (kept : IsKept M variables n places old) where
+  -- what makes a step: its change in the calculus, and what it leaves
+  pub record Going (l : Label E) (change : Change S E L) (new : Table S E L) (more : List (Handler E × HandlerPlace)) : Type 0 where
+    pub does : effect M (state M old) l ≡ Changes change
+    pub turn : Turn (state M old).tasks change.own
+    pub begins : Start (state M old).tasks change.made
+    pub steps : (xs : List (Label E)) → IsPictured M old.table xs → TableStep M old.table xs l new
+    pub logs : (v : ℕ) (x y : Variable S E) → slice_get old.table.variables v ≡ Some x → slice_get new.variables v ≡ Some y → y.log ≡ x.log ++ put_brings M (state M old) v change.joined change.own
+    pub long : length new.variables ≡ length old.table.variables
+    pub counted : CountsRunning M new
+    pub index : IsIndex M (changed M change (state M old)) more
 
-  -- what makes a step
-  pub record Going (old new : View P S E L) (l : Label E) : Type 0 where
-    pub change : Change S E L
-    pub no_fault : old.fault ≡ None
-    pub still : new.fault ≡ None
-    pub room : old.steps < 1000000
-    pub program : new.program ≡ old.program
-    pub count : new.steps ≡ old.steps + 1
-    pub takes : HandsNext M old l
-    pub does : outcome M (state M old) l ≡ Changes change
-    pub steps : (xs : List (Label E)) → IsPictured M old.table xs → TableStep M old.table xs l new.table
-    pub logs : (v : ℕ) (x y : Variable S E) → slice_get old.table.variables v ≡ Some x → slice_get new.table.variables v ≡ Some y → y.log ≡ x.log ++ put_brings M (state M old) v change.joined change.own
-    pub touches : new.touched ≡ Some (touched_by M (state M old) l)
+  -- a step that is no error moves what its change does, and the core keeps what it keeps
+  abbrev pub Moves : Label E → Change S E L → Table S E L → List (Handler E × HandlerPlace) → Touched → Type 0
+  Moves l change new more on = IsMoving M old l (later old new on) DoneStep (moved_by change) × IsKept M variables (left change.own (joined change.made n)) more (later old new on)
 
-  module _ (old new : View P S E L) (l : Label E) (g : Going old new l) where
-    pub goes : (xs : List (Label E)) → IsPictured M old.table xs → IsStep M old l new DoneStep
-    goes xs k =
-        let s = g.steps xs k in
-        let room : old.steps < 1000000 = g.room in
-        let count : new.steps ≡ old.steps + 1 = g.count in
+  module _ (l : Label E) (change : Change S E L) (new : Table S E L) (more : List (Handler E × HandlerPlace)) (on : Touched) (no_fault : old.fault ≡ None) (room : old.steps < MOST_STEPS) (takes : HandsNext M old l)
+      (touches : on ≡ touched_by M (state M old) l) (g : Going l change new more) where
+    is_step : IsStep M old l (later old new on) DoneStep
+    is_step =
+        let s = g.steps kept.standing.run kept.standing.pictured in
         record {
-          enabled = (subst (λ (q : Configuration S E L). CanStep M q l) (sym (at_state old g.no_fault)) s.enabled, g.takes);
-          program = g.program;
-          steps = g.count;
+          enabled = (subst (λ (q : Configuration S E L). CanStep M q l) (sym (at_state M old no_fault)) s.enabled, takes);
+          program = refl;
+          steps = refl;
           small = omega arith;
-          stepped = at_state new g.still ∙ sym (ap (λ (q : Configuration S E L). next M q l) (at_state old g.no_fault) ∙ s.stepped);
-          answer = subst (λ (q : Configuration S E L). says q DoneStep) (sym (at_state new g.still)) tt;
-          leads = λ ys r. run_to new (ys ++ l ∷ []) g.still ((g.steps ys (pictured_by old ys g.no_fault r)).kept);
+          stepped = at_state M (later old new on) no_fault ∙ sym (ap (λ (q : Configuration S E L). next M q l) (at_state M old no_fault) ∙ s.stepped);
+          answer = subst (λ (q : Configuration S E L). says q DoneStep) (sym (at_state M (later old new on) no_fault)) tt;
+          leads = λ ys r. run_to M (later old new on) (ys ++ l ∷ []) no_fault ((g.steps ys (pictured_by M old ys no_fault r)).kept);
           logs = λ v x y a b. g.logs v x y a b ∙ ap (λ o. x.log ++ brings M (state M old) v o) (sym g.does);
-          touched = g.touches;
+          touched = ap Some touches;
           shows_before = λ k e. let no_error : ⊥ = cc in absurd no_error;
         }
 
-    pub state_after : (xs : List (Label E)) → IsPictured M old.table xs → state M new ≡ changed M g.change (state M old)
-    state_after xs k = running_same (sym (sym (ap (λ o. after M (state M old) o) g.does) ∙ (g.steps xs k).stepped))
+    state_after : state M (later old new on) ≡ changed M change (state M old)
+    state_after = running_same (sym (sym (ap (λ o. after M (state M old) o) g.does) ∙ (g.steps kept.standing.run kept.standing.pictured).stepped))
 
-    -- where no handler is added, the places stay
-    pub index_stays : (xs : List (Label E)) → IsPictured M old.table xs → g.change.added ≡ None → (places : List (Handler E × Place)) → IsIndex M (state M old) places → IsIndex M (state M new) places
-    index_stays xs k none places i = record {
-      posts = λ h. i.posts h ∙ sym (ap (λ (s : State S E L). s.handlers h) (state_after xs k) ∙ ap (λ x. with_handler M.event_same x (state M old).handlers h) none);
-      own = i.own;
-    }
-
-    pub keeps : (variables n m : ℕ) (places later : List (Handler E × Place)) → IsKept M variables n places old → length new.table.variables ≡ length old.table.variables → IsCounted M new.table
-        → HasLive (state M new) m → m ≤ n + 1 → IsIndex M (state M new) later → AreFew (state M new).tasks (old.steps + 1) → IsKept M variables m later new
-    keeps variables n m places later k len counted live le index few =
-        let s = goes k.standing.run k.standing.pictured in
-        let count : new.steps ≡ old.steps + 1 = g.count in
+    is_kept : IsKept M variables (left change.own (joined change.made n)) more (later old new on)
+    is_kept =
         record {
           reached = record {
-            labels = k.reached.labels ++ l ∷ [];
-            count = length-append k.reached.labels (l ∷ []) ∙ ap (λ i. i + 1) k.reached.count ∙ sym g.count;
-            leads = s.leads k.reached.labels k.reached.leads;
+            labels = kept.reached.labels ++ l ∷ [];
+            count = length-append kept.reached.labels (l ∷ []) ∙ ap (λ i. i + 1) kept.reached.count;
+            leads = is_step.leads kept.reached.labels kept.reached.leads;
           };
           standing = record {
-            run = k.standing.run ++ l ∷ [];
-            few = let short : length k.standing.run ≤ old.steps = k.standing.few in let longer : length (k.standing.run ++ l ∷ []) ≡ length k.standing.run + 1 = length-append k.standing.run (l ∷ []) in omega arith;
-            pictured = (g.steps k.standing.run k.standing.pictured).kept;
+            run = kept.standing.run ++ l ∷ [];
+            few = let short : length kept.standing.run ≤ old.steps = kept.standing.few in let longer : length (kept.standing.run ++ l ∷ []) ≡ length kept.standing.run + 1 = length-append kept.standing.run (l ∷ []) in omega arith;
+            pictured = (g.steps kept.standing.run kept.standing.pictured).kept;
           };
-          there = len ∙ k.there;
-          counted = counted;
-          live = live;
-          index = index;
-          steps = let room : old.steps < 1000000 = g.room in omega arith;
-          few = let was : n ≤ old.steps + 1 = k.few in omega arith;
-          numbers = subst (λ i. AreFew (state M new).tasks i) (sym g.count) few;
+          there = g.long ∙ kept.there;
+          counted = g.counted;
+          live = subst (λ (q : State S E L). HasLive q (left change.own (joined change.made n))) (sym state_after) (live_after M ok (state M old) change n g.turn g.begins kept.live);
+          index = subst (λ (q : State S E L). IsIndex M q more) (sym state_after) g.index;
+          steps = omega arith;
+          few = let was : n ≤ old.steps + 1 = kept.few in let le = no_more change.own change.made n in omega (arith, was, le);
+          numbers = subst (λ (q : State S E L). AreFew q.tasks (old.steps + 1)) (sym state_after) (few_after M ok (state M old) change old.steps g.turn g.begins kept.numbers);
         }
+
+    pub moves : Moves l change new more on
+    moves = (record { step = is_step; change = sym (ap moved_in g.does) }, is_kept)
+
+  -- a task's step
+  module _ (t : Name E) (at : L) (f a p : ℕ) (r : Request S R L) (acts : IsActing M old t at f a p r) where
+    pub outcome_is : effect M (state M old) (Act t) ≡ request_effect M (state M old) t at f a p r
+    outcome_is = ap (task_effect M (state M old) t) acts.asking.live ∙ ap (λ q. request_effect M (state M old) t (M.at acts.local) f a p q) acts.asking.asked
+        ∙ ap (λ l. request_effect M (state M old) t l f a p r) (sym acts.at_is)
+
+    pub was_live : IsLive (task_of M.event_same old.table.tasks t)
+    was_live = live_is _ acts.local f a p acts.asking.live
+
+    -- what the task goes on with, told as table steps tell it
+    pub as_asked : (k : L → Task L) (from us : List (Name E × Task L)) → Sets M.event_same from t (k at) us → AreTasks M.event_same from (Some (t, k (M.at acts.local))) None us
+    as_asked k from us sets u = subst (λ l. task_of M.event_same us u ≡ with_task M.event_same (Some (t, k l)) (task_of M.event_same from) u) acts.at_is (sets.each u)
+
+    pub acted : (change : Change S E L) (new : Table S E L) (more : List (Handler E × HandlerPlace)) (on : Touched) → on ≡ task_touches M (state M old) (Changes change) → Going (Act t) change new more → Moves (Act t) change new more on
+    acted change new more on touches g = moves (Act t) change new more on acts.no_fault acts.room tt (touches ∙ sym (ap (task_touches M (state M old)) g.does)) g

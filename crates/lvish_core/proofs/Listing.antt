@@ -1,49 +1,22 @@
--- The labels that the core can take, listed from the tasks and the handlers in the order of their names.
-use Rattle.std.proofs.Common.{◌≡◌, ◌↔◌, ◌⊎◌, inl, inr, ℕ, Bool, true, false, if◌then◌else◌, List, [], ◌∷◌, ◌++◌, Some, Ordering, refl, sym, ap, subst, ◌∙◌, append_assoc, append-nil}
+-- What is listed of a list's entries, one for each that has something to list, in their order.
+use Rattle.std.proofs.Common.{◌≡◌, ◌⊎◌, inl, inr, Bool, true, false, if◌then◌else◌, List, [], ◌∷◌, ◌++◌, map, Ordering, refl, sym, ap, subst, ◌∙◌, append_assoc, append-nil}
 use Rattle.std.specs.declared.cmp.Ordering.TheVariants.{Less}
-use Rattle.std.specs.Ordering.{is_eq, eq_by_cmp}
 use Rattle.std.specs.List.{AllByRecursion, IsDistinct}
 use Rattle.std.specs.List.Sorted.{IsStrictlySortedBy}
-use Rattle.lvish_names.specs.NameOrder.{name_cmp, handler_cmp}
-use Rattle.lvish_calculus.specs.declared.label.Label.{Label}
-use Rattle.lvish_calculus.specs.declared.label.Label.TheVariants.{Task as Act, Hand}
-use Rattle.lvish_calculus.specs.Machine.{Machine}
-use Rattle.lvish_calculus.specs.Calculus.{Name, Handler, Task, State, IsReadyTask, same_name, same_handler}
+use Rattle.std.proofs.lemmas.Bool.{cases_Bool}
 use Rattle.lvish_calculus.specs.Handing.{IsAmong}
-use Rattle.lvish_calculus.proofs.Names.{same_name-refl, same_handler-refl}
-use Rattle.lvish_picture.specs.Picture.{Table, task_of}
-use Rattle.lvish_core.specs.declared.place.Place.{Place}
-use Rattle.lvish_core.specs.Core.{View, IsNext, state}
-use Rattle.lvish_core.specs.Places.{place_at, handlers_of}
-use Rattle.lvish_core.specs.Tasks.{names_of}
-use Rattle.lvish_core.specs.Kept.{IsKept}
+use Rattle.lvish_core.specs.laws.Lists.{all_always}
 
 -- ---- lists
-
-pub either_among : {X : Type 0} (x : X) (ys zs : List X) → IsAmong x (ys ++ zs) → IsAmong x ys ⊎ IsAmong x zs
-either_among x [] zs i = inr i
-either_among x (y ∷ ys) zs (inl e) = inl (inl e)
-either_among x (y ∷ ys) zs (inr i) = elim (either_among x ys zs i) [
-  | inl a ↦ inl (inr a)
-  | inr b ↦ inr b
-]
-
-pub among_first : {X : Type 0} (x : X) (ys zs : List X) → IsAmong x ys → IsAmong x (ys ++ zs)
-among_first x [] zs i = absurd i
-among_first x (y ∷ ys) zs (inl e) = inl e
-among_first x (y ∷ ys) zs (inr i) = inr (among_first x ys zs i)
-
-pub among_last : {X : Type 0} (x : X) (ys zs : List X) → IsAmong x zs → IsAmong x (ys ++ zs)
-among_last x [] zs i = i
-among_last x (y ∷ ys) zs i = inr (among_last x ys zs i)
 
 all_append : {X : Type 0} (P : X → Type 0) (xs ys : List X) → AllByRecursion P xs → AllByRecursion P ys → AllByRecursion P (xs ++ ys)
 all_append P [] ys a b = b
 all_append P (x ∷ xs) ys a b = (a.0, all_append P xs ys a.1 b)
 
-pub all_always : {X : Type 0} (P : X → Type 0) → (xs : List X) → ((x : X) → IsAmong x xs → P x) → AllByRecursion P xs
-all_always P [] f = tt
-all_always P (x ∷ xs) f = (f x (inl refl), all_always P xs (λ y i. f y (inr i)))
+pub all_at : {X : Type 0} (P : X → Type 0) (xs : List X) → AllByRecursion P xs → (x : X) → IsAmong x xs → P x
+all_at P [] all x i = absurd i
+all_at P (y ∷ xs) all x (inl e) = subst P (sym e) all.0
+all_at P (y ∷ xs) all x (inr i) = all_at P xs all.1 x i
 
 pub sorted_append : {X : Type 0} (cmp : X → X → Ordering) (xs ys : List X) → IsStrictlySortedBy cmp xs → IsStrictlySortedBy cmp ys → ((x y : X) → IsAmong x xs → IsAmong y ys → cmp x y ≡ Less) → IsStrictlySortedBy cmp (xs ++ ys)
 unfolding IsStrictlySortedBy
@@ -53,111 +26,92 @@ sorted_append cmp (x ∷ xs) ys s t between = (
   sorted_append cmp xs ys s.1 t (λ z y i j. between z y (inr i) j),
 )
 
--- ---- tables in the order of their names
+-- ---- a table, and what is found in it under a key
 
-module _ {E : Type 0} (eq : E → E → Bool) (is : (a b : E) → (eq a b ≡ true) ↔ (a ≡ b)) (cmp : E → E → Ordering) where
-  -- in a table without repeats each entry is found under its name
-  pub each_task : {L : Type 0} → ((t u : Name E) → same_name eq t u ≡ same_name eq u t) → ((t u : Name E) → same_name eq t u ≡ eq_by_cmp (name_cmp cmp) t u)
-      → (xs : List (Name E × Task L)) → IsStrictlySortedBy (name_cmp cmp) (names_of xs) → AllByRecursion (λ x. task_of eq xs x.0 ≡ x.1) xs
-  unfolding IsStrictlySortedBy
-  each_task symm ties [] s = tt
-  each_task {L} symm ties (x ∷ xs) s = (
-    ap (λ b. if b then x.1 else task_of eq xs x.0) (same_name-refl eq is x.0),
-    behind xs s.0 (each_task symm ties xs s.1),
-  )
-    where
-      behind : (ys : List (Name E × Task L)) → AllByRecursion (λ u. name_cmp cmp x.0 u ≡ Less) (names_of ys) → AllByRecursion (λ y. task_of eq xs y.0 ≡ y.1) ys → AllByRecursion (λ y. task_of eq (x ∷ xs) y.0 ≡ y.1) ys
-      behind [] less all = tt
-      behind (y ∷ ys) less all = (
-        ap (λ b. if b then x.1 else task_of eq xs y.0) (symm y.0 x.0 ∙ ties x.0 y.0 ∙ ap is_eq less.0) ∙ all.0,
-        behind ys less.1 all.1,
-      )
-
-  -- the same in any order
-  pub each_of_distinct : {L : Type 0} → ((t u : Name E) → same_name eq t u ≡ same_name eq u t) → (xs : List (Name E × Task L)) → IsDistinct (same_name eq) (names_of xs) → AllByRecursion (λ x. task_of eq xs x.0 ≡ x.1) xs
+module _ {K V W : Type 0} (same : K → K → Bool) (itself : (k : K) → same k k ≡ true) (find : List (K × V) → K → W) (found : V → W)
+    (step : (x : K × V) (xs : List (K × V)) (k : K) → find (x ∷ xs) k ≡ (if same k x.0 then found x.1 else find xs k)) where
+  -- in a table without repeats each entry is found under its key
+  pub each_found : ((k q : K) → same k q ≡ same q k) → (xs : List (K × V)) → IsDistinct same (map (λ x. x.0) xs) → AllByRecursion (λ x. find xs x.0 ≡ found x.1) xs
   unfolding IsDistinct
-  each_of_distinct symm [] d = tt
-  each_of_distinct {L} symm (x ∷ xs) d = (
-    ap (λ b. if b then x.1 else task_of eq xs x.0) (same_name-refl eq is x.0),
-    behind xs d.0 (each_of_distinct symm xs d.1),
+  each_found symm [] d = tt
+  each_found symm (x ∷ xs) d = (
+    step x xs x.0 ∙ ap (λ b. if b then found x.1 else find xs x.0) (itself x.0),
+    behind xs d.0 (each_found symm xs d.1),
   )
     where
-      behind : (ys : List (Name E × Task L)) → AllByRecursion (λ u. same_name eq x.0 u ≡ false) (names_of ys) → AllByRecursion (λ y. task_of eq xs y.0 ≡ y.1) ys → AllByRecursion (λ y. task_of eq (x ∷ xs) y.0 ≡ y.1) ys
+      behind : (ys : List (K × V)) → AllByRecursion (λ k. same x.0 k ≡ false) (map (λ y. y.0) ys) → AllByRecursion (λ y. find xs y.0 ≡ found y.1) ys → AllByRecursion (λ y. find (x ∷ xs) y.0 ≡ found y.1) ys
       behind [] other all = tt
       behind (y ∷ ys) other all = (
-        ap (λ b. if b then x.1 else task_of eq xs y.0) (symm y.0 x.0 ∙ other.0) ∙ all.0,
+        step x xs y.0 ∙ ap (λ b. if b then found x.1 else find xs y.0) (symm y.0 x.0 ∙ other.0) ∙ all.0,
         behind ys other.1 all.1,
       )
 
-  pub each_place : ((h g : Handler E) → same_handler eq h g ≡ same_handler eq g h) → ((h g : Handler E) → same_handler eq h g ≡ eq_by_cmp (handler_cmp cmp) h g)
-      → (xs : List (Handler E × Place)) → IsStrictlySortedBy (handler_cmp cmp) (handlers_of xs) → AllByRecursion (λ x. place_at eq xs x.0 ≡ Some x.1) xs
-  unfolding IsStrictlySortedBy
-  each_place symm ties [] s = tt
-  each_place symm ties (x ∷ xs) s = (
-    ap (λ b. if b then Some x.1 else place_at eq xs x.0) (same_handler-refl eq is x.0),
-    behind xs s.0 (each_place symm ties xs s.1),
-  )
+  -- what is found is an entry of the table
+  pub found_there : ((k q : K) → same k q ≡ true → k ≡ q) → (xs : List (K × V)) (k : K) → (find [] k ≡ find xs k) ⊎ ((v : V) × (find xs k ≡ found v) × IsAmong (k, v) xs)
+  found_there is [] k = inl refl
+  found_there is (x ∷ xs) k = elim (cases_Bool (same k x.0)) [
+    | inl b ↦ inr (x.1, step x xs k ∙ ap (λ q. if q then found x.1 else find xs k) b, inl (λ i. (is k x.0 b i, x.1)))
+    | inr b ↦
+        let on = step x xs k ∙ ap (λ q. if q then found x.1 else find xs k) b in
+        elim (found_there is xs k) [
+          | inl none ↦ inl (none ∙ sym on)
+          | inr there ↦ inr (there.0, on ∙ there.1, inr there.2)
+        ]
+  ]
+
+-- ---- what the entries of a list have to list
+
+module _ {X Y : Type 0} (Item : X → Y → Type 0) where
+  -- an item of each entry that has one, in their order
+  abbrev pub AreOf : List X → List Y → Type 0
+  AreOf [] ls = ls ≡ []
+  AreOf (x ∷ xs) ls = ((l : Y) × Item x l × ((ms : List Y) × (ls ≡ l ∷ ms) × AreOf xs ms)) ⊎ (((l : Y) → Item x l → ⊥) × AreOf xs ls)
+
+  -- with those of the rest, the items so far are the first ones and those of all
+  pub record Listed (all rest : List X) (first so_far : List Y) : Type 0 where
+    pub more : (ms : List Y) → AreOf rest ms → (ls : List Y) × AreOf all ls × (so_far ++ ms ≡ first ++ ls)
+
+  -- no entry is listed yet
+  pub none_listed : (all : List X) (first : List Y) → Listed all all first first
+  none_listed all first = record { more = λ ms z. (ms, z, refl) }
+
+  -- one entry more, which has an item or none
+  pub one_listed : (all : List X) (x : X) (rest : List X) (first ls : List Y) → Listed all (x ∷ rest) first ls → (l : Y) → Item x l → Listed all rest first (ls ++ l ∷ [])
+  one_listed all x rest first ls so_far l item = record { more = λ ms z. let q = so_far.more (l ∷ ms) (inl (l, item, (ms, refl, z))) in (q.0, q.1, append_assoc ls (l ∷ []) ms ∙ q.2) }
+
+  pub one_passed : (all : List X) (x : X) (rest : List X) (first ls : List Y) → Listed all (x ∷ rest) first ls → ((l : Y) → Item x l → ⊥) → Listed all rest first ls
+  one_passed all x rest first ls so_far none = record { more = λ ms z. so_far.more ms (inr (none, z)) }
+
+  pub all_listed : (all rest : List X) (first ls : List Y) → Listed all rest first ls → rest ≡ [] → (hs : List Y) × AreOf all hs × (ls ≡ first ++ hs)
+  all_listed all rest first ls so_far none = let q = so_far.more [] (subst (λ xs. AreOf xs []) (sym none) refl) in (q.0, q.1, sym (append-nil ls) ∙ q.2)
+
+  -- what is listed is an entry's item
+  pub listed_of : (xs : List X) (ls : List Y) → AreOf xs ls → (l : Y) → IsAmong l ls → (x : X) × IsAmong x xs × Item x l
+  listed_of [] ls z l i = absurd (subst (λ ys. IsAmong l ys) z i)
+  listed_of (x ∷ xs) ls (inl (k, item, ms)) l i = by (listed_of xs ms.0 ms.2 l) (subst (λ ys. IsAmong l ys) ms.1 i)
     where
-      behind : (ys : List (Handler E × Place)) → AllByRecursion (λ h. handler_cmp cmp x.0 h ≡ Less) (handlers_of ys) → AllByRecursion (λ y. place_at eq xs y.0 ≡ Some y.1) ys → AllByRecursion (λ y. place_at eq (x ∷ xs) y.0 ≡ Some y.1) ys
-      behind [] less all = tt
-      behind (y ∷ ys) less all = (
-        ap (λ b. if b then Some x.1 else place_at eq xs y.0) (symm y.0 x.0 ∙ ties x.0 y.0 ∙ ap is_eq less.0) ∙ all.0,
-        behind ys less.1 all.1,
-      )
+      by : (IsAmong l ms.0 → (y : X) × IsAmong y xs × Item y l) → IsAmong l (k ∷ ms.0) → (y : X) × IsAmong y (x ∷ xs) × Item y l
+      by later (inl e) = (x, inl refl, subst (λ q. Item x q) (sym e) item)
+      by later (inr j) = let z = later j in (z.0, inr z.1, z.2)
+  listed_of (x ∷ xs) ls (inr (none, z)) l i = let q = listed_of xs ls z l i in (q.0, inr q.1, q.2)
 
--- ---- labels, in the order of a table
+  -- and the one item of an entry is listed
+  pub item_listed : (xs : List X) (ls : List Y) → AreOf xs ls → (x : X) (l : Y) → IsAmong x xs → Item x l → ((m : Y) → Item x m → l ≡ m) → IsAmong l ls
+  item_listed [] ls z x l i item one = absurd i
+  item_listed (y ∷ xs) ls (inl (k, other, ms)) x l (inl e) item one = subst (λ ys. IsAmong l ys) (sym ms.1) (inl (one k (subst (λ q. Item q k) (sym e) other)))
+  item_listed (y ∷ xs) ls (inl (k, other, ms)) x l (inr i) item one = subst (λ ys. IsAmong l ys) (sym ms.1) (inr (item_listed xs ms.0 ms.2 x l i item one))
+  item_listed (y ∷ xs) ls (inr (none, z)) x l (inl e) item one = absurd (none l (subst (λ q. Item q l) e item))
+  item_listed (y ∷ xs) ls (inr (none, z)) x l (inr i) item one = item_listed xs ls z x l i item one
 
-module _ {S E R A L : Type 0} (M : Machine S E R A L) (s : State S E L) where
-  -- the labels of just the ready tasks of the list, in its order
-  abbrev pub TaskLabels : List (Name E × Task L) → List (Label E) → Type 0
-  TaskLabels [] ls = ls ≡ []
-  TaskLabels (x ∷ xs) ls = (IsReadyTask M s x.1 × ((ms : List (Label E)) × (ls ≡ Act x.0 ∷ ms) × TaskLabels xs ms)) ⊎ ((IsReadyTask M s x.1 → ⊥) × TaskLabels xs ls)
+  module _ {K : Type 0} (key : X → K) (cmp : K → K → Ordering) (order : Y → Y → Ordering) (by_key : (x y : X) (l m : Y) → Item x l → Item y m → cmp (key x) (key y) ≡ Less → order l m ≡ Less) where
+    above : (x : X) (l : Y) → Item x l → (xs : List X) (ls : List Y) → AreOf xs ls → AllByRecursion (λ k. cmp (key x) k ≡ Less) (map key xs) → AllByRecursion (λ m. order l m ≡ Less) ls
+    above x l item [] ls z a = subst (λ ys. AllByRecursion (λ m. order l m ≡ Less) ys) (sym z) tt
+    above x l item (y ∷ xs) ls (inl (k, other, ms)) a = subst (λ ys. AllByRecursion (λ m. order l m ≡ Less) ys) (sym ms.1) (by_key x y l k item other a.0, above x l item xs ms.0 ms.2 a.1)
+    above x l item (y ∷ xs) ls (inr (none, z)) a = above x l item xs ls z a.1
 
-  -- with those of the rest, the labels so far are those of all
-  abbrev pub TasksListed : List (Name E × Task L) → List (Name E × Task L) → List (Label E) → Type 0
-  TasksListed all rest so_far = (ms : List (Label E)) → TaskLabels rest ms → TaskLabels all (so_far ++ ms)
-
-module _ {S E L : Type 0} (eq : E → E → Bool) (c : Table S E L) where
-  -- the labels of just the handlers of the list for which an event comes next, in its order
-  abbrev pub HandLabels : List (Handler E × Place) → List (Label E) → Type 0
-  HandLabels [] ls = ls ≡ []
-  HandLabels (x ∷ xs) ls =
-      ((e : E) × IsNext eq c x.0 e × ((ms : List (Label E)) × (ls ≡ Hand x.0 e ∷ ms) × HandLabels xs ms))
-      ⊎ (((e : E) → IsNext eq c x.0 e → ⊥) × HandLabels xs ls)
-
-  -- with those of the rest, the labels so far are the first ones and those of all
-  abbrev pub HandsListed : List (Handler E × Place) → List (Handler E × Place) → List (Label E) → List (Label E) → Type 0
-  HandsListed all rest first so_far = (ms : List (Label E)) → HandLabels rest ms → (hs : List (Label E)) × HandLabels all hs × (so_far ++ ms ≡ first ++ hs)
-
-module _ {P S E R A L : Type 0} (M : Machine S E R A L) (n running : ℕ) (places : List (Handler E × Place)) (c : View P S E L) (k : IsKept M n running places c) where
-  -- one task more, which is ready or isn't
-  pub task_listed : (all : List (Name E × Task L)) (t : Name E) (x : Task L) (rest : List (Name E × Task L)) (ls : List (Label E)) → TasksListed M (state M c) all ((t, x) ∷ rest) ls → IsReadyTask M (state M c) x
-      → TasksListed M (state M c) all rest (ls ++ Act t ∷ [])
-  task_listed all t x rest ls so_far ready ms z = subst (λ (ys : List (Label E)). TaskLabels M (state M c) all ys) (sym (append_assoc ls (Act t ∷ []) ms)) (so_far (Act t ∷ ms) (inl (ready, (ms, refl, z))))
-
-  pub task_passed : (all : List (Name E × Task L)) (t : Name E) (x : Task L) (rest : List (Name E × Task L)) (ls : List (Label E)) → TasksListed M (state M c) all ((t, x) ∷ rest) ls → (IsReadyTask M (state M c) x → ⊥)
-      → TasksListed M (state M c) all rest ls
-  task_passed all t x rest ls so_far waits ms z = so_far ms (inr (waits, z))
-
-  pub all_tasks_listed : (all rest : List (Name E × Task L)) (ls : List (Label E)) → TasksListed M (state M c) all rest ls → rest ≡ [] → TaskLabels M (state M c) all ls
-  all_tasks_listed all rest ls so_far none =
-      subst (λ (ys : List (Label E)). TaskLabels M (state M c) all ys) (append-nil ls) (so_far [] (subst (λ (xs : List (Name E × Task L)). TaskLabels M (state M c) xs []) (sym none) refl))
-
-  -- one handler more, for which an event comes next or none does
-  pub hands_begun : (first : List (Label E)) → HandsListed M.event_same c.table places places first first
-  hands_begun first ms z = (ms, z, refl)
-
-  pub hand_listed : (h : Handler E) (p : Place) (rest : List (Handler E × Place)) (first ls : List (Label E)) → HandsListed M.event_same c.table places ((h, p) ∷ rest) first ls → (e : E) → IsNext M.event_same c.table h e
-      → HandsListed M.event_same c.table places rest first (ls ++ Hand h e ∷ [])
-  hand_listed h p rest first ls so_far e next ms z =
-      let q = so_far (Hand h e ∷ ms) (inl (e, next, (ms, refl, z))) in
-      (q.0, q.1, append_assoc ls (Hand h e ∷ []) ms ∙ q.2)
-
-  pub hand_passed : (h : Handler E) (p : Place) (rest : List (Handler E × Place)) (first ls : List (Label E)) → HandsListed M.event_same c.table places ((h, p) ∷ rest) first ls → ((e : E) → IsNext M.event_same c.table h e → ⊥)
-      → HandsListed M.event_same c.table places rest first ls
-  hand_passed h p rest first ls so_far none ms z = so_far ms (inr (none, z))
-
-  pub all_hands_listed : (rest : List (Handler E × Place)) (first ls : List (Label E)) → HandsListed M.event_same c.table places rest first ls → rest ≡ [] → (hs : List (Label E)) × HandLabels M.event_same c.table places hs × (ls ≡ first ++ hs)
-  all_hands_listed rest first ls so_far none =
-      let q = so_far [] (subst (λ (xs : List (Handler E × Place)). HandLabels M.event_same c.table xs []) (sym none) refl) in
-      (q.0, q.1, sym (append-nil ls) ∙ q.2)
+    -- the items of entries that ascend by their keys ascend
+    pub listed_ascend : (xs : List X) (ls : List Y) → AreOf xs ls → IsStrictlySortedBy cmp (map key xs) → IsStrictlySortedBy order ls
+    unfolding IsStrictlySortedBy
+    listed_ascend [] ls z a = subst (λ ys. IsStrictlySortedBy order ys) (sym z) tt
+    listed_ascend (x ∷ xs) ls (inl (l, item, ms)) a = subst (λ ys. IsStrictlySortedBy order ys) (sym ms.1) (above x l item xs ms.0 ms.2 a.0, listed_ascend xs ms.0 ms.2 a.1)
+    listed_ascend (x ∷ xs) ls (inr (none, z)) a = listed_ascend xs ls z a.1

@@ -13,11 +13,11 @@ use Rattle.std.specs.Map.Iter.{deref_pair}
 use Rattle.lvish_names.specs.NameOrder.{name_cmp}
 use Rattle.std.proofs.lemmas.List.Sorted.{IsPermutation-sym, IsPermutation-map, Contains-permutation, sorted_far}
 use Rattle.std.proofs.lemmas.Map.Views.{Contains-from_lookup, lookup-from_Contains}
-use Rattle.lvish_calculus.specs.Calculus.{Name, same_name}
+use Rattle.lvish_names.specs.Names.{Name, same_name}
 use Rattle.lvish_picture.specs.Picture.{task_of}
 use Rattle.lvish_core.specs.declared.stage.Stage.{Stage}
-use Rattle.lvish_core.specs.Tasks.{SameTasks, standing_at, standings, entries_at, names_of}
-use Rattle.lvish_core.proofs.Table.{task_of-standings}
+use Rattle.lvish_core.specs.Tasks.{SameTasks, standing_at, standings, entries_at, task_names}
+use Rattle.lvish_core.proofs.Maps.{names-standings, task_of-standings}
 
 module _ {K X : Type 0} {eq : K → K → Bool} (laws : IsEquivalence eq) (exact : (x y : K) → eq x y ≡ true → x ≡ y) where
   -- what a look-up finds it finds in any order
@@ -72,10 +72,6 @@ module _ {T K : Type 0} (key : T → K) {cmp : K → K → Ordering} (o : IsTota
 
 -- ---- references to a map's entries
 
-names_at : {E L : Type 0} (refs : List (Bor (Name E) × Bor (Stage L))) → names_of (standings (entries_at refs)) ≡ map (λ r. r.0.now) refs
-names_at [] = refl
-names_at (r ∷ refs) = ap (λ ts. r.0.now ∷ ts) (names_at refs)
-
 keys_at : {E L : Type 0} (refs : List (Bor (Name E) × Bor (Stage L))) → keys_of (entries_at refs) ≡ map (λ r. r.0.now) refs
 keys_at [] = refl
 keys_at (r ∷ refs) = ap (λ ts. r.0.now ∷ ts) (keys_at refs)
@@ -92,8 +88,8 @@ module _ {E L : Type 0} (eq : E → E → Bool) (laws : IsEquivalence (same_name
   sorted_tasks exact = same_tasks eq laws exact es (entries_at sorted) moved_entries once moved_once
 
   module _ (cmp : E → E → Ordering) (total : IsTotalOrder (name_cmp cmp)) (ties : (t u : Name E) → same_name eq t u ≡ eq_by_cmp (name_cmp cmp) t u) where
-    pub sorted_names : IsSortedBy (λ x y. is_lt (name_cmp cmp x.0.now y.0.now)) sorted → IsStrictlySortedBy (name_cmp cmp) (names_of (standings (entries_at sorted)))
+    pub sorted_names : IsSortedBy (λ x y. is_lt (name_cmp cmp x.0.now y.0.now)) sorted → IsStrictlySortedBy (name_cmp cmp) (task_names (standings (entries_at sorted)))
     sorted_names up =
         let apart : IsDistinct (same_name eq) (map (λ r. r.0.now) refs) = subst (λ ks. IsDistinct (same_name eq) ks) (ap keys_of (sym all) ∙ keys_at refs) once in
         let apart_by : IsDistinct (λ t u. is_eq (name_cmp cmp t u)) (map (λ r. r.0.now) refs) = subst (λ test. IsDistinct test (map (λ r. r.0.now) refs)) (λ i t u. ties t u i) apart in
-        subst (λ ks. IsStrictlySortedBy (name_cmp cmp) ks) (sym (names_at sorted)) (ascending (λ (r : Bor (Name E) × Bor (Stage L)). r.0.now) total refs sorted apart_by moved up)
+        subst (λ ks. IsStrictlySortedBy (name_cmp cmp) ks) (sym (names-standings (entries_at sorted) ∙ keys_at sorted)) (ascending (λ (r : Bor (Name E) × Bor (Stage L)). r.0.now) total refs sorted apart_by moved up)

@@ -1,27 +1,30 @@
--- What a core shows, told of the configuration that it stands for.
-use Rattle.std.proofs.Common.{◌≡◌, ◌↔◌, ◌<◌, ℕ, zero, suc, Bool, true, false, List, [], ◌∷◌, length, Option, Some, None, Result, Ok, Err, refl, sym, ap, subst, ◌∙◌, is_some, option_map, unwrap_or, arith}
+-- What a core shows, told of the configuration that it stands for, and when a task's step is made.
+use Rattle.std.proofs.Common.{◌≡◌, ◌↔◌, ◌<◌, ℕ, zero, suc, Bool, true, false, List, [], ◌∷◌, length, Option, Some, None, Result, Ok, Err, refl, sym, ap, subst, ◌∙◌, is_some, option_map, unwrap_or, arith, inl, inr, ◌≤◌, IsTrue}
 use Rattle.std.specs.Bool.{IsTrue}
 use Rattle.std.specs.List.{slice_get}
-use Rattle.std.specs.Result.{IfOk}
-use Rattle.std.proofs.lemmas.Bool.{false≢true}
+use Rattle.std.proofs.lemmas.Bool.{false≢true, cases_lt}
+use Rattle.lvish_core.specs.declared.limits.TheConstants.{MOST_STEPS}
 use Rattle.lvish_calculus.specs.declared.request.Request.{Request}
 use Rattle.lvish_calculus.specs.declared.label.Label.{Label}
-use Rattle.lvish_calculus.specs.declared.label.Label.TheVariants.{Task as Act}
+use Rattle.lvish_calculus.specs.declared.label.Label.TheVariants.{Act}
 use Rattle.lvish_calculus.specs.Machine.{Machine}
-use Rattle.lvish_calculus.specs.Calculus.{Name, Handler, Task, Live, IsReady, IsReadyTask, IsEnabled, CanStep}
+use Rattle.lvish_calculus.specs.Calculus.{Task, Live, IsReady, IsReadyTask, IsEnabled, CanStep}
+use Rattle.lvish_names.specs.Names.{Name, Handler}
 use Rattle.lvish_picture.specs.Picture.{task_of}
-use Rattle.lvish_core.specs.declared.fault.Fault.{Fault}
-use Rattle.lvish_core.specs.declared.place.Place.{Place}
+use Rattle.lvish_core.specs.declared.fault.RunError.{RunError}
+use Rattle.lvish_core.specs.declared.handler_place.HandlerPlace.{HandlerPlace}
 use Rattle.lvish_core.specs.Kept.{IsKept}
-use Rattle.lvish_variable.specs.Variable.{View as Variable}
+use Rattle.lvish_variable.specs.Variable.{VariableView as Variable}
 use Rattle.lvish_core.specs.Reads.{AreStates}
-use Rattle.lvish_core.specs.Core.{View, CanTake, state, at_fault, picture}
+use Rattle.lvish_core.specs.Core.{CoreView, CanTake, state, at_fault, picture}
+use Rattle.lvish_core.specs.Acts.{IsActing}
+use Rattle.lvish_picture.proofs.Slots.{get_there}
 
-pub no_fault : {E : Type 0} (q : Option (Fault E)) → is_some q ≡ false → q ≡ None
+pub no_fault : {E : Type 0} (q : Option (RunError E)) → is_some q ≡ false → q ≡ None
 no_fault None e = refl
 no_fault (Some f) e = absurd (false≢true (sym e))
 
-module _ {P S E R A L : Type 0} (M : Machine S E R A L) (n running : ℕ) (places : List (Handler E × Place)) (c : View P S E L) (k : IsKept M n running places c) where
+module _ {P S E R A L : Type 0} (M : Machine S E R A L) (n running : ℕ) (places : List (Handler E × HandlerPlace)) (c : CoreView P S E L) (k : IsKept M n running places c) where
   module _ (no_error : is_some c.fault ≡ false) where
     -- where there is no error, the enabled labels are those of the table's picture
     pub can_step : (l : Label E) → CanStep M (picture M c) l ↔ IsEnabled M (state M c) l
@@ -36,11 +39,6 @@ module _ {P S E R A L : Type 0} (M : Machine S E R A L) (n running : ℕ) (place
         let same : IsReadyTask M (state M c) x ≡ IsReadyTask M (state M c) (task_of M.event_same c.table.tasks t) = ap (λ x. IsReadyTask M (state M c) x) (sym is) in
         (λ z. ((can_step (Act t)).1 (subst (λ X. X) same (ready.0 z)), tt), λ z. ready.1 (subst (λ X. X) (sym same) ((can_step (Act t)).0 z.0)))
 
-    -- unless memory was wanted
-    pub task_can_ok : {X : Type 0} (t : Name E) (x : Task L) → task_of M.event_same c.table.tasks t ≡ x → (r : Result Bool X) → IfOk r (λ b. IsTrue b ↔ IsReadyTask M (state M c) x) → IfOk r (λ b. IsTrue b ↔ CanTake M c (Act t))
-    task_can_ok t x is (Ok b) ready = task_can t x is b ready
-    task_can_ok t x is (Err e) ready = tt
-
     -- where it is live, it is ready where its request is
     pub live_can : (t : Name E) (l : L) (f a p : ℕ) → task_of M.event_same c.table.tasks t ≡ Live l f a p → (r : Request S R L) → M.request l ≡ r → (b : Bool) → IsTrue b ↔ IsReady M (state M c) r → IsTrue b ↔ CanTake M c (Act t)
     live_can t l f a p live r asks b ready = task_can t (Live l f a p) live b (subst (λ q. IsTrue b ↔ IsReady M (state M c) q) (sym asks) ready)
@@ -49,23 +47,17 @@ module _ {P S E R A L : Type 0} (M : Machine S E R A L) (n running : ℕ) (place
   pub none_can : is_some c.fault ≡ true → (l : Label E) → CanTake M c l → ⊥
   none_can error l z = stops c.fault error z.0
     where
-      stops : (q : Option (Fault E)) → is_some q ≡ true → CanStep M (at_fault (state M c) q) l → ⊥
+      stops : (q : Option (RunError E)) → is_some q ≡ true → CanStep M (at_fault (state M c) q) l → ⊥
       stops None e z = absurd (false≢true e)
       stops (Some f) e z = z
 
--- what stands at each place of a list
-pub at_place : {X : Type 0} (xs : List X) (i : ℕ) → i < length xs → (x : X) × (slice_get xs i ≡ Some x)
-at_place [] i lt = absurd (omega (arith, lt))
-at_place (x ∷ xs) zero lt = (x, refl)
-at_place (x ∷ xs) (suc i) lt = at_place xs i (omega (arith, lt))
-
-module _ {P S E R A L : Type 0} (M : Machine S E R A L) (n running : ℕ) (places : List (Handler E × Place)) (c : View P S E L) (k : IsKept M n running places c) where
+module _ {P S E R A L : Type 0} (M : Machine S E R A L) (n running : ℕ) (places : List (Handler E × HandlerPlace)) (c : CoreView P S E L) (k : IsKept M n running places c) where
   -- the variables of the table are the picture's
   pub are_states : (xs : List (Variable S E)) → xs ≡ c.table.variables → AreStates M n c xs
   are_states xs is = record {
     are = is;
     count = ap length is ∙ k.there;
-    each = λ v lt. let z = at_place xs v (subst (λ m. v < m) (sym (ap length is ∙ k.there)) lt) in
+    each = λ v lt. let z = get_there xs v (subst (λ m. v < m) (sym (ap length is ∙ k.there)) lt) in
         let there : slice_get c.table.variables v ≡ Some z.0 = ap (λ (ys : List (Variable S E)). slice_get ys v) (sym is) ∙ z.1 in (
           z.0,
           z.1,
@@ -73,3 +65,25 @@ module _ {P S E R A L : Type 0} (M : Machine S E R A L) (n running : ℕ) (place
           sym (ap (λ o. unwrap_or (option_map (λ (x : Variable S E). x.frozen) o) false) there),
         );
   }
+
+-- ---- a task's step
+
+pub not_full : (n : ℕ) (b : Bool) → IsTrue b ↔ (MOST_STEPS ≤ n) → b ≡ false → n < MOST_STEPS
+not_full n b full e = elim (cases_lt n MOST_STEPS) [
+  | inl lt ↦ lt
+  | inr ge ↦ absurd (false≢true (sym e ∙ full.1 ge))
+]
+
+pub is_full : (n : ℕ) (b : Bool) → n ≤ MOST_STEPS → IsTrue b ↔ (MOST_STEPS ≤ n) → b ≡ true → n ≡ MOST_STEPS
+is_full n b le full e = let ge : MOST_STEPS ≤ n = full.0 e in omega arith
+
+pub acting : {P S E R A L : Type 0} (M : Machine S E R A L) (c : CoreView P S E L) → is_some c.fault ≡ false → c.steps < MOST_STEPS → (t : Name E) (l : L) (f a p : ℕ) → task_of M.event_same c.table.tasks t ≡ Live l f a p
+    → (r : Request S R L) → M.request l ≡ r → (at : L) → M.at l ≡ at → (b : Bool) → IsTrue b ↔ IsReady M (state M c) r → b ≡ true → IsActing M c t at f a p r
+acting M c none room t l f a p live r asks at at_is b ready e = record {
+  no_fault = no_fault c.fault none;
+  room = room;
+  local = l;
+  asking = record { live = live; asked = asks };
+  at_is = sym at_is;
+  ready = ready.0 e;
+}

@@ -2,23 +2,23 @@
 use Rattle.std.proofs.Common.{◌≡◌, ◌⊎◌, inl, inr, ℕ, List, Option, Some, None, refl, sym, ap, subst, ◌∙◌}
 use Rattle.std.specs.Prelude.{option_and_then, option_map}
 use Rattle.lvish_calculus.specs.declared.label.Label.{Label}
-use Rattle.lvish_calculus.specs.declared.label.Label.TheVariants.{Task as Act, Hand}
+use Rattle.lvish_calculus.specs.declared.label.Label.TheVariants.{Act, Hand}
 use Rattle.lvish_calculus.specs.declared.request.Request.{Request}
 use Rattle.lvish_calculus.specs.declared.request.Request.TheVariants.{Get, Freeze}
 use Rattle.lvish_calculus.specs.Machine.{Machine, IsLawful}
-use Rattle.lvish_calculus.specs.Calculus.{Name, Handler, handler_of, Live, Ended, Post, State, Configuration, Running, Error, Change, Outcome, Changes, Fails, Nothing, CanStep, IsEnabled, IsEnded, IsReady, after, changed, next, outcome}
+use Rattle.lvish_calculus.specs.Calculus.{Live, Ended, Post, State, Configuration, Running, Error, Change, Effect, Changes, Fails, Nothing, CanStep, IsEnabled, IsEnded, IsReady, after, changed, next, effect}
+use Rattle.lvish_names.specs.Names.{Name, Handler, handler_of}
 use Rattle.lvish_calculus.specs.Waiting.{LetsPass, by_put, by_handing, by_end, WaitsForItsVariable, AllWait}
 use Rattle.lvish_calculus.proofs.Steps.{Makes, puts, gets, forks, adds, freezes, pauses, ends, hands, view, unview}
 use Rattle.lvish_calculus.proofs.Sound.{first, second}
 use Rattle.lvish_picture.specs.Counts.{pool_of}
 use Rattle.lvish_picture.specs.Laws.{EndsByCursors}
-use Rattle.lvish_core.specs.declared.fault.Fault.{Fault}
 use Rattle.lvish_core.specs.declared.fault.Stepped.{Stepped}
 use Rattle.lvish_core.specs.declared.touched.Touched.TheVariants.{Handed, Ended as EndedIn}
-use Rattle.lvish_core.specs.Core.{View, state, at_fault, IsRunTo, IsStep}
+use Rattle.lvish_core.specs.Core.{CoreView, state, IsRunTo, IsStep}
 use Rattle.lvish_core.specs.Changes.{touched_by, task_touches, touching}
 use Rattle.lvish_core.specs.Waiting.{MayPass, WaitsUntilTouched, EndsByCounts}
-use Rattle.lvish_core.proofs.Goes.{at_state, pictured_by, running_same}
+use Rattle.lvish_core.specs.laws.Runs.{no_error_before, at_state, pictured_by, running_same}
 
 module _ {S E R A L : Type 0} (M : Machine S E R A L) (ok : IsLawful M) (c : State S E L) where
   -- what a task's step concerns
@@ -72,7 +72,7 @@ module _ {S E R A L : Type 0} (M : Machine S E R A L) (ok : IsLawful M) (c : Sta
   told _ _ (hands h x post is) _ (by_end v pools u g e leads on) = absurd cc
 
 module _ {P S E R A L : Type 0} (M : Machine S E R A L) (ok : IsLawful M) (waits : WaitsForItsVariable M) where
-  module _ (c d : View P S E L) (xs : List (Label E)) (l : Label E) (said : Stepped) (run : IsRunTo M c xs) (step : IsStep M c l d said) (still : d.fault ≡ None) (none : c.fault ≡ None)
+  module _ (c d : CoreView P S E L) (xs : List (Label E)) (l : Label E) (said : Stepped) (run : IsRunTo M c xs) (step : IsStep M c l d said) (still : d.fault ≡ None) (none : c.fault ≡ None)
       (t : Name E) (at : L) (f a p : ℕ) (is : (state M c).tasks t ≡ Live at f a p) (ne : l ≡ Act t → ⊥) where
     abbrev Stays : State S E L → Type 0
     Stays s = (s.tasks t ≡ Live at f a p) × (IsReady M s (M.request at) → IsReady M (state M c) (M.request at) ⊎ MayPass (M.request at) d.touched)
@@ -80,10 +80,10 @@ module _ {P S E R A L : Type 0} (M : Machine S E R A L) (ok : IsLawful M) (waits
     enabled : IsEnabled M (state M c) l
     enabled = subst (λ (q : Configuration S E L). CanStep M q l) (at_state M c none) step.enabled.0
 
-    stepped : Running (state M d) ≡ after M (state M c) (outcome M (state M c) l)
+    stepped : Running (state M d) ≡ after M (state M c) (effect M (state M c) l)
     stepped = sym (at_state M d still) ∙ step.stepped ∙ ap (λ (q : Configuration S E L). next M q l) (at_state M c none)
 
-    by : (o : Outcome S E L) → outcome M (state M c) l ≡ o → Stays (state M d)
+    by : (o : Effect S E L) → effect M (state M c) l ≡ o → Stays (state M d)
     by (Changes ch) e =
         let same : state M d ≡ changed M ch (state M c) = running_same (stepped ∙ ap (after M (state M c)) e) in
         let w = waits xs (state M c) l ch (pictured_by M c xs none run).reached enabled e t at f a p is ne in
@@ -100,14 +100,10 @@ module _ {P S E R A L : Type 0} (M : Machine S E R A L) (ok : IsLawful M) (waits
         subst Stays (sym same) (is, λ z. inl z)
 
     pub stays : Stays (state M d)
-    stays = by (outcome M (state M c) l) refl
+    stays = by (effect M (state M c) l) refl
 
   pub waits_until_touched : WaitsUntilTouched P M
-  waits_until_touched c d xs l said run step still t at f a p is ne = by c.fault refl
-    where
-      by : (o : Option (Fault E)) → c.fault ≡ o → ((state M d).tasks t ≡ Live at f a p) × (IsReady M (state M d) (M.request at) → IsReady M (state M c) (M.request at) ⊎ MayPass (M.request at) d.touched)
-      by None e = stays c d xs l said run step still e t at f a p is ne
-      by (Some g) e = absurd (subst (λ q. CanStep M (at_fault (state M c) q) l) e step.enabled.0)
+  waits_until_touched c d xs l said run step still = stays c d xs l said run step still (no_error_before M (state M c) c.fault l step.enabled.0)
 
 pub ends_by_counts : {P S E R A L : Type 0} (M : Machine S E R A L) → AllWait M → EndsByCursors M → EndsByCounts P M
 ends_by_counts M all cursors c xs n run none running waiting =

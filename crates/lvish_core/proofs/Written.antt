@@ -1,10 +1,10 @@
 -- What a vector has after its slice was changed.
-use Rattle.std.proofs.Common.{◌≡◌, ℕ, Bool, List, ◌++◌, take, drop, length, slice_set, Option, Some, None, ap, subst, ◌∙◌, length-set}
+use Rattle.std.proofs.Common.{◌≡◌, ℕ, Bool, List, ◌++◌, take, drop, length, slice_set, Option, Some, None, Result, Ok, Err, ap, subst, ◌∙◌, length-set}
 use Rattle.lvish_names.specs.Names.{Name, Handler}
-use Rattle.lvish_variable.specs.Variable.{View as Variable}
+use Rattle.lvish_variable.specs.Variable.{VariableView as Variable}
 use Rattle.lvish_handlers.specs.declared.held.Held.{Held}
-use Rattle.lvish_handlers.specs.Handlers.{View as Handlers}
-use Rattle.lvish_core.specs.declared.place.Place.{Place}
+use Rattle.lvish_handlers.specs.Handlers.{HandlersView as Handlers}
+use Rattle.lvish_core.specs.declared.handler_place.HandlerPlace.{HandlerPlace}
 use Rattle.lvish_core.specs.Beside.{PutAt, FrozenAt, AddedAt, HandedAt, CountsAt}
 use Rattle.lvish_core.proofs.Gets.{rewritten}
 
@@ -22,17 +22,21 @@ put_written join eq events task number put v slice old new n is len w = written 
 pub frozen_written : {S E : Type 0} (v : ℕ) (slice old new : List (Variable S E)) (n : ℕ) → slice ≡ old → n ≡ length old → FrozenAt v slice new → FrozenAt v old (take n (new ++ drop (length new) old))
 frozen_written v slice old new n is len w = written (FrozenAt v) slice old new n is len (set_length slice v _ new w.is) w
 
-counts_length : {E : Type 0} (change : ℕ → Handlers E → Handlers E) (o : Option Place) (old new : List (Handlers E)) → CountsAt change old o new → length new ≡ length old
+counts_length : {E : Type 0} (change : ℕ → Handlers E → Handlers E) (o : Option HandlerPlace) (old new : List (Handlers E)) → CountsAt change old o new → length new ≡ length old
 counts_length change None old new w = ap length w
 counts_length change (Some p) old new w = set_length old p.variable _ new w.2
 
-pub counts_written : {E : Type 0} (change : ℕ → Handlers E → Handlers E) (o : Option Place) (slice old new : List (Handlers E)) (n : ℕ) → slice ≡ old → n ≡ length old
+pub counts_written : {E : Type 0} (change : ℕ → Handlers E → Handlers E) (o : Option HandlerPlace) (slice old new : List (Handlers E)) (n : ℕ) → slice ≡ old → n ≡ length old
     → CountsAt change slice o new → CountsAt change old o (take n (new ++ drop (length new) old))
 counts_written change o slice old new n is len w = written (λ a b. CountsAt change a o b) slice old new n is len (counts_length change o slice new w) w
 
-pub handed_written : {S E : Type 0} (eq : E → E → Bool) (variables xs : List (Variable S E)) (name : Handler E) (p : Place) (slice old new : List (Handlers E)) (n : ℕ) → variables ≡ xs → slice ≡ old → n ≡ length old
+pub handed_written : {S E : Type 0} (eq : E → E → Bool) (variables xs : List (Variable S E)) (name : Handler E) (p : HandlerPlace) (slice old new : List (Handlers E)) (n : ℕ) → variables ≡ xs → slice ≡ old → n ≡ length old
     → HandedAt eq variables name p slice new → HandedAt eq xs name p old (take n (new ++ drop (length new) old))
 handed_written eq variables xs name p slice old new n all is len w = written (λ a b. HandedAt eq xs name p a b) slice old new n is len (set_length slice p.variable _ new w.is) (subst (λ l. HandedAt eq l name p slice new) all w)
 
 pub added_written : {E : Type 0} (handler : Held E) (v : ℕ) (slice old new : List (Handlers E)) (n : ℕ) → slice ≡ old → n ≡ length old → AddedAt handler v slice new → AddedAt handler v old (take n (new ++ drop (length new) old))
 added_written handler v slice old new n is len w = written (AddedAt handler v) slice old new n is len (set_length slice v w.to new w.is) w
+
+-- what is there is no error
+pub ok_is_no_error : {T F : Type 0} {r : Result T F} {t : T} {f : F} → r ≡ Ok t → r ≡ Err f → ⊥
+ok_is_no_error p q = cc

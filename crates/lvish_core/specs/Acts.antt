@@ -1,39 +1,41 @@
 -- What the parts of a step take and leave.
 use Rattle.std.specs.Prelude.{◌≡◌, ◌<◌, ℕ, Option, None, Result, MatchResult}
+use Rattle.lvish_core.specs.declared.limits.TheConstants.{MOST_STEPS}
 use Rattle.lvish_calculus.specs.declared.label.Label.{Label}
-use Rattle.lvish_calculus.specs.declared.label.Label.TheVariants.{Task as Act}
+use Rattle.lvish_calculus.specs.declared.label.Label.TheVariants.{Act}
 use Rattle.lvish_calculus.specs.declared.request.ErrorKind.{ErrorKind}
 use Rattle.lvish_calculus.specs.declared.request.Request.{Request}
 use Rattle.lvish_calculus.specs.Machine.{Machine}
 use Rattle.lvish_calculus.specs.declared.request.Reply.{Reply}
-use Rattle.lvish_calculus.specs.Calculus.{Name, Live, Changes, IsReady, request_outcome, just}
+use Rattle.lvish_calculus.specs.Calculus.{Live, Changes, IsReady, request_effect, just}
+use Rattle.lvish_names.specs.Names.{Name}
 use Rattle.lvish_calculus.specs.Program.{IsReplyTo}
 use Rattle.lvish_picture.specs.Steps.{IsAsking, IsErring}
 use Rattle.lvish_core.specs.declared.fault.Stepped.{Stepped}
 use Rattle.lvish_core.specs.declared.fault.StepFault.{StepFault}
 use Rattle.lvish_core.specs.declared.fault.StepFault.TheVariants.{Memory}
 use Rattle.lvish_core.specs.declared.moved.Moved.{Moved}
-use Rattle.lvish_core.specs.Core.{View, IsStep, state}
+use Rattle.lvish_core.specs.Core.{CoreView, IsStep, state}
 use Rattle.lvish_core.specs.Changes.{IsMoved}
 
 -- there is no error and room for a step, and t's request r, made in the local state at, is ready
-pub record IsActing {P S E R A L : Type 0} (M : Machine S E R A L) (c : View P S E L) (t : Name E) (at : L) (f a p : ℕ) (r : Request S R L) : Type 0 where
+pub record IsActing {P S E R A L : Type 0} (M : Machine S E R A L) (c : CoreView P S E L) (t : Name E) (at : L) (f a p : ℕ) (r : Request S R L) : Type 0 where
   pub no_fault : c.fault ≡ None
-  pub room : c.steps < 1000000
+  pub room : c.steps < MOST_STEPS
   pub local : L
   pub asking : IsAsking M c.table t local f a p r
   pub at_is : at ≡ M.at local
   pub ready : IsReady M (state M c) r
 
 -- t asks for what changes nothing but its local state, by this reply
-pub record IsAnswered {P S E R A L : Type 0} (M : Machine S E R A L) (c : View P S E L) (t : Name E) (at : L) (f a p : ℕ) (reply : Reply S A) : Type 0 where
+pub record IsReplied {P S E R A L : Type 0} (M : Machine S E R A L) (c : CoreView P S E L) (t : Name E) (at : L) (f a p : ℕ) (reply : Reply S A) : Type 0 where
   pub request : Request S R L
   pub acting : IsActing M c t at f a p request
   pub fits : IsReplyTo request reply
-  pub does : request_outcome M (state M c) t at f a p request ≡ Changes (just t (Live (M.resume at reply) f a p))
+  pub does : request_effect M (state M c) t at f a p request ≡ Changes (just t (Live (M.resume at reply) f a p))
 
 -- t's request is this error
-pub record IsFailing {P S E R A L : Type 0} (M : Machine S E R A L) (c : View P S E L) (t : Name E) (kind : ErrorKind) (v : Option ℕ) : Type 0 where
+pub record IsFailing {P S E R A L : Type 0} (M : Machine S E R A L) (c : CoreView P S E L) (t : Name E) (kind : ErrorKind) (v : Option ℕ) : Type 0 where
   pub at : L
   pub forks : ℕ
   pub adds : ℕ
@@ -43,10 +45,10 @@ pub record IsFailing {P S E R A L : Type 0} (M : Machine S E R A L) (c : View P 
   pub errs : IsErring M c.table t request kind v
 
 -- a step with the label was made, and this was moved by it
-pub record IsMoving {P S E R A L : Type 0} (M : Machine S E R A L) (old : View P S E L) (l : Label E) (new : View P S E L) (said : Stepped) (moved : Moved E L) : Type 0 where
+pub record IsMoving {P S E R A L : Type 0} (M : Machine S E R A L) (old : CoreView P S E L) (l : Label E) (new : CoreView P S E L) (said : Stepped) (moved : Moved E L) : Type 0 where
   pub step : IsStep M old l new said
   pub change : IsMoved M (state M old) l moved
 
--- t made its step, or memory was wanted and the core is as it was
-abbrev pub Acts : {P S E R A L : Type 0} → Machine S E R A L → View P S E L → Name E → View P S E L → Result (Stepped × Moved E L) StepFault → Type 0
+-- t made its step, or memory was refused and the core is as it was
+abbrev pub Acts : {P S E R A L : Type 0} → Machine S E R A L → CoreView P S E L → Name E → CoreView P S E L → Result (Stepped × Moved E L) StepFault → Type 0
 Acts M old t new r = MatchResult r (λ s. IsMoving M old (Act t) new s.0 s.1) (λ e. (e ≡ Memory) × (new ≡ old))

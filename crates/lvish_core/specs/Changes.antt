@@ -1,10 +1,11 @@
--- What a step tells of its change.
+-- What a step says of its change.
 use Rattle.std.specs.Prelude.{◌≡◌, ℕ, List, [], Option, Some, None, nat_eq, if◌then◌else◌, option_and_then, option_map}
 use Rattle.lvish_lattice.specs.Lattice.{fresh_of}
 use Rattle.lvish_calculus.specs.declared.label.Label.{Label}
-use Rattle.lvish_calculus.specs.declared.label.Label.TheVariants.{Task as Act, Hand}
+use Rattle.lvish_calculus.specs.declared.label.Label.TheVariants.{Act, Hand}
 use Rattle.lvish_calculus.specs.Machine.{Machine}
-use Rattle.lvish_calculus.specs.Calculus.{Name, Task, Absent, Live, Ended, State, Change, Outcome, Changes, Fails, Nothing, outcome}
+use Rattle.lvish_calculus.specs.Calculus.{Task, Absent, Live, Ended, State, Change, Effect, Changes, Fails, Nothing, effect}
+use Rattle.lvish_names.specs.Names.{Name}
 use Rattle.lvish_variable.specs.declared.entry.Entry.{Entry}
 use Rattle.lvish_variable.specs.Variable.{entries}
 use Rattle.lvish_picture.specs.Counts.{pool_of}
@@ -24,7 +25,7 @@ abbrev pub made_as : {E L : Type 0} → Name E → Option L → Option (Made E L
 made_as t None = None
 made_as t (Some l) = Some (record { name = t; local = l })
 
--- what a change moves, as far as it is told
+-- what a change moves, as far as a step says it
 abbrev pub moved_by : {S E L : Type 0} → Change S E L → Moved E L
 moved_by ch = record {
   own = option_and_then (λ x. local_of x.1) ch.own;
@@ -37,28 +38,28 @@ abbrev pub nothing_moved : {E L : Type 0} → Moved E L
 nothing_moved = record { own = None; made = None; added = None }
 
 -- what a step moves
-abbrev pub moved_in : {S E L : Type 0} → Outcome S E L → Moved E L
+abbrev pub moved_in : {S E L : Type 0} → Effect S E L → Moved E L
 moved_in (Changes ch) = moved_by ch
 moved_in (Fails kind v t) = nothing_moved
 moved_in Nothing = nothing_moved
 
 -- what was moved is what the calculus's step with the label changes
 abbrev pub IsMoved : {S E R A L : Type 0} → Machine S E R A L → State S E L → Label E → Moved E L → Type 0
-IsMoved M s l moved = moved ≡ moved_in (outcome M s l)
+IsMoved M s l moved = moved ≡ moved_in (effect M s l)
 
 -- the entries that a put of the task t brings to v's log, where it goes on as own
 abbrev pub put_brings : {S E R A L : Type 0} → Machine S E R A L → State S E L → ℕ → Option (ℕ × S) → Option (Name E × Task L) → List (Entry E)
 put_brings M s v (Some (w, d)) (Some (t, Live l f a p)) = if nat_eq v w then entries t p (fresh_of M.join M.event_same M.events (s.content v) d) else []
 put_brings M s v _ _ = []
 
-abbrev pub brings : {S E R A L : Type 0} → Machine S E R A L → State S E L → ℕ → Outcome S E L → List (Entry E)
+abbrev pub brings : {S E R A L : Type 0} → Machine S E R A L → State S E L → ℕ → Effect S E L → List (Entry E)
 brings M s v (Changes ch) = put_brings M s v ch.joined ch.own
 brings M s v (Fails kind w t) = []
 brings M s v Nothing = []
 
 -- the entries that the step with the label brings to v's log: a put's fresh events with the task and the number of this put, and no others
 abbrev pub brought : {S E R A L : Type 0} → Machine S E R A L → State S E L → Label E → ℕ → List (Entry E)
-brought M s l v = brings M s v (outcome M s l)
+brought M s l v = brings M s v (effect M s l)
 
 -- the variable of a pool, where there is one
 abbrev pub touching : (ℕ → Touched) → Option ℕ → Touched
@@ -71,12 +72,12 @@ touched_in M s (Some (v, d)) own = Put v
 touched_in M s None (Some (t, Ended)) = touching (λ v. EndedIn v) (option_and_then M.pool_variable (pool_of s t))
 touched_in M s None _ = Other
 
-abbrev pub task_touches : {S E R A L : Type 0} → Machine S E R A L → State S E L → Outcome S E L → Touched
+abbrev pub task_touches : {S E R A L : Type 0} → Machine S E R A L → State S E L → Effect S E L → Touched
 task_touches M s (Changes ch) = touched_in M s ch.joined ch.own
 task_touches M s (Fails kind v t) = Other
 task_touches M s Nothing = Other
 
 -- what the step with the label concerns: a put its variable, a handing the handler's, an end that of the task's pool; an error and every other step none
 abbrev pub touched_by : {S E R A L : Type 0} → Machine S E R A L → State S E L → Label E → Touched
-touched_by M s (Act t) = task_touches M s (outcome M s (Act t))
+touched_by M s (Act t) = task_touches M s (effect M s (Act t))
 touched_by M s (Hand h e) = touching (λ v. Handed v) (option_and_then (λ post. M.pool_variable post.pool) (s.handlers h))

@@ -1,13 +1,15 @@
 -- What a core keeps.
 use Rattle.std.specs.Prelude.{◌≡◌, ◌≤◌, ◌+◌, ℕ, List, length}
+use Rattle.lvish_core.specs.declared.limits.TheConstants.{MOST_STEPS}
 use Rattle.lvish_calculus.specs.declared.label.Label.{Label}
 use Rattle.lvish_calculus.specs.Machine.{Machine}
-use Rattle.lvish_calculus.specs.Calculus.{Name, Handler, Task, Live}
+use Rattle.lvish_calculus.specs.Calculus.{Task, Live}
+use Rattle.lvish_names.specs.Names.{Name, Handler}
 use Rattle.lvish_calculus.specs.Live.{HasLive}
 use Rattle.lvish_picture.specs.Picture.{Table, IsPictured}
-use Rattle.lvish_picture.specs.Counts.{IsCounted}
-use Rattle.lvish_core.specs.declared.place.Place.{Place}
-use Rattle.lvish_core.specs.Core.{View, IsReached, state}
+use Rattle.lvish_picture.specs.Counts.{CountsRunning}
+use Rattle.lvish_core.specs.declared.handler_place.HandlerPlace.{HandlerPlace}
+use Rattle.lvish_core.specs.Core.{CoreView, IsReached, state}
 use Rattle.lvish_core.specs.Places.{IsIndex}
 
 -- no live task has more forks, handlers or puts than n
@@ -20,14 +22,14 @@ pub record IsStanding {S E R A L : Type 0} (M : Machine S E R A L) (c : Table S 
   pub few : length run ≤ n
   pub pictured : IsPictured M c run
 
-pub record IsKept {P S E R A L : Type 0} (M : Machine S E R A L) (variables running : ℕ) (places : List (Handler E × Place)) (c : View P S E L) : Type 0 where
+pub record IsKept {P S E R A L : Type 0} (M : Machine S E R A L) (variables running : ℕ) (places : List (Handler E × HandlerPlace)) (c : CoreView P S E L) : Type 0 where
   pub reached : IsReached M c
   -- also after an error, by the run before it
   pub standing : IsStanding M c.table c.steps
   pub there : length c.table.variables ≡ variables
-  pub counted : IsCounted M c.table
+  pub counted : CountsRunning M c.table
   pub live : HasLive (state M c) running
   pub index : IsIndex M (state M c) places
-  pub steps : c.steps ≤ 1000000
+  pub steps : c.steps ≤ MOST_STEPS
   pub few : running ≤ c.steps + 1
   pub numbers : AreFew (state M c).tasks c.steps

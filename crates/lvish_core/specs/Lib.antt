@@ -11,3 +11,4 @@ pub mod Beside
 pub mod CoreLaws
 pub mod Waiting
 pub mod Spots
+pub mod laws

@@ -2,28 +2,33 @@
 use Rattle.std.specs.Prelude.{◌≡◌, ◌<◌, ◌↔◌, ℕ, List, Some, All, Contains, length, slice_get}
 use Rattle.lvish_calculus.specs.declared.request.Request.{Request}
 use Rattle.lvish_calculus.specs.Machine.{Machine}
-use Rattle.lvish_calculus.specs.Calculus.{Name, Handler, Post, Live}
+use Rattle.lvish_calculus.specs.Calculus.{Post, Live, IsReadyTask}
+use Rattle.lvish_names.specs.Names.{Name, Handler}
 use Rattle.lvish_calculus.specs.Live.{HasLive}
-use Rattle.lvish_variable.specs.Variable.{View as Variable}
+use Rattle.lvish_variable.specs.Variable.{VariableView as Variable}
 use Rattle.lvish_handlers.specs.declared.held.Held.{Held}
-use Rattle.lvish_handlers.specs.Handlers.{View as Handlers}
+use Rattle.lvish_handlers.specs.Handlers.{HandlersView as Handlers}
 use Rattle.lvish_picture.specs.Picture.{Table}
-use Rattle.lvish_core.specs.Core.{View, state}
+use Rattle.lvish_core.specs.Core.{CoreView, state}
 
--- where the task is there and hasn't ended, this is the request that it asks
-abbrev pub IsItsRequest : {P S E R A L : Type 0} → Machine S E R A L → View P S E L → Name E → Request S R L → Type 0
+-- where the task is there and hasn't ended, this is the request that it makes
+abbrev pub IsItsRequest : {P S E R A L : Type 0} → Machine S E R A L → CoreView P S E L → Name E → Request S R L → Type 0
 IsItsRequest {L = L} M c t r = (l : L) (f a p : ℕ) → (state M c).tasks t ≡ Live l f a p → M.request l ≡ r
 
--- and this the local state in which it asks
-abbrev pub IsItsPlace : {P S E R A L : Type 0} → Machine S E R A L → View P S E L → Name E → L → Type 0
+-- where the task is there and hasn't ended, this is the local state in which it asks
+abbrev pub IsItsPlace : {P S E R A L : Type 0} → Machine S E R A L → CoreView P S E L → Name E → L → Type 0
 IsItsPlace {L = L} M c t at = (l : L) (f a p : ℕ) → (state M c).tasks t ≡ Live l f a p → M.at l ≡ at
 
--- so many tasks haven't ended
-abbrev pub HasRunning : {P S E R A L : Type 0} → Machine S E R A L → View P S E L → ℕ → Type 0
+-- no task's request is ready
+pub record NoneIsReady {P S E R A L : Type 0} (M : Machine S E R A L) (c : CoreView P S E L) : Type 0 where
+  pub blocked : (t : Name E) → IsReadyTask M (state M c) ((state M c).tasks t) → ⊥
+
+-- this many tasks haven't ended
+abbrev pub HasRunning : {P S E R A L : Type 0} → Machine S E R A L → CoreView P S E L → ℕ → Type 0
 HasRunning M c n = HasLive (state M c) n
 
 -- all variables in their order, with the picture's states and marks
-pub record AreStates {P S E R A L : Type 0} (M : Machine S E R A L) (variables : ℕ) (c : View P S E L) (xs : List (Variable S E)) : Type 0 where
+pub record AreStates {P S E R A L : Type 0} (M : Machine S E R A L) (variables : ℕ) (c : CoreView P S E L) (xs : List (Variable S E)) : Type 0 where
   pub are : xs ≡ c.table.variables
   pub count : length xs ≡ variables
   pub each : (v : ℕ) → v < variables → (x : Variable S E) × (slice_get xs v ≡ Some x) × (x.state ≡ (state M c).content v) × (x.frozen ≡ (state M c).frozen v)
@@ -37,7 +42,7 @@ pub record IsHeldAs {E : Type 0} (held : List (Held E)) (h : Handler E) (post : 
   pub procedure : handler.procedure ≡ post.procedure
 
 -- v's handlers in the order of their names: the picture's, with their pools and procedures
-pub record AreHandlers {P S E R A L : Type 0} (M : Machine S E R A L) (c : View P S E L) (v : ℕ) (held : List (Held E)) : Type 0 where
+pub record AreHandlers {P S E R A L : Type 0} (M : Machine S E R A L) (c : CoreView P S E L) (v : ℕ) (held : List (Held E)) : Type 0 where
   pub beside : Handlers E
   pub at : slice_get c.table.handlers v ≡ Some beside
   pub are : held ≡ beside.held

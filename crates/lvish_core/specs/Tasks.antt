@@ -2,7 +2,8 @@
 use Rattle.std.specs.Prelude.{◌≡◌, Bool, List, Option, Some, None, map}
 use Rattle.std.specs.Borrow.{Bor}
 use Rattle.std.specs.Map.Iter.{deref_pair}
-use Rattle.lvish_calculus.specs.Calculus.{Name, Task, Absent, Live, Ended, with_task}
+use Rattle.lvish_calculus.specs.Calculus.{Task, Absent, Live, Ended, with_task}
+use Rattle.lvish_names.specs.Names.{Name}
 use Rattle.lvish_picture.specs.Picture.{task_of}
 use Rattle.lvish_core.specs.declared.stage.Stage.{Stage}
 use Rattle.lvish_core.specs.declared.stage.Stage.TheVariants.{Live as LiveStage, Ended as EndedStage}
@@ -12,7 +13,7 @@ abbrev pub standing : {L : Type 0} → Stage L → Task L
 standing (LiveStage l f a p) = Live l f a p
 standing EndedStage = Ended
 
--- and what no stage stands for
+-- the same where there may be no stage
 abbrev pub standing_at : {L : Type 0} → Option (Stage L) → Task L
 standing_at None = Absent
 standing_at (Some s) = standing s
@@ -22,8 +23,8 @@ abbrev pub standings : {E L : Type 0} → List (Name E × Stage L) → List (Nam
 standings entries = map (λ e. (e.0, standing e.1)) entries
 
 -- the names in a list of tasks
-abbrev pub names_of : {E L : Type 0} → List (Name E × Task L) → List (Name E)
-names_of tasks = map (λ e. e.0) tasks
+abbrev pub task_names : {E L : Type 0} → List (Name E × Task L) → List (Name E)
+task_names tasks = map (λ e. e.0) tasks
 
 -- the new list has k under t, and under each other name what the old one has
 pub record Sets {E L : Type 0} (eq : E → E → Bool) (old : List (Name E × Task L)) (t : Name E) (k : Task L) (new : List (Name E × Task L)) : Type 0 where

@@ -1,32 +1,33 @@
--- What a waiting task waits for, as the last step tells it.
+-- What can wake a blocked task, by what the last step concerned.
 use Rattle.std.specs.Prelude.{◌≡◌, ◌⊎◌, ◌↔◌, ℕ, List, Option, Some, None}
 use Rattle.lvish_calculus.specs.declared.label.Label.{Label}
-use Rattle.lvish_calculus.specs.declared.label.Label.TheVariants.{Task as Act}
+use Rattle.lvish_calculus.specs.declared.label.Label.TheVariants.{Act}
 use Rattle.lvish_calculus.specs.declared.request.Request.{Request}
 use Rattle.lvish_calculus.specs.declared.request.Request.TheVariants.{Get, Freeze}
 use Rattle.lvish_calculus.specs.Machine.{Machine}
-use Rattle.lvish_calculus.specs.Calculus.{Name, Live, IsReady, IsEnded}
+use Rattle.lvish_calculus.specs.Calculus.{Live, IsReady, IsEnded}
+use Rattle.lvish_names.specs.Names.{Name}
 use Rattle.lvish_calculus.specs.Waiting.{HasWaiting}
 use Rattle.lvish_core.specs.declared.fault.Stepped.{Stepped}
 use Rattle.lvish_core.specs.declared.touched.Touched.{Touched}
 use Rattle.lvish_core.specs.declared.touched.Touched.TheVariants.{Put, Handed, Ended as EndedIn}
-use Rattle.lvish_core.specs.Core.{View, state, picture, IsRunTo, IsStep}
+use Rattle.lvish_core.specs.Core.{CoreView, state, picture, IsRunTo, IsStep}
 use Rattle.lvish_core.specs.Reads.{HasRunning, AreDrained}
 
--- what the last step concerned may let the request pass: a put the gets from its variable; a handing, and the end of a task in one of a variable's pools, the freezes of that variable
+-- whether a step can wake the request's task, by what it concerned: a put can wake the gets from its variable; a handing, or the end of a task in one of a variable's pools, the freezes of that variable
 abbrev pub MayPass : {S R L : Type 0} → Request S R L → Option Touched → Type 0
 MayPass (Get v r) (Some (Put w)) = v ≡ w
 MayPass (Freeze v pools) (Some (Handed w)) = v ≡ w
 MayPass (Freeze v pools) (Some (EndedIn w)) = v ≡ w
 MayPass _ _ = ⊥
 
--- a live task stays as it is at every step but its own; where its request is ready after such a step, it was so before, or what the step concerned let it pass
+-- a live task stays as it is at every step but its own; where its request is ready after such a step, it was ready before, or what the step concerned can wake the task
 abbrev pub WaitsUntilTouched : {S E R A L : Type 0} → Type 0 → Machine S E R A L → Type 0
-WaitsUntilTouched {S} {E} {R} {A} {L} P M = (c d : View P S E L) (xs : List (Label E)) (l : Label E) (said : Stepped) → IsRunTo M c xs → IsStep M c l d said → d.fault ≡ None
+WaitsUntilTouched {S} {E} {R} {A} {L} P M = (c d : CoreView P S E L) (xs : List (Label E)) (l : Label E) (said : Stepped) → IsRunTo M c xs → IsStep M c l d said → d.fault ≡ None
     → (t : Name E) (at : L) (f a p : ℕ) → (state M c).tasks t ≡ Live at f a p → (l ≡ Act t → ⊥)
     → ((state M d).tasks t ≡ Live at f a p) × (IsReady M (state M d) (M.request at) → IsReady M (state M c) (M.request at) ⊎ MayPass (M.request at) d.touched)
 
--- where as many tasks wait as are running, a core is at an end exactly where every cursor is at its log's end
+-- if every running task is blocked, a core is at an end exactly where every cursor is at its log's end
 abbrev pub EndsByCounts : {S E R A L : Type 0} → Type 0 → Machine S E R A L → Type 0
-EndsByCounts {S} {E} {R} {A} {L} P M = (c : View P S E L) (xs : List (Label E)) (n : ℕ) → IsRunTo M c xs → c.fault ≡ None → HasRunning M c n → HasWaiting M (state M c) n
+EndsByCounts {S} {E} {R} {A} {L} P M = (c : CoreView P S E L) (xs : List (Label E)) (n : ℕ) → IsRunTo M c xs → c.fault ≡ None → HasRunning M c n → HasWaiting M (state M c) n
     → IsEnded M (picture M c) ↔ AreDrained c.table

@@ -7,7 +7,7 @@ use lvish_lattice::Lattice;
 use lvish_variable::Variable;
 use std::alloc::{AllocError, Global};
 
-/// So many variables at bottom.
+/// This many variables at bottom.
 pub(crate) fn bottoms<L: Lattice>(
     alloc: Global,
     count: usize,
@@ -21,7 +21,7 @@ pub(crate) fn bottoms<L: Lattice>(
     Ok(variables)
 }
 
-/// For so many variables no handlers, and a count for each of all pools.
+/// No handlers for each of this many variables, and beside each a count for every pool.
 pub(crate) fn no_handlers<L: Lattice>(
     alloc: Global,
     count: usize,

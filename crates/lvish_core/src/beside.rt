@@ -3,8 +3,9 @@
 ghost use Rattle.std.specs.Prelude.{◌≡◌, ◌<◌, false, IfOk, IfErr, MatchResult, length};
 ghost use Rattle.lvish_core.specs.Beside.{PutAt, RefusedAt, FrozenAt, AddedAt, HandedAt, CountsAt, CanCount, CanHand, CanAdd, one_more_in, one_less_in};
 
-use crate::place::Place;
-use lvish_handlers::{AddFault, Handlers, Nothing};
+use crate::handler_place::HandlerPlace;
+use crate::limits::MOST_STEPS;
+use lvish_handlers::{AddFault, Handlers, NothingToHand};
 use lvish_lattice::Lattice;
 use lvish_names::{HandlerName, TaskName};
 use lvish_variable::{PutFault, Variable};
@@ -46,7 +47,7 @@ pub(crate) fn add_at<L: Lattice>(
     alloc: Global,
     variable: &Variable<L>,
     name: HandlerName<L::Event>,
-    place: Place,
+    place: HandlerPlace,
 ) -> Result<(), AllocError>
     requires fits { CanAdd name place handlers.old }
     requires unfrozen { variable.now.frozen ≡ false }
@@ -67,7 +68,7 @@ pub(crate) fn hand_at<L: Lattice>(
     handlers: &mut [Handlers<L>],
     variables: &[Variable<L>],
     name: &HandlerName<L::Event>,
-    place: Place,
+    place: HandlerPlace,
 )
     requires { CanHand L.Event.eq variables.now name.now place handlers.old }
     ensures { HandedAt L.Event.eq variables.now name.now place handlers.old handlers.new }
@@ -76,13 +77,13 @@ pub(crate) fn hand_at<L: Lattice>(
     let beside = &mut handlers[place.variable];
     match beside.advance(variable, name) {
         Ok(()) => beside.task_started(place.pool),
-        Err(Nothing) => unreachable!("an event comes next"),
+        Err(NothingToHand) => unreachable!("an event comes next"),
     }
 }
 
 /// Counts one more task in the pool, if there is one.
-pub(crate) fn start_at<L: Lattice>(handlers: &mut [Handlers<L>], place: Option<Place>)
-    requires { CanCount (λ n. n < 1000000) handlers.old place }
+pub(crate) fn start_at<L: Lattice>(handlers: &mut [Handlers<L>], place: Option<HandlerPlace>)
+    requires { CanCount (λ n. n < MOST_STEPS) handlers.old place }
     ensures { CountsAt one_more_in handlers.old place handlers.new }
 {
     if let Some(place) = place {
@@ -90,8 +91,8 @@ pub(crate) fn start_at<L: Lattice>(handlers: &mut [Handlers<L>], place: Option<P
     }
 }
 
-/// Counts one task less in the pool, if there is one.
-pub(crate) fn end_at<L: Lattice>(handlers: &mut [Handlers<L>], place: Option<Place>)
+/// Counts one task fewer in the pool, if there is one.
+pub(crate) fn end_at<L: Lattice>(handlers: &mut [Handlers<L>], place: Option<HandlerPlace>)
     requires { CanCount (λ n. 0 < n) handlers.old place }
     ensures { CountsAt one_less_in handlers.old place handlers.new }
 {

@@ -6,7 +6,7 @@ use std::alloc::AllocError;
 
 /// The error that a run met: its kind, its variable if it has one, and the task that met it.
 #[derive(Debug, Drop)]
-pub struct Fault<E> {
+pub struct RunError<E> {
     pub kind: ErrorKind,
     pub variable: Option<usize>,
     pub task: TaskName<E>,

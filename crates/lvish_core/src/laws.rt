@@ -1,4 +1,4 @@
-//! What the labels of a core are to its runs, as contracts of functions with no code.
+//! The laws of cores and their runs, as contracts of functions with no code.
 
 ghost use Rattle.lvish_core.specs.CoreLaws.{TakesCoreRuns, TakesSomething, HandsToEach, HandsOneEvent, HandsWhatComes};
 ghost use Rattle.lvish_core.specs.Spots.{PassesAtItsSpot};
@@ -39,7 +39,7 @@ pub fn hands_to_each<P: Program>()
 
 /// A handler is handed the event that comes next for it, which `Core::next` answers, and no other.
 pub fn hands_one_event<P: Program>()
-    // None but the one that comes next.
+    // Only the one that comes next.
     ensures one { (p : P) → HandsOneEvent P (⟦<P as Meaning>⟧.machine p) }
     // Without an error, what comes next can be handed.
     ensures open { (p : P) → HandsWhatComes P (⟦<P as Meaning>⟧.machine p) }
@@ -49,12 +49,11 @@ pub fn hands_one_event<P: Program>()
     handed_next::<P>();
 }
 
-/// What the tasks that wait have to be asked again for, and what an end is told from.
+/// Which steps can wake a blocked task, and what shows an end.
 pub fn waiting_tasks<P: Program>()
-    // A task's request that isn't ready is let pass by no step of another but one that concerned
-    // its variable.
+    // Only a step that concerned its variable can wake a blocked task.
     ensures until_touched { (p : P) → WaitsUntilTouched P (⟦<P as Meaning>⟧.machine p) }
-    // Where as many tasks wait as are running, the cursors tell an end.
+    // If every running task is blocked, the cursors show whether this is an end.
     ensures ends { (p : P) → EndsByCounts P (⟦<P as Meaning>⟧.machine p) }
 {
     lawful::<P>();

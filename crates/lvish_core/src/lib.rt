@@ -20,21 +20,24 @@
 
 mod begun;
 mod beside;
+mod core_meaning;
+mod ending;
 mod fault;
+mod handler_place;
 pub mod laws;
+mod limits;
 mod machine;
 mod moved;
-mod place;
 mod places;
 mod pools;
-mod runs;
 mod seat;
 mod stage;
 mod tasks;
 mod touched;
 
-pub use fault::{Fault, StepFault, Stepped};
+pub use core_meaning::CoreMeaning;
+pub use fault::{RunError, StepFault, Stepped};
+pub use limits::MOST_STEPS;
 pub use machine::Core;
 pub use moved::{Made, Moved};
-pub use runs::Runs;
 pub use touched::Touched;

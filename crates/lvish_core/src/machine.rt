@@ -1,5 +1,5 @@
 ghost use Rattle.std.specs.Prelude.{◌≡◌, MatchResult, IfOk};
-ghost use Rattle.lvish_calculus.specs.declared.label.Label.TheVariants.{Task as Act, Hand};
+ghost use Rattle.lvish_calculus.specs.declared.label.Label.TheVariants.{Act, Hand};
 
 mod act;
 mod add;
@@ -18,10 +18,10 @@ mod ready;
 mod shown;
 
 use crate::begun::{bottoms, no_handlers};
-use crate::fault::{Fault, StepFault, Stepped};
+use crate::core_meaning::CoreMeaning;
+use crate::fault::{RunError, StepFault, Stepped};
 use crate::places::Places;
 use crate::pools::pools_of;
-use crate::runs::Runs;
 use crate::stage::Stage;
 use crate::tasks::Tasks;
 use crate::touched::Touched;
@@ -48,16 +48,16 @@ pub struct Core<'p, P: Program> {
     places: Places<<P::Lat as Lattice>::Event>,
     running: usize,
     steps: u64,
-    fault: Option<Fault<<P::Lat as Lattice>::Event>>,
+    fault: Option<RunError<<P::Lat as Lattice>::Event>>,
     touched: Option<Touched>,
 }
 
 impl<'p, P: Program> Model for Core<'p, P> {
     ghost use Rattle.lvish_calculus.specs.Program.{machine_of};
-    ghost use Rattle.lvish_core.specs.Core.{View};
+    ghost use Rattle.lvish_core.specs.Core.{CoreView};
     ghost use Rattle.lvish_core.specs.Kept.{IsKept};
 
-    ghost Value = { View P P.Lat P.Lat.Event P.Local };
+    ghost Value = { CoreView P P.Lat P.Lat.Event P.Local };
 
     ghost view = { λ c. record { program = c.program.now; table = record { variables = c.variables.items; handlers = c.handlers.items; tasks = c.tasks }; steps = c.steps; fault = c.fault; touched = c.touched } };
 
@@ -71,12 +71,12 @@ impl<'p, P: Program> Core<'p, P> {
     ///
     /// Where there is no room for the variables, for a count for each pool, or for `main`.
     pub fn new(alloc: Global, program: &'p P) -> Result<Self, AllocError>
-        ensures { IfOk result (λ c. ⟦<P as Runs>⟧.is_begun program.now c) }
+        ensures { IfOk result (λ c. ⟦<P as CoreMeaning>⟧.is_begun program.now c) }
     {
         lawful::<P>();
         begun_is_pictured::<P>();
         let Some(pools) = pools_of(program) else {
-            // There is no room for so many counts.
+            // There is no room for that many counts.
             return Err(AllocError);
         };
         let count = program.variables();
@@ -110,10 +110,10 @@ impl<'p, P: Program> Core<'p, P> {
         alloc: Global,
         label: &Label<<P::Lat as Lattice>::Event>,
     ) -> Result<Stepped, StepFault>
-        ensures stepped { MatchResult result (λ s. ⟦<P as Runs>⟧.is_step self.old label.now self.new s) (λ e. ⟦<P as Runs>⟧.is_refused self.old label.now e × (self.new ≡ self.old)) }
+        ensures stepped { MatchResult result (λ s. ⟦<P as CoreMeaning>⟧.is_step self.old label.now self.new s) (λ e. ⟦<P as CoreMeaning>⟧.is_refused self.old label.now e × (self.new ≡ self.old)) }
     {
         match label {
-            Label::Task(name) => self.step_task(alloc, name),
+            Label::Act(name) => self.step_task(alloc, name),
             Label::Hand(name, event) => self.step_event(alloc, name, event),
         }
     }
@@ -124,7 +124,7 @@ impl<'p, P: Program> Core<'p, P> {
         alloc: Global,
         name: &TaskName<<P::Lat as Lattice>::Event>,
     ) -> Result<Stepped, StepFault>
-        ensures { MatchResult result (λ s. ⟦<P as Runs>⟧.is_step self.old (Act name.now) self.new s) (λ e. ⟦<P as Runs>⟧.is_refused self.old (Act name.now) e × (self.new ≡ self.old)) }
+        ensures { MatchResult result (λ s. ⟦<P as CoreMeaning>⟧.is_step self.old (Act name.now) self.new s) (λ e. ⟦<P as CoreMeaning>⟧.is_refused self.old (Act name.now) e × (self.new ≡ self.old)) }
     {
         let Some(local) = self.local_of(name) else {
             return Err(StepFault::NotEnabled);
@@ -141,7 +141,7 @@ impl<'p, P: Program> Core<'p, P> {
         name: &HandlerName<<P::Lat as Lattice>::Event>,
         event: &<P::Lat as Lattice>::Event,
     ) -> Result<Stepped, StepFault>
-        ensures { MatchResult result (λ s. ⟦<P as Runs>⟧.is_step self.old (Hand name.now event.now) self.new s) (λ e. ⟦<P as Runs>⟧.is_refused self.old (Hand name.now event.now) e × (self.new ≡ self.old)) }
+        ensures { MatchResult result (λ s. ⟦<P as CoreMeaning>⟧.is_step self.old (Hand name.now event.now) self.new s) (λ e. ⟦<P as CoreMeaning>⟧.is_refused self.old (Hand name.now event.now) e × (self.new ≡ self.old)) }
     {
         lawful::<P>();
         handed_next::<P>();

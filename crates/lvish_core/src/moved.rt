@@ -10,7 +10,7 @@ pub struct Made<E, L> {
     pub local: L,
 }
 
-/// What a step moved: copies, for who keeps track of tasks and handlers.
+/// What a step moved: copies, for a caller that keeps track of tasks and handlers.
 #[derive(Debug, Drop)]
 pub struct Moved<E, L> {
     /// The local state in which the acting task goes on; `None` where it has ended.
@@ -41,6 +41,17 @@ impl<E, L> Moved<E, L> {
             own: Some(local),
             made: None,
             added: None,
+        }
+    }
+
+    /// The acting task goes on, and a handler was added.
+    pub(crate) fn added(local: L, handler: HandlerName<E>) -> Self
+        ensures { result ≡ record { own = Some local; made = None; added = Some handler } }
+    {
+        Moved {
+            own: Some(local),
+            made: None,
+            added: Some(handler),
         }
     }
 }

@@ -3,7 +3,7 @@ ghost use Rattle.std.specs.List.Sorted.{IsStrictlySortedBy};
 ghost use Rattle.lvish_names.specs.NameOrder.{handler_cmp};
 ghost use Rattle.lvish_core.specs.Places.{PlacesAt, place_at, handlers_of};
 
-use crate::place::Place;
+use crate::handler_place::HandlerPlace;
 use lvish_lattice::Plain;
 use lvish_names::HandlerName;
 use std::alloc::{AllocError, Global};
@@ -14,15 +14,15 @@ use std::marker::Model;
 /// Where each handler is, in the order of names.
 #[derive(Drop)]
 pub(crate) struct Places<E: Ord> {
-    places: BTreeMap<HandlerName<E>, Place>,
+    places: BTreeMap<HandlerName<E>, HandlerPlace>,
 }
 
 impl<E: Ord> Model for Places<E> {
     ghost use Rattle.std.specs.Prelude.{List};
-    ghost use Rattle.lvish_calculus.specs.Calculus.{Handler};
-    ghost use Rattle.lvish_core.specs.declared.place.Place.{Place};
+    ghost use Rattle.lvish_names.specs.Names.{Handler};
+    ghost use Rattle.lvish_core.specs.declared.handler_place.HandlerPlace.{HandlerPlace};
 
-    ghost Value = { List (Handler E × Place) };
+    ghost Value = { List (Handler E × HandlerPlace) };
 
     ghost view = { λ p. p.places.entries };
 }
@@ -37,14 +37,14 @@ impl<E: Plain> Places<E> {
     }
 
     /// Where the handler of this name is.
-    pub fn get(&self, name: &HandlerName<E>) -> Option<Place>
+    pub fn get(&self, name: &HandlerName<E>) -> Option<HandlerPlace>
         ensures { result ≡ place_at E.eq self.now name.now }
     {
         self.places.get(name).copied()
     }
 
     /// The handlers in the order of their names.
-    pub fn iter(&self) -> Iter<'_, HandlerName<E>, Place>
+    pub fn iter(&self) -> Iter<'_, HandlerName<E>, HandlerPlace>
         ensures all { result ≡ self.now }
         ensures ascending { IsStrictlySortedBy (handler_cmp E.cmp) (handlers_of self.now) }
     {
@@ -52,7 +52,7 @@ impl<E: Plain> Places<E> {
     }
 
     /// Adds a handler.
-    pub fn insert(&mut self, name: HandlerName<E>, place: Place) -> Result<(), AllocError>
+    pub fn insert(&mut self, name: HandlerName<E>, place: HandlerPlace) -> Result<(), AllocError>
         ensures { MatchResult result (λ _. PlacesAt E.eq self.old name (Some place) self.new) (λ _. self.new ≡ self.old) }
     {
         self.places.insert(name, place)?;

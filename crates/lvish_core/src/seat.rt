@@ -5,7 +5,7 @@ ghost use Rattle.lvish_core.specs.Beside.{AddedAt, CanAdd};
 ghost use Rattle.lvish_core.specs.Places.{place_at, PlacesAt, SamePlaces};
 
 use crate::beside::add_at;
-use crate::place::Place;
+use crate::handler_place::HandlerPlace;
 use crate::places::Places;
 use lvish_handlers::Handlers;
 use lvish_lattice::Lattice;
@@ -20,7 +20,7 @@ pub(crate) fn seat<L: Lattice>(
     alloc: Global,
     variable: &Variable<L>,
     name: HandlerName<L::Event>,
-    place: Place,
+    place: HandlerPlace,
 ) -> Result<(), AllocError>
     requires fits { CanAdd name place handlers.old }
     requires new { place_at L.Event.eq places.old name ≡ None }

@@ -27,11 +27,23 @@ impl<L> Stage<L> {
             puts: 0,
         }
     }
+
+    /// A task that goes on with these numbers.
+    pub(crate) fn live(local: L, numbers: TaskCounts) -> Self
+        ensures { standing result ≡ Live local numbers.forks numbers.adds numbers.puts }
+    {
+        Stage::Live {
+            local,
+            forks: numbers.forks,
+            adds: numbers.adds,
+            puts: numbers.puts,
+        }
+    }
 }
 
 /// How many tasks a task forked, how many handlers it added, and how many puts it made.
 #[derive(Clone, Copy, Debug, PartialEq, Eq)]
-pub struct Numbers {
+pub struct TaskCounts {
     pub forks: u64,
     pub adds: u64,
     pub puts: u64,

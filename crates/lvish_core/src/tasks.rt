@@ -2,9 +2,10 @@ ghost use Rattle.std.specs.Prelude.{◌≡◌, [], MatchResult, IfOk, option_cop
 ghost use Rattle.std.specs.List.{IsDistinct};
 ghost use Rattle.std.specs.List.Sorted.{IsStrictlySortedBy};
 ghost use Rattle.lvish_names.specs.NameOrder.{name_cmp};
-ghost use Rattle.lvish_calculus.specs.Calculus.{Absent, same_name};
+ghost use Rattle.lvish_calculus.specs.Calculus.{Absent};
+ghost use Rattle.lvish_names.specs.Names.{same_name};
 ghost use Rattle.lvish_picture.specs.Picture.{task_of};
-ghost use Rattle.lvish_core.specs.Tasks.{Sets, SameTasks, standing, standing_at, standings, entries_at, names_of};
+ghost use Rattle.lvish_core.specs.Tasks.{Sets, SameTasks, standing, standing_at, standings, entries_at, task_names};
 
 use crate::stage::Stage;
 use lvish_lattice::Plain;
@@ -24,7 +25,8 @@ pub(crate) struct Tasks<E: Eq + Hash, L> {
 
 impl<E: Eq + Hash, L> Model for Tasks<E, L> {
     ghost use Rattle.std.specs.Prelude.{List};
-    ghost use Rattle.lvish_calculus.specs.Calculus.{Name, Task};
+    ghost use Rattle.lvish_calculus.specs.Calculus.{Task};
+    ghost use Rattle.lvish_names.specs.Names.{Name};
     ghost use Rattle.lvish_core.specs.Tasks.{standings};
 
     ghost Value = { List (Name E × Task L) };
@@ -33,9 +35,9 @@ impl<E: Eq + Hash, L> Model for Tasks<E, L> {
 }
 
 /// A task of a core: its name, and what runs under it.
-type Entry<'t, E, L> = (&'t TaskName<E>, &'t Stage<L>);
+type NamedStage<'t, E, L> = (&'t TaskName<E>, &'t Stage<L>);
 
-fn by_name<E: Plain, L>(one: &Entry<'_, E, L>, two: &Entry<'_, E, L>) -> Ordering
+fn by_name<E: Plain, L>(one: &NamedStage<'_, E, L>, two: &NamedStage<'_, E, L>) -> Ordering
     ensures { result ≡ name_cmp E.cmp one.now.0.now two.now.0.now }
 {
     one.0.cmp(two.0)
@@ -60,17 +62,17 @@ impl<E: Plain + Hash, L: Drop> Tasks<E, L> {
     /// The tasks, in any order.
     pub fn iter(&self) -> Iter<'_, TaskName<E>, Stage<L>>
         ensures all { standings result ≡ self.now }
-        ensures once { IsDistinct (same_name E.eq) (names_of self.now) }
+        ensures once { IsDistinct (same_name E.eq) (task_names self.now) }
     {
         self.stages.iter()
     }
 
     /// The tasks in the order of their names.
-    pub fn in_order(&self, alloc: Global) -> Result<Vec<Entry<'_, E, L>>, AllocError>
+    pub fn in_order(&self, alloc: Global) -> Result<Vec<NamedStage<'_, E, L>>, AllocError>
         ensures all { IfOk result (λ v. SameTasks E.eq self.now (standings (entries_at v.items))) }
-        ensures ascending { IfOk result (λ v. IsStrictlySortedBy (name_cmp E.cmp) (names_of (standings (entries_at v.items)))) }
+        ensures ascending { IfOk result (λ v. IsStrictlySortedBy (name_cmp E.cmp) (task_names (standings (entries_at v.items)))) }
     {
-        let mut tasks: Vec<Entry<'_, E, L>> = self.stages.iter().collect(alloc)?;
+        let mut tasks: Vec<NamedStage<'_, E, L>> = self.stages.iter().collect(alloc)?;
         tasks.sort_unstable_by(by_name);
         Ok(tasks)
     }

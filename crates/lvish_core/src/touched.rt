@@ -2,11 +2,11 @@ ghost use Rattle.std.specs.Prelude.{◌≡◌, option_map};
 ghost use Rattle.lvish_core.specs.declared.touched.Touched.TheVariants.{Ended};
 ghost use Rattle.lvish_core.specs.Changes.{touching};
 
-use crate::place::Place;
+use crate::handler_place::HandlerPlace;
 
 /// What the last step concerned, as far as something else may wait for it.
 ///
-/// A task that waits has to be asked again after no step but one that concerned its variable
+/// A blocked task has to be asked again only after a step that concerned its variable
 /// ([`waiting_tasks`](crate::laws::waiting_tasks)).
 #[derive(Clone, Copy, Debug, PartialEq, Eq)]
 pub enum Touched {
@@ -22,7 +22,7 @@ pub enum Touched {
 
 impl Touched {
     /// A task has ended in the pool, if it was in one.
-    pub(crate) fn ended_in(place: Option<Place>) -> Touched
+    pub(crate) fn ended_in(place: Option<HandlerPlace>) -> Touched
         ensures { result ≡ touching (λ v. Ended v) (option_map (λ p. p.variable) place) }
     {
         match place {

@@ -1,4 +1,4 @@
--- The programs of the tests. A task is at a numbered place of its procedure, with the number that it was last told.
+-- The programs of the tests. A task is at a numbered place of its procedure, with the last number that it got as an answer.
 use Rattle.std.proofs.Common.{◌≡◌, ℕ, zero, suc, ◌+◌, ℤ, pos, ◌<◌, Bool, true, false, ◌||◌, nat_eq, nat_lt, List, [], ◌∷◌, Option, Some, None, refl, sym, ◌∙◌, ap, subst, arith, IsSome, Contains}
 use Rattle.std.specs.Prelude.{if◌then◌else◌}
 use borrow.Author.Tests.{eqb-true}
@@ -7,7 +7,7 @@ use Rattle.lvish_lattice.specs.declared.max_counter.MaxCounter.{MaxCounter}
 use Rattle.lvish_lattice.specs.declared.max_counter.Levels.{Levels}
 use Rattle.lvish_lattice.specs.declared.max_counter.Levels.TheVariants.{In}
 use Rattle.lvish_lattice.specs.MaxCounter as counters
-use Rattle.lvish_lattice.specs.MaxCounterLaws.{counters_checked}
+use Rattle.lvish_lattice.specs.laws.MaxCounterLaws.{counters_checked}
 use Rattle.lvish_compound.specs.declared.any.Any.{Any}
 use Rattle.lvish_compound.specs.declared.any_read.AnyRead.{AnyRead}
 use Rattle.lvish_compound.specs.declared.event.Event.{Event}
@@ -16,7 +16,7 @@ use Rattle.lvish_compound.specs.States.{joined, set}
 use Rattle.lvish_calculus.specs.declared.request.Request.{Request}
 use Rattle.lvish_calculus.specs.declared.request.Request.TheVariants.{Put, Get, Fork, Add, Freeze, End}
 use Rattle.lvish_calculus.specs.declared.request.Reply.{Reply}
-use Rattle.lvish_calculus.specs.declared.request.Reply.TheVariants.{Done, Answer, Frozen}
+use Rattle.lvish_calculus.specs.declared.request.Reply.TheVariants.{Done, Answer, Content}
 use Rattle.lvish_calculus.specs.Program.{Functions, IsProgram}
 
 -- a place, and a number
@@ -30,11 +30,11 @@ nat_identical x y e = eqb-true x y e
 abbrev pub next_place : ℕ → ℕ
 next_place l = if nat_lt l 7 then l + 1 else l
 
--- the answer of a get, and else the number that it was told before
+-- the answer of a get, and else the number that it had before
 abbrev pub told : {S : Type 0} → ℤ → Reply S ℤ → ℤ
 told n Done = n
 told n (Answer a) = a
-told n (Frozen s) = n
+told n (Content s) = n
 
 -- where a task goes on
 abbrev pub gone_on : {S : Type 0} → At → Reply S ℤ → At
@@ -94,27 +94,27 @@ pub copies : (l : At) (n : ℤ) (d : Any) → l.0 ≡ 5 → n ≡ l.1 → d ≡ 
 copies l n d there same is = ap (λ s. Put 1 s) (is ∙ ap set same) ∙ ap (λ place. if nat_eq place 5 then Put 1 (set l.1) else main_asks place) (sym there)
 
 module _ {S E R A L : Type 0} (join : S → S → Option S) (member : R → S → A → Type 0) (f : Functions S E R A L) where
-  -- a request names what there is
-  abbrev NamesThere : Request S R L → Type 0
-  NamesThere (Put v d) = v < f.variables
-  NamesThere (Get v r) = (v < f.variables) × IsChecked join (member r)
-  NamesThere (Add k p) = (v : ℕ) × (f.pool_variable k ≡ Some v)
-  NamesThere (Freeze v ps) = (v < f.variables) × ((k : ℕ) → Contains ps k → f.pool_variable k ≡ Some v)
-  NamesThere r = Unit {0}
+  -- a request names what exists
+  abbrev ToyNamesThere : Request S R L → Type 0
+  ToyNamesThere (Put v d) = v < f.variables
+  ToyNamesThere (Get v r) = (v < f.variables) × IsChecked join (member r)
+  ToyNamesThere (Add k p) = (v : ℕ) × (f.pool_variable k ≡ Some v)
+  ToyNamesThere (Freeze v ps) = (v < f.variables) × ((k : ℕ) → Contains ps k → f.pool_variable k ≡ Some v)
+  ToyNamesThere r = Unit {0}
 
-  either : (b : Bool) (x y : Request S R L) → NamesThere x → NamesThere y → NamesThere (if b then x else y)
+  either : (b : Bool) (x y : Request S R L) → ToyNamesThere x → ToyNamesThere y → ToyNamesThere (if b then x else y)
   either true x y this other = this
   either false x y this other = other
 
   are_there : ((k v : ℕ) → f.pool_variable k ≡ Some v → v < f.variables) → ((j k : ℕ) → j < k → IsSome (f.pool_variable k) → IsSome (f.pool_variable j))
-      → ((l : L) → NamesThere (f.request l)) → ((l : L) → f.at l ≡ l) → IsProgram join member f
+      → ((l : L) → ToyNamesThere (f.request l)) → ((l : L) → f.at l ≡ l) → IsProgram join member f
   are_there known in_a_row there same = record {
     known = known;
     in_a_row = in_a_row;
-    puts = λ l v d e. subst NamesThere e (there l);
-    gets = λ l v r e. subst NamesThere e (there l);
-    adds = λ l k p e. subst NamesThere e (there l);
-    freezes = λ l v ps e. subst NamesThere e (there l);
+    puts = λ l v d e. subst ToyNamesThere e (there l);
+    gets = λ l v r e. subst ToyNamesThere e (there l);
+    adds = λ l k p e. subst ToyNamesThere e (there l);
+    freezes = λ l v ps e. subst ToyNamesThere e (there l);
     repeats = λ l. ap f.request (same l);
   }
 

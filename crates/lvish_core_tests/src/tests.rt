@@ -15,7 +15,7 @@ use lvish_names::{HandlerName, NameFault, TaskName};
 use std::alloc::Global;
 use std::test::Fail;
 
-/// Where a task is in its procedure, and the number that it was last told.
+/// Where a task is in its procedure, and the last number that it got as an answer.
 type At = (usize, i64);
 
 /// Where a task goes on: at the next place, up to 7, where it stays.
@@ -26,7 +26,7 @@ fn after<S: Drop>(at: At, reply: Reply<S, i64>) -> At
     match reply {
         Reply::Done => (place, at.1),
         Reply::Answer(answer) => (place, answer),
-        Reply::Frozen(_) => (place, at.1),
+        Reply::Content(_) => (place, at.1),
     }
 }
 
@@ -41,7 +41,7 @@ fn task<E: Plain>(alloc: Global, forks: &[u64]) -> Result<TaskName<E>, NameFault
 
 /// The label of that task.
 fn act<E: Plain>(alloc: Global, forks: &[u64]) -> Result<Label<E>, NameFault> {
-    Ok(Label::Task(task(alloc, forks)?))
+    Ok(Label::Act(task(alloc, forks)?))
 }
 
 /// Steps of these tasks, by their labels.

@@ -1,17 +1,16 @@
 -- The steps in which a deal is made.
-use Rattle.std.proofs.Common.{◌≡◌, ◌≢◌, ℕ, ◌+◌, ◌<◌, ◌≤◌, List, [], ◌∷◌, ◌++◌, length, map, set, get_or, take, refl, ap, ◌∙◌, sym, subst, arith}
+use Rattle.std.proofs.Common.{◌≡◌, ◌≢◌, ℕ, ◌+◌, ◌<◌, ◌≤◌, List, [], ◌∷◌, ◌++◌, length, map, set, get_or, take, refl, ap, ◌∙◌, sym, subst, arith, length-set}
 use Rattle.std.specs.Global.{Global, Vec}
 use Rattle.crossbeam_deque.specs.Handles.{worker_deque}
 use native.Mathlib.Decide.{ℕ_discrete}
 use mathlib.Core.Logic.{dite}
-use Rattle.std.proofs.Math.ListN.{length-set}
 use Rattle.std.proofs.Math.Seq.{map-set_same}
 use Rattle.std.proofs.lemmas.List.{get_or-set_same, get_or-set_other, get_or-map, get_or_append_left, length-map, length_push, map_push, take_more}
 use Rattle.lvish_deal.specs.declared.reach.Reach.{Reach}
 use Rattle.lvish_deal.specs.Reaches.{reach_deque, reach_parts, reach_got, HasParts}
 use Rattle.lvish_deal.specs.Deals.{IsNew, IsNewRow, AreNewRows, parts_after, Own, deques}
-use Rattle.lvish_deal.specs.Place.{Place, Deal, AreFreshFrom}
-use Rattle.lvish_deal.proofs.Lists.{get_or_last}
+use Rattle.lvish_deal.specs.Place.{SeatPlace, Deal, AreFreshFrom}
+use Rattle.lvish_deal.proofs.Lists.{get_or_last, peeled}
 
 module _ {T : Type 0} where
   -- the seat `number` has its passes for the first k deques
@@ -53,19 +52,14 @@ module _ {T : Type 0} where
         subst (IsNewRow deal (length new)) (get_or_last new row (length new) row refl) (these (length new) row (omega arith)),
       )
 
+  -- the same of the names of owners that are taken from the end
   pub peel : (f : Own T → (ℕ × ℕ) × Global) (new : List (Own T)) (x : Own T) (deal : Deal) → map f (new ++ x ∷ []) ≡ take (length (new ++ x ∷ [])) deal → (map f new ≡ take (length new) deal) × ((e : (ℕ × ℕ) × Global) → get_or deal (length new) e ≡ f x)
-  peel f [] x [] e = absurd (cc)
-  peel f [] x (y ∷ ys) e = (refl, λ _. cc)
-  peel f (z ∷ zs) x [] e = absurd (cc)
-  peel f (z ∷ zs) x (y ∷ ys) e =
-      let tails : map f (zs ++ x ∷ []) ≡ take (length (zs ++ x ∷ [])) ys = cc in
-      let heads : f z ≡ y = cc in
-      let rest = peel f zs x ys tails in ((λ i. heads i ∷ rest.0 i), rest.1)
+  peel f new x deal e = rw (← length-map new f) (peeled (map f new) (f x) deal (rw (← map_push f new x, length-map (new ++ x ∷ []) f) e))
 
-  pub seat_step : (deal : Deal) (k m n : ℕ) (row : Vec (Reach T)) (s : Place T) (ss : List (Place T)) → m ≡ k + 1 → n ≡ k → IsNewRow deal k row
+  pub seat_step : (deal : Deal) (k m n : ℕ) (row : Vec (Reach T)) (s : SeatPlace T) (ss : List (SeatPlace T)) → m ≡ k + 1 → n ≡ k → IsNewRow deal k row
       → s ≡ record { deal = map reach_deque row.items; number = n; pushed = []; popped = []; stolen = map reach_got row.items } → AreFreshFrom deal m ss → AreFreshFrom deal k (s ∷ ss)
   seat_step deal k m n row s ss next nth new is rest = (
-    (ap (λ (p : Place T). p.deal) is ∙ new.0, ap (λ (p : Place T). p.number) is ∙ nth, ap (λ (p : Place T). p.pushed) is, ap (λ (p : Place T). p.popped) is, ap (λ (p : Place T). p.stolen) is ∙ new.1),
+    (ap (λ (p : SeatPlace T). p.deal) is ∙ new.0, ap (λ (p : SeatPlace T). p.number) is ∙ nth, ap (λ (p : SeatPlace T). p.pushed) is, ap (λ (p : SeatPlace T). p.popped) is, ap (λ (p : SeatPlace T). p.stolen) is ∙ new.1),
     subst (λ (j : ℕ). AreFreshFrom deal j ss) (next ∙ (omega arith)) rest,
   )
 

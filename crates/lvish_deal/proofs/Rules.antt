@@ -1,6 +1,5 @@
 -- Each move keeps the rule.
-use Rattle.std.proofs.Common.{◌≡◌, ◌≢◌, ℕ, zero, suc, ◌+◌, ◌-◌, ◌<◌, ◌≤◌, List, [], ◌∷◌, ◌++◌, length, set, drop, sym, refl, ap, ◌∙◌, subst, ⊎_elim, append_assoc, append-nil, length-append, length-drop, arith}
-use Rattle.std.specs.List.{sum_by}
+use Rattle.std.proofs.Common.{◌≡◌, ◌≢◌, ℕ, zero, suc, ◌+◌, ◌-◌, ◌<◌, ◌≤◌, List, [], ◌∷◌, ◌++◌, length, set, drop, sym, refl, ap, ◌∙◌, subst, ⊎_elim, append_assoc, append-nil, length-append, length-drop, arith, sum_by}
 use mathlib.Core.Option.{some, some-ne-none, some-injective}
 use lib.ListN.{get_elem?}
 use Rattle.crossbeam_deque.specs.Tasks.{Pushes, Takes, Finds, Forks, Merges, Learns}
@@ -9,7 +8,7 @@ use Rattle.std.proofs.Math.Seq.{drop-append_seam}
 use Rattle.std.proofs.lemmas.List.Sums.{sum_by-cons, sum_by-append, sum_by_push}
 use Rattle.std.proofs.lemmas.List.Elements.{All-weaker, All-append, All-nil, All-cons}
 use Rattle.lvish_deal.specs.declared.log.Log.{Log}
-use Rattle.lvish_deal.specs.Order.{IsPicked}
+use Rattle.lvish_deal.specs.Order.{IsSubsequence}
 use Rattle.lvish_deal.specs.Rule.{log, parts, weight, Fits, Dealt, Told, TookAlone, rest_of}
 use Rattle.lvish_deal.proofs.Orders.{IsPicked-longer, IsPicked-append, IsPicked-short, IsPicked-whole}
 
@@ -20,11 +19,6 @@ module _ {T : Type 0} where
   sum_set f (u ∷ us) zero v w e = let same : f u ≡ f v = ap f (some-injective u v e) in omega (arith, sum_by-cons f u us, sum_by-cons f w us)
   sum_set f (u ∷ us) (suc port) v w e = let rest = sum_set f us port v w e in omega (arith, sum_by-cons f u us, sum_by-cons f u (set us port w))
 
-  sum_above : (f : Log T → ℕ) (views : List (Log T)) (port : ℕ) (v : Log T) → get_elem? views port ≡ some v → f v ≤ sum_by f views
-  sum_above f [] port v e = absurd (some-ne-none v (sym e))
-  sum_above f (u ∷ us) zero v e = let same : f u ≡ f v = ap f (some-injective u v e) in omega (arith, sum_by-cons f u us)
-  sum_above f (u ∷ us) (suc port) v e = let rest = sum_above f us port v e in omega (arith, sum_by-cons f u us)
-
   abbrev Each : (Log T → Type 0) → List (Log T) → Type 0
   Each F views = (port : ℕ) (v : Log T) → get_elem? views port ≡ some v → F v
 
@@ -34,25 +28,23 @@ module _ {T : Type 0} where
       let here : f u ≡ 0 = idle 0 u refl (omega (arith, sum_by-cons parts u us)) in
       let rest = sum_none f us (λ p v e. idle (suc p) v e) (omega (arith, sum_by-cons parts u us)) in omega (arith, sum_by-cons f u us)
 
-  -- where one pass has every part, it alone counts
-  sum_alone : (f : Log T → ℕ) (views : List (Log T)) (port : ℕ) (v : Log T) → get_elem? views port ≡ some v → Each (λ v. parts v ≡ 0 → f v ≡ 0) views → sum_by parts views ≡ parts v → sum_by f views ≡ f v
-  sum_alone f [] port v e idle all = absurd (some-ne-none v (sym e))
-  sum_alone f (u ∷ us) zero v e idle all =
-      let same : f u ≡ f v = ap f (some-injective u v e) in let alike : parts u ≡ parts v = ap parts (some-injective u v e) in
-      let rest = sum_none f us (λ p w i. idle (suc p) w i) (omega (arith, sum_by-cons parts u us)) in omega (arith, sum_by-cons f u us)
-  sum_alone f (u ∷ us) (suc port) v e idle all =
-      let above = sum_above parts us port v e in
-      let here : f u ≡ 0 = idle 0 u refl (omega (arith, sum_by-cons parts u us)) in
-      let rest = sum_alone f us port v e (λ p w i. idle (suc p) w i) (omega (arith, sum_by-cons parts u us)) in omega (arith, sum_by-cons f u us)
-
   each_set : (F : Log T → Type 0) (views : List (Log T)) (port : ℕ) (w : Log T) → F w → Each F views → Each F (set views port w)
   each_set F views port w mine others j u e = ⊎_elim (λ (x : (j ≡ port) × (w ≡ u)). subst F x.1 mine) (λ (x : (j ≢ port) × (get_elem? views j ≡ some u)). others j u x.1) (at_set views port j w u e)
+
+  -- where one pass has every part, it alone counts
+  sum_alone : (f : Log T → ℕ) (views : List (Log T)) (port : ℕ) (v : Log T) → f (log 0 [] [] []) ≡ 0 → get_elem? views port ≡ some v → Each (λ v. parts v ≡ 0 → f v ≡ 0) views → sum_by parts views ≡ parts v → sum_by f views ≡ f v
+  sum_alone f views port v none e idle all =
+      let z : Log T = log 0 [] [] [] in
+      let a = sum_set parts views port v z e in
+      let b = sum_set f views port v z e in
+      let rest = sum_none f (set views port z) (each_set (λ w. parts w ≡ 0 → f w ≡ 0) views port z (λ _. none) idle) (omega arith) in
+      omega arith
 
   each_snoc : (F : Log T → Type 0) (views : List (Log T)) (w : Log T) → F w → Each F views → Each F (views ++ w ∷ [])
   each_snoc F views w mine others j u e = ⊎_elim (λ (x : get_elem? views j ≡ some u). others j u x) (λ (x : w ≡ u). subst F x mine) (at_snoc views w u j e)
 
   fits_longer : (out xs : List T) (v : Log T) → Fits out v → Fits (out ++ xs) v
-  fits_longer out xs v f = (IsPicked-longer v.got out xs f.0, All-weaker (λ r. IsPicked r out) (λ r. IsPicked r (out ++ xs)) (λ r p. IsPicked-longer r out xs p) v.joined f.1, f.2)
+  fits_longer out xs v f = (IsPicked-longer v.got out xs f.0, All-weaker (λ r. IsSubsequence r out) (λ r. IsSubsequence r (out ++ xs)) (λ r p. IsPicked-longer r out xs p) v.joined f.1, f.2)
 
   pub begins : Dealt [] (log {T = T} 9 [] [] [] ∷ [])
   begins = let v : Log T = log 9 [] [] [] in record {
@@ -60,7 +52,7 @@ module _ {T : Type 0} where
     whole = refl;
     often = λ h. refl;
     pushed = λ u e. sym (ap (λ (y : Log T). y.sent) (some-injective v u e));
-    each = each_snoc (Fits []) [] v (tt, All-nil (λ r. IsPicked r []), λ none. (refl, refl)) (λ j u e. absurd (some-ne-none u (sym e)));
+    each = each_snoc (Fits []) [] v (tt, All-nil (λ r. IsSubsequence r []), λ none. (refl, refl)) (λ j u e. absurd (some-ne-none u (sym e)));
   }
 
   pub pushes : (port : ℕ) (v : Log T) (xs : List T) → port ≡ 0 → Pushes Dealt port v xs (λ w. w ≡ log v.parts (v.sent ++ xs) v.got v.joined)
@@ -112,7 +104,7 @@ module _ {T : Type 0} where
         whole = let s = sum_set parts views port v l at in let t = sum_by_push parts vs r in let p = h.whole in omega arith;
         often = λ f. let s = sum_set (weight f) views port v l at in let t = sum_by_push (weight f) vs r in let p = h.often f in omega arith;
         pushed = λ u e. first_of views port v at (λ z. z.sent ≡ h.out ++ items) l r (λ k. h.pushed v k) (λ z k. h.pushed z k) u e;
-        each = each_snoc (Fits h.out) vs r (tt, All-nil (λ q. IsPicked q h.out), λ none. (refl, refl))
+        each = each_snoc (Fits h.out) vs r (tt, All-nil (λ q. IsSubsequence q h.out), λ none. (refl, refl))
             (each_set (Fits h.out) views port l (mine.0, mine.1, λ none. mine.2 (idle none)) h.each);
       }
 
@@ -130,7 +122,7 @@ module _ {T : Type 0} where
       let was : get_elem? views other ≡ some w = ⊎_elim (λ x. absurd (two x.0)) (λ x. x.1) (at_set views port other both w at') in
       let mine = h.each port v at in
       let theirs = h.each other w was in
-      let Picked : List T → Type 0 = λ q. IsPicked q h.out in record {
+      let Picked : List T → Type 0 = λ q. IsSubsequence q h.out in record {
         out = h.out;
         whole = let s = sum_set parts views port v both at in let t = sum_set parts vs other w spent at' in let p = h.whole in omega arith;
         often = λ f. let s = sum_set (weight f) views port v both at in let t = sum_set (weight f) vs other w spent at' in let p = h.often f in
@@ -150,7 +142,7 @@ module _ {T : Type 0} where
   tells port v first all items views h at = (
     h.out,
     h.pushed v (subst (λ (k : ℕ). get_elem? views k ≡ some v) first at),
-    (λ f. sym (sum_alone (weight f) views port v at (λ p u e none. let i = (h.each p u e).2 none in rw (i.0, i.1) refl) (h.whole ∙ sym all)) ∙ h.often f),
+    (λ f. sym (sum_alone (weight f) views port v refl at (λ p u e none. let i = (h.each p u e).2 none in rw (i.0, i.1) refl) (h.whole ∙ sym all)) ∙ h.often f),
     h.each port v at,
   )
 
@@ -169,14 +161,14 @@ module _ {T : Type 0} where
       told.1 ∙ ap (λ l. l ++ items) (sym (IsPicked-whole v.got told.0 told.3.0 long))
 
   pub pops : (port : ℕ) (v : Log T) → port ≡ 0 → 0 < v.parts
-      → Takes Dealt port v 1 (λ xs w. (w ≡ log v.parts v.sent (v.got ++ xs) v.joined) × (length v.got + length xs ≤ length v.sent) × IsPicked w.got w.sent × ((rest : List T) × TookAlone w rest))
+      → Takes Dealt port v 1 (λ xs w. (w ≡ log v.parts v.sent (v.got ++ xs) v.joined) × (length v.got + length xs ≤ length v.sent) × IsSubsequence w.got w.sent × ((rest : List T) × TookAlone w rest))
   pops port v first some_part xs items views a b h at =
       let t = takes port v some_part xs items views a b h at in
       let sent = h.pushed v (subst (λ (k : ℕ). get_elem? views k ≡ some v) first at) in
-      let picked : IsPicked (v.got ++ xs) v.sent = subst (IsPicked (v.got ++ xs)) (append_assoc h.out xs items ∙ sym sent) (IsPicked-longer (v.got ++ xs) (h.out ++ xs) items (IsPicked-append v.got h.out xs (h.each port v at).0)) in
+      let picked : IsSubsequence (v.got ++ xs) v.sent = subst (IsSubsequence (v.got ++ xs)) (append_assoc h.out xs items ∙ sym sent) (IsPicked-longer (v.got ++ xs) (h.out ++ xs) items (IsPicked-append v.got h.out xs (h.each port v at).0)) in
       let short = IsPicked-short (v.got ++ xs) v.sent picked in
       let front : TookAlone (log v.parts v.sent (v.got ++ xs) v.joined) items = λ all none. alone v (xs ++ items) (tells port v first all (xs ++ items) views h at) none ∙ sym (append_assoc v.got xs items) in
-      (t.0, t.1, (t.2, omega (arith, length-append v.got xs), subst (λ (w : Log T). IsPicked w.got w.sent) (sym t.2) picked, (items, subst (λ (w : Log T). TookAlone w items) (sym t.2) front)))
+      (t.0, t.1, (t.2, omega (arith, length-append v.got xs), subst (λ (w : Log T). IsSubsequence w.got w.sent) (sym t.2) picked, (items, subst (λ (w : Log T). TookAlone w items) (sym t.2) front)))
 
   pub empties : (port : ℕ) (v : Log T) → port ≡ 0 → Finds Dealt port v (TookAlone v [])
   empties port v first views h at = λ all none. alone v [] (tells port v first all [] views h at) none

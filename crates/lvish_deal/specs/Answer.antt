@@ -1,14 +1,13 @@
 -- A fact for each answer of a steal.
 use Rattle.std.specs.Prelude.{⊤}
 use Rattle.lvish_deal.specs.declared.steal.Steal.{Steal}
-use Rattle.lvish_deal.specs.declared.steal.Steal.TheVariants.{Taken, Nothing, Again}
+use Rattle.lvish_deal.specs.declared.steal.Steal.TheVariants.{Taken}
 
 module _ {T : Type 0} where
   -- one fact where an item was taken, and one where none was
   abbrev pub MatchSteal : Steal T → (T → Type 0) → Type 0 → Type 0
   MatchSteal (Taken x) taken none = taken x
-  MatchSteal Nothing taken none = none
-  MatchSteal Again taken none = none
+  MatchSteal _ taken none = none
 
   -- the fact of the item that was taken
   abbrev pub IfTaken : Steal T → (T → Type 0) → Type 0

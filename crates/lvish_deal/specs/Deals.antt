@@ -14,7 +14,7 @@ use Rattle.lvish_deal.specs.Place.{Deal}
 abbrev pub Own : Type 0 → Type 0
 Own T = Worker T Global (Log T) InOrder
 
--- the parts of the owner of the deque k once so many seats have their passes: each took one, but for its own deque
+-- the parts of the owner of the deque k once that many seats have their passes: each took one, except of its own deque
 abbrev pub parts_after : ℕ → ℕ → ℕ
 parts_after seats k = 9 - seats + min 1 (seats - k)
 
@@ -31,11 +31,11 @@ module _ {T : Type 0} where
   abbrev pub deques : List (Own T) → Deal
   deques ws = map worker_deque ws
 
-  -- the owners, once so many seats have their passes
+  -- the owners, once that many seats have their passes
   abbrev pub AreCut : ℕ → List (Own T) → Type 0
   AreCut seats ws = (k : ℕ) (w : Own T) → k < length ws → IsNew (parts_after seats k) (slice_index_or ws k w)
 
-  -- what the seat `number` takes with, before it took any
+  -- what the seat `number` uses to take from each deque, before it took any item
   abbrev pub IsNewRow : Deal → ℕ → Vec (Reach T) → Type 0
   IsNewRow deal number row = (map reach_deque row.items ≡ deal) × (map reach_got row.items ≡ map (λ _. []) deal) × HasParts number row.items
 

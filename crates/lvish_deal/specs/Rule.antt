@@ -1,10 +1,9 @@
 -- The rule of one deque.
-use Rattle.std.specs.Prelude.{◌≡◌, ℕ, ◌+◌, List, [], ◌++◌, All, drop}
-use Rattle.std.specs.List.{sum_by}
+use Rattle.std.specs.Prelude.{◌≡◌, ℕ, ◌+◌, List, [], ◌++◌, All, drop, sum_by}
 use mathlib.Core.Option.{some}
 use lib.ListN.{get_elem?}
 use Rattle.lvish_deal.specs.declared.log.Log.{Log}
-use Rattle.lvish_deal.specs.Order.{IsPicked}
+use Rattle.lvish_deal.specs.Order.{IsSubsequence}
 
 -- the log with these parts, what was sent, got, and got by those that joined
 abbrev pub log : {T : Type 0} → ℕ → List T → List T → List (List T) → Log T
@@ -25,7 +24,7 @@ module _ {T : Type 0} where
 
   -- the pass knows of the items that left: those that it took left in that order, and with no part it took none
   abbrev pub Fits : List T → Log T → Type 0
-  Fits out v = IsPicked v.got out × All (λ r. IsPicked r out) v.joined × (v.parts ≡ 0 → (v.got ≡ []) × (v.joined ≡ []))
+  Fits out v = IsSubsequence v.got out × All (λ r. IsSubsequence r out) v.joined × (v.parts ≡ 0 → (v.got ≡ []) × (v.joined ≡ []))
 
   -- `out` are the items that left. The pass 0 has pushed all.
   pub record Dealt (items : List T) (views : List (Log T)) : Type 0 where
@@ -35,11 +34,11 @@ module _ {T : Type 0} where
     pub pushed : (v : Log T) → get_elem? views 0 ≡ some v → v.sent ≡ out ++ items
     pub each : (port : ℕ) (v : Log T) → get_elem? views port ≡ some v → Fits out v
 
-  -- what the one learns that has every part
+  -- what a pass with every part learns
   abbrev pub Told : Log T → List T → Type 0
   Told v items = (out : List T) × (v.sent ≡ out ++ items) × ((h : T → ℕ) → weight h v ≡ sum_by h out) × Fits out v
 
-  -- what the one knows that has every part and that no other joined: it took what left, and these items are there
+  -- what a pass with every part knows where no other joined it: it took what left, and these items are there
   abbrev pub TookAlone : Log T → List T → Type 0
   TookAlone v items = v.parts ≡ 9 → v.joined ≡ [] → v.sent ≡ v.got ++ items
 

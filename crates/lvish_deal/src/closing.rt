@@ -2,13 +2,13 @@
 ghost use Rattle.std.specs.Prelude.{◌≡◌, ℕ, [], ◌∷◌, ◌+◌, ◌-◌, ◌<◌, ◌≤◌, length, map, All, IfOk, IfErr, vec_len, vec_capacity, slice_index_or};
 ghost use Rattle.crossbeam_deque.specs.Handles.{worker_deque, worker_view, worker_port, worker_flavor};
 ghost use Rattle.lvish_deal.specs.Rule.{Told, rest_of};
-ghost use Rattle.lvish_deal.specs.Closes.{IsWhole, IsOpen, IsJoined, HasRoom, AreRooms, AreParts, column};
+ghost use Rattle.lvish_deal.specs.Closes.{IsWhole, IsOpen, IsJoined, HasRoomForRest, AreRooms, AreParts, column};
 ghost use Rattle.lvish_deal.specs.Place.{IsWholeDeal, AreSettled};
 ghost use Rattle.lvish_deal.specs.Reaches.{reach_deque, reach_view};
 ghost use Rattle.lvish_deal.specs.Deals.{deques};
 
 use crate::reach::{Own, Reach};
-use crate::rule::{Cut, Left, Whole};
+use crate::rule::{Cut, OwnerPop, WholeLesson};
 use crate::seat::Seat;
 use std::alloc::{AllocError, Global};
 
@@ -52,8 +52,8 @@ fn drain<T>(own: &mut Own<T>, left: &mut Vec<T>)
     requires room { (left.old.items ≡ []) × (length (rest_of (worker_view own.old)) ≤ vec_capacity left.old) }
     ensures { Told (worker_view own.old) left.new.items }
 {
-    let _ = own.len_as::<Whole>();
-    while let Some(item) = own.pop_as::<Left>() {
+    let _ = own.len_as::<WholeLesson>();
+    while let Some(item) = own.pop_as::<OwnerPop>() {
         left.push_reserved(item);
     }
 }
@@ -61,7 +61,7 @@ fn drain<T>(own: &mut Own<T>, left: &mut Vec<T>)
 // Takes all that is left of each deque.
 fn drain_all<T>(owners: &mut Vec<Own<T>>, left: &mut Vec<Vec<T>>)
     requires whole { All IsWhole owners.old.items }
-    requires room { HasRoom owners.old.items left.old.items }
+    requires room { HasRoomForRest owners.old.items left.old.items }
     ensures { (length left.new.items ≡ length left.old.items) × ((k : ℕ) (d e : _) → k < length owners.old.items → Told (worker_view (slice_index_or owners.old.items k d)) (slice_index_or left.new.items k e).items) }
 {
     for k in 0..owners.len() {

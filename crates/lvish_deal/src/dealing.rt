@@ -10,7 +10,7 @@ use crate::rule::{Cut, Idle};
 use crate::seat::Seat;
 use std::alloc::{AllocError, Global};
 
-// The slots that a deque begins with: so many pushes need no memory.
+// The slots that a deque begins with: that many pushes need no memory.
 const FIRST_SLOTS: usize = 16;
 
 // A deque for each seat.
@@ -24,7 +24,8 @@ pub fn owners<T: Drop>(alloc: Global, n: usize) -> Result<Vec<Own<T>>, AllocErro
     Ok(all)
 }
 
-// What the seat `number` takes from the deque k with. The owner gives up a part, but not to its own seat.
+// What the seat `number` uses to take from the deque k. The owner gives up a part, but not to its
+// own seat.
 fn reach<T: Drop>(own: &mut Own<T>, number: usize, k: usize) -> Result<Reach<T>, AllocError>
     requires { IsNew (parts_after number k) own.old × (number < 8) }
     ensures new { IfOk result (λ _. IsNew (parts_after (number + 1) k) own.new × (worker_deque own.new ≡ worker_deque own.old)) }
@@ -40,7 +41,7 @@ fn reach<T: Drop>(own: &mut Own<T>, number: usize, k: usize) -> Result<Reach<T>,
     Ok(Reach { stealer, pass })
 }
 
-// What the seat `number` takes from each deque with.
+// What the seat `number` uses to take from each deque.
 fn row<T: Drop>(
     alloc: Global,
     owners: &mut Vec<Own<T>>,
@@ -56,7 +57,7 @@ fn row<T: Drop>(
     Ok(row)
 }
 
-// What each seat takes with.
+// What each seat uses to take from each deque.
 fn rows<T: Drop>(alloc: Global, owners: &mut Vec<Own<T>>) -> Result<Vec<Vec<Reach<T>>>, AllocError>
     requires { All (IsNew 9) owners.old.items × (length owners.old.items ≤ 8) }
     ensures { IfOk result (λ rows. All (IsNew (10 - length owners.old.items)) owners.new.items × (deques owners.new.items ≡ deques owners.old.items) × (length rows.items ≡ length owners.old.items) × AreNewRows (deques owners.old.items) rows.items) }

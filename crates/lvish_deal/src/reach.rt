@@ -14,7 +14,8 @@ pub type Own<T> = Worker<T, Global, Log<T>, InOrder>;
 // The thieves' end of a deque.
 pub type Thief<T> = Stealer<T, Global, Log<T>, InOrder>;
 
-// What a seat takes from one of the deques with: a handle of the deque, and a pass that knows what this seat took there.
+// What a seat uses to take from one of the deques: a handle of the deque, and a pass that knows
+// what this seat took there.
 #[derive(Drop)]
 pub struct Reach<T> {
     pub stealer: Thief<T>,

@@ -31,10 +31,10 @@ pub struct Popped;
 
 impl<T> Outcome<T, Log<T>> for Popped {
     ghost use Rattle.std.specs.Prelude.{◌≡◌, List, [], ◌++◌, ◌+◌, ◌≤◌, length};
-    ghost use Rattle.lvish_deal.specs.Order.{IsPicked};
+    ghost use Rattle.lvish_deal.specs.Order.{IsSubsequence};
     ghost use Rattle.lvish_deal.specs.Rule.{log, TookAlone};
 
-    ghost then = { λ v xs w. (w ≡ log v.parts v.sent (v.got ++ xs) v.joined) × (length v.got + length xs ≤ length v.sent) × IsPicked w.got w.sent × ((rest : List T) × TookAlone w rest) };
+    ghost then = { λ v xs w. (w ≡ log v.parts v.sent (v.got ++ xs) v.joined) × (length v.got + length xs ≤ length v.sent) × IsSubsequence w.got w.sent × ((rest : List T) × TookAlone w rest) };
 
     ghost empty = { λ v. TookAlone v [] };
 }
@@ -83,18 +83,18 @@ impl<T> Split<Log<T>> for Idle {
 }
 
 // What the owner learns once it has every part: which items left, and which are still there.
-pub struct Whole;
+pub struct WholeLesson;
 
-impl<T> Lesson<T, Log<T>> for Whole {
+impl<T> Lesson<T, Log<T>> for WholeLesson {
     ghost use Rattle.lvish_deal.specs.Rule.{Told};
 
     ghost fact = { Told };
 }
 
 // A pop of the owner that has every part.
-pub struct Left;
+pub struct OwnerPop;
 
-impl<T> Outcome<T, Log<T>> for Left {
+impl<T> Outcome<T, Log<T>> for OwnerPop {
     ghost use Rattle.std.specs.Prelude.{◌≡◌, [], ◌++◌};
     ghost use Rattle.lvish_deal.specs.Rule.{log, rest_of};
 

@@ -2,9 +2,9 @@
 ghost use Rattle.std.specs.Prelude.{◌≡◌, ◌≢◌, [], ◌∷◌, ◌++◌, length, map, ◌+◌, ◌-◌, ◌<◌, ◌≤◌, OnOk, OnErr, IfErr, IfSome, IfNone, slice_set, slice_index_or};
 ghost use Rattle.crossbeam_deque.specs.Handles.{worker_deque, worker_view, worker_port, worker_flavor};
 ghost use Rattle.lvish_deal.specs.Reaches.{reach_deque, reach_got, HasParts};
-ghost use Rattle.lvish_deal.specs.Order.{IsPicked, IsFront};
+ghost use Rattle.lvish_deal.specs.Order.{IsSubsequence, IsFront};
 ghost use Rattle.lvish_deal.specs.Deals.{IsNew};
-ghost use Rattle.lvish_deal.specs.Closes.{IsPart};
+ghost use Rattle.lvish_deal.specs.Closes.{IsPartOfSeat};
 ghost use Rattle.lvish_deal.specs.Place.{taken_from, IsSameSeat, IsAlone};
 ghost use Rattle.lvish_deal.specs.Answer.{IfTaken, IfNotTaken};
 
@@ -15,7 +15,7 @@ use std::marker::Model;
 
 /// One of the seats of a deal. It pushes to its own deque and pops there, and steals from the deques of the others.
 ///
-/// Contracts see it as a `Place`: the deal, the seat's number, and what it pushed, popped and stole, in the order of its
+/// Contracts see it as a `SeatPlace`: the deal, the seat's number, and what it pushed, popped and stole, in the order of its
 /// calls. It may go to another thread where its items may.
 #[derive(Drop)]
 pub struct Seat<T> {
@@ -26,13 +26,13 @@ pub struct Seat<T> {
 }
 
 impl<T> Model for Seat<T> {
-    ghost use Rattle.lvish_deal.specs.Place.{Place};
+    ghost use Rattle.lvish_deal.specs.Place.{SeatPlace};
 
-    ghost Value = { Place T };
+    ghost Value = { SeatPlace T };
 
-    ghost use Rattle.lvish_deal.specs.Seats.{place_of, IsSeated};
+    ghost use Rattle.lvish_deal.specs.Seats.{seat_place, IsSeated};
 
-    ghost view = { place_of };
+    ghost view = { seat_place };
 
     ghost invariant = { IsSeated };
 }
@@ -63,7 +63,7 @@ impl<T> Seat<T> {
     }
 
     pub(crate) fn part(self) -> (Own<T>, Vec<Reach<T>>)
-        ensures { IsPart self result.0 result.1 }
+        ensures { IsPartOfSeat self result.0 result.1 }
     {
         let Seat {
             number: _,
@@ -111,7 +111,7 @@ impl<T> Seat<T> {
     pub fn pop(&mut self) -> Option<T>
         ensures some { IfSome result (λ x. self.new ≡ record self.old { popped = self.old.popped ++ x ∷ [] }) }
         ensures none { IfNone result (self.new ≡ self.old) }
-        ensures picked { IfSome result (λ _. IsPicked self.new.popped self.new.pushed) }
+        ensures picked { IfSome result (λ _. IsSubsequence self.new.popped self.new.pushed) }
         ensures front { IfSome result (λ _. IsAlone self.old → IsFront self.new.popped self.new.pushed) }
         ensures all { IfNone result (IsAlone self.old → self.old.popped ≡ self.old.pushed) }
         ensures same { IsSameSeat self.old self.new }

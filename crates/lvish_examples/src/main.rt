@@ -1,7 +1,7 @@
 //! Runs each example and compares its report with the expected one, which lies beside it.
 #![tactic(auto)]
 
-use lvish_cli::{order_of, perform};
+use lvish_cli::{Source, order_of, perform};
 use std::process::ExitCode;
 use std::rt::Files;
 use std::sync::Wait;
@@ -88,7 +88,10 @@ fn is_as_expected<R: AllocGlobal + Files + Threads + Wait + Sync>(
     example: &Example,
 ) -> io::Result<bool> {
     let expected = fs::read_to_string(rt, example.expected)?;
-    let Ok((order, path)) = order_of(rt.alloc(), example.words) else {
+    let Ok((order, source)) = order_of(rt.alloc(), example.words) else {
+        return Ok(false);
+    };
+    let Source::File(path) = source else {
         return Ok(false);
     };
     let mut file = fs::open(rt, path.as_str())?;

@@ -1,33 +1,60 @@
--- What adding a handler and handing it an entry leave.
-use Rattle.std.proofs.Common.{◌≡◌, ℕ, zero, suc, ◌+◌, ◌*◌, ◌<◌, ◌≤◌, Bool, true, List, [], ◌∷◌, ◌++◌, length, get_or, set, take, drop, Some, None, All, refl, sym, ◌∙◌, ap, subst, arith, slice_get, option_and_then}
+-- What adding a handler and handing it an entry leave, and how many entries were handed in all.
+use Rattle.std.proofs.Common.{◌≡◌, ◌↔◌, ℕ, zero, suc, ◌+◌, ◌*◌, ◌≤◌, List, [], ◌∷◌, ◌++◌, length, take, drop, All, IsTrue, nat_eq, eq-eqb, sym, ◌∙◌, arith, ◌<◌, Bool, true, get_or, set, Some, None, refl, ap, subst, slice_get, option_and_then, option_map}
+use Rattle.std.proofs.lemmas.Bool.{eqb-true}
+use Rattle.std.proofs.lemmas.List.Sums.{sum_by-cons, sum_by-set}
+use Rattle.std.proofs.lemmas.List.Elements.{All-tail, All-head, All-cons, All-set, All-append, All-take, All-drop}
+use Rattle.std.proofs.Math.Seq.{map-set_same, split_at}
+use Rattle.std.proofs.lemmas.List.{length-map, length-set}
+use Rattle.std.proofs.lemmas.Nat.{mul-lt}
+use Rattle.std.proofs.lemmas.Option.{get_or_from_slice_get, slice_get-get_or, slice_get-map, slice_get_past, slice_get_within}
+use Rattle.std.specs.List.{sum_by}
 use Rattle.std.specs.declared.cmp.Ordering.{Ordering}
 use Rattle.std.specs.Ordering.{eq_by_cmp}
 use Rattle.std.specs.Cmp.{IsTotalOrder}
 use Rattle.std.specs.List.Sorted.{IsStrictlySortedBy}
-use Rattle.std.proofs.Math.Seq.{map-set_same}
-use Rattle.std.proofs.lemmas.List.{length-set}
-use Rattle.std.proofs.lemmas.List.Sums.{sum_by-set}
-use Rattle.std.proofs.lemmas.List.Elements.{All-set, All-append, All-cons, All-take, All-drop}
-use Rattle.std.proofs.lemmas.Nat.{mul-lt}
-use Rattle.std.proofs.lemmas.Option.{get_or_from_slice_get, slice_get-get_or}
 use Rattle.lvish_lattice.specs.Lattice.{IsIdentity}
 use Rattle.lvish_names.specs.Names.{Handler}
 use Rattle.lvish_names.specs.NameOrder.{handler_cmp}
-use Rattle.lvish_names.specs.OrderLaws.{handler_total}
+use Rattle.lvish_names.specs.laws.OrderLaws.{handler_total}
 use Rattle.lvish_variable.specs.declared.entry.Entry.{Entry}
 use Rattle.lvish_variable.specs.Variable.{logged}
 use Rattle.lvish_handlers.specs.declared.held.Held.{Held}
-use Rattle.lvish_handlers.specs.Handlers.{View, IsByName, IsAdvanced, names, next_of, one_more}
+use Rattle.lvish_handlers.specs.Handlers.{HandlersView, IsByName, IsAdvanced, names, next_of, one_more}
 use Rattle.lvish_handlers.specs.Places.{IsAt, IsGap}
 use Rattle.lvish_handlers.specs.Counted.{IsCounted}
-use Rattle.lvish_handlers.proofs.Rising.{rising_insert}
-use Rattle.lvish_handlers.proofs.Places.{held_as-at, held_as-free, free}
-use Rattle.lvish_handlers.proofs.Sums.{sum_within, sum_insert_none}
+use Rattle.lvish_handlers.proofs.Places.{rising_insert, held_as-at, held_as-free, free}
 
-split_at : {X : Type 0} (xs : List X) (i : ℕ) (x : X) → slice_get xs i ≡ Some x → xs ≡ take i xs ++ x ∷ drop (suc i) xs
-split_at [] i x e = absurd cc
-split_at (y ∷ ys) zero x e = let q : y ≡ x = cc in ap (λ z. z ∷ ys) q
-split_at (y ∷ ys) (suc i) x e = ap (λ zs. y ∷ zs) (split_at ys i x e)
+module _ {X : Type 0} (f : X → ℕ) where
+  -- a sum of terms that are at most n
+  pub sum_within : (xs : List X) (n : ℕ) → All (λ x. f x ≤ n) xs → sum_by f xs ≤ length xs * n
+  sum_within [] n h = omega arith
+  sum_within (x ∷ xs) n h = omega (arith, sum_by-cons f x xs, sum_within xs n (All-tail (λ y. f y ≤ n) x xs h), All-head (λ y. f y ≤ n) x xs h)
+
+  -- is as large as it can be where each term is n, and nowhere else
+  pub full : (xs : List X) (n : ℕ) → All (λ x. f x ≡ n) xs → sum_by f xs ≡ length xs * n
+  full [] n h = omega arith
+  full (x ∷ xs) n h = omega (arith, sum_by-cons f x xs, full xs n (All-tail (λ y. f y ≡ n) x xs h), All-head (λ y. f y ≡ n) x xs h)
+
+  pub each_full : (xs : List X) (n : ℕ) → All (λ x. f x ≤ n) xs → sum_by f xs ≡ length xs * n → All (λ x. f x ≡ n) xs
+  each_full [] n h e k d lt = absurd (omega arith)
+  each_full (x ∷ xs) n h e k d lt =
+      let rest : sum_by f xs ≤ length xs * n = sum_within xs n (All-tail (λ y. f y ≤ n) x xs h) in
+      let first : f x ≤ n = All-head (λ y. f y ≤ n) x xs h in
+      let cons : sum_by f (x ∷ xs) ≡ f x + sum_by f xs = sum_by-cons f x xs in
+      All-cons (λ y. f y ≡ n) x xs (omega arith) (each_full xs n (All-tail (λ y. f y ≤ n) x xs h) (omega arith)) k d lt
+
+  -- a term of 0 put in anywhere
+  pub sum_insert_none : (xs : List X) (i : ℕ) (x : X) → f x ≡ 0 → sum_by f (take i xs ++ x ∷ drop i xs) ≡ sum_by f xs
+  sum_insert_none xs zero x e = omega (arith, sum_by-cons f x xs)
+  sum_insert_none [] (suc i) x e = omega (arith, sum_by-cons f x [])
+  sum_insert_none (y ∷ ys) (suc i) x e = omega (arith, sum_by-cons f y ys, sum_by-cons f y (take i ys ++ x ∷ drop i ys), sum_insert_none ys i x e)
+
+-- the test of the sum
+pub full_test : {X : Type 0} (f : X → ℕ) (xs : List X) (n total : ℕ) → All (λ x. f x ≤ n) xs → total ≡ sum_by f xs → IsTrue (nat_eq total (length xs * n)) ↔ All (λ x. f x ≡ n) xs
+full_test f xs n total h is = (λ t. each_full f xs n h (sym is ∙ eqb-true _ _ t), λ a. eq-eqb _ _ (is ∙ full f xs n a))
+
+cut_at : {X : Type 0} (xs : List X) (i : ℕ) (x : X) → slice_get xs i ≡ Some x → xs ≡ take i xs ++ x ∷ drop (suc i) xs
+cut_at xs i x e = split_at xs i x (slice_get_within xs i x e) ∙ ap (λ z. take i xs ++ z ∷ drop (suc i) xs) (get_or_from_slice_get xs i x x e)
 
 set_at : {X : Type 0} (xs : List X) (i : ℕ) (y : X) → i < length xs → set xs i y ≡ take i xs ++ y ∷ drop (suc i) xs
 set_at [] i y lt = absurd (omega arith)
@@ -35,14 +62,10 @@ set_at (x ∷ xs) zero y lt = refl
 set_at (x ∷ xs) (suc i) y lt = ap (λ zs. x ∷ zs) (set_at xs i y (omega arith))
 
 get_logged : {E : Type 0} (log : List (Entry E)) (i : ℕ) (e : Entry E) → slice_get log i ≡ Some e → slice_get (logged log) i ≡ Some e.event
-get_logged [] i e q = absurd cc
-get_logged (x ∷ xs) zero e q = let p : x ≡ e = cc in ap (λ (y : Entry _). Some y.event) p
-get_logged (x ∷ xs) (suc i) e q = get_logged xs i e q
+get_logged {E} log i e q = slice_get-map (λ (y : Entry E). y.event) log i ∙ ap (λ o. option_map (λ (y : Entry E). y.event) o) q
 
 past_logged : {E : Type 0} (log : List (Entry E)) (i : ℕ) → length log ≤ i → slice_get (logged log) i ≡ None
-past_logged [] i le = refl
-past_logged (x ∷ xs) zero le = absurd (omega arith)
-past_logged (x ∷ xs) (suc i) le = past_logged xs i (omega arith)
+past_logged log i le = slice_get_past (logged log) i (subst (λ n. n ≤ i) (sym (length-map log (λ e. e.event))) le)
 
 inside_logged : {E : Type 0} (log : List (Entry E)) (i : ℕ) → i < length log → slice_get (logged log) i ≡ None → ⊥
 inside_logged [] i lt q = absurd (omega arith)
@@ -85,12 +108,12 @@ module _ {E : Type 0} {eq : E → E → Bool} (cmp : E → E → Ordering) (same
     next_there lt q = inside_logged log w.handler.handed lt (sym next_at ∙ q)
 
     module _ (running : List ℕ) (v : Held E) (is_v : v ≡ one_more w.handler) where
-      pub advanced : w.handler.handed < length log → (old : View E) → record { held = held; running = running } ≡ old → IsAdvanced eq log name old (record { held = set held at v; running = running })
-      advanced lt old is_old = subst (λ (o : View E). IsAdvanced eq log name o (record { held = set held at v; running = running })) is_old (record {
+      pub advanced : w.handler.handed < length log → (old : HandlersView E) → record { held = held; running = running } ≡ old → IsAdvanced eq log name old (record { held = set held at v; running = running })
+      advanced lt old is_old = subst (λ (o : HandlersView E). IsAdvanced eq log name o (record { held = set held at v; running = running })) is_old (record {
         before = take at held;
         handler = w.handler;
         after = drop (suc at) held;
-        was = split_at held at w.handler w.is;
+        was = cut_at held at w.handler w.is;
         named = w.named;
         found = held_as-at cmp same ties total own held name at s w;
         entry = lt;

@@ -1,5 +1,2 @@
-pub mod Rising
 pub mod Places
-pub mod Sums
 pub mod Changes
-pub mod AsMap

@@ -9,7 +9,7 @@ use Rattle.lvish_variable.specs.Variable.{logged}
 use Rattle.lvish_handlers.specs.declared.held.Held.{Held}
 
 -- the handlers by name, and for each pool how many tasks run in it
-pub record View (E : Type 0) : Type 0 where
+pub record HandlersView (E : Type 0) : Type 0 where
   pub held : List (Held E)
   pub running : List ℕ
 
@@ -30,7 +30,7 @@ abbrev pub held_as : {E : Type 0} → (E → E → Bool) → List (Held E) → H
 held_as eq held name = find (λ h. same_handler eq name h.name) held
 
 -- no handler was handed more entries than there are
-abbrev pub IsWithin : {E : Type 0} → View E → List (Entry E) → Type 0
+abbrev pub IsWithin : {E : Type 0} → HandlersView E → List (Entry E) → Type 0
 IsWithin hs log = All (λ h. h.handed ≤ length log) hs.held
 
 -- the event of the entry after those that the handler was handed
@@ -38,19 +38,19 @@ abbrev pub next_of : {E : Type 0} → (E → E → Bool) → List (Entry E) → 
 next_of eq log held name = option_and_then (λ h. slice_get (logged log) h.handed) (held_as eq held name)
 
 -- the handler stands among the others, and nothing else is changed
-pub record IsAdded {E : Type 0} (handler : Held E) (old new : View E) : Type 0 where
+pub record IsAdded {E : Type 0} (handler : Held E) (old new : HandlersView E) : Type 0 where
   pub before : List (Held E)
   pub after : List (Held E)
   pub was : old.held ≡ before ++ after
   pub is : new.held ≡ before ++ handler ∷ after
   pub pools : new.running ≡ old.running
 
--- the handler was handed one entry more
+-- the handler was handed one more entry
 abbrev pub one_more : {E : Type 0} → Held E → Held E
 one_more h = record { name = h.name; pool = h.pool; procedure = h.procedure; handed = h.handed + 1 }
 
--- the handler of this name was handed one entry more, which the log has, and nothing else is changed
-pub record IsAdvanced {E : Type 0} (eq : E → E → Bool) (log : List (Entry E)) (name : Handler E) (old new : View E) : Type 0 where
+-- the handler of this name was handed one more entry, which the log has, and nothing else is changed
+pub record IsAdvanced {E : Type 0} (eq : E → E → Bool) (log : List (Entry E)) (name : Handler E) (old new : HandlersView E) : Type 0 where
   pub before : List (Held E)
   pub handler : Held E
   pub after : List (Held E)

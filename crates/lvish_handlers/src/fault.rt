@@ -26,4 +26,4 @@ impl<T: Drop> From<AllocFailed<T>> for AddFault {
 /// There is nothing to hand: the handler was handed the whole log, or none has the name.
 #[derive(Clone, Copy, Debug, PartialEq, Eq, Error)]
 #[error("nothing to hand")]
-pub struct Nothing;
+pub struct NothingToHand;

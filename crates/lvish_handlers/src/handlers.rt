@@ -1,7 +1,7 @@
 ghost use Rattle.std.specs.Prelude.{◌≡◌, ◌↔◌, ◌<◌, ◌+◌, ◌-◌, [], None, All, IfOk, IsErr, IsErrOf, IsTrue, OnOk, OnErr, length, slice_index, slice_set, replicate};
 ghost use Rattle.lvish_handlers.specs.Handlers.{IsHeld, IsByName, IsWithin, IsAdded, IsAdvanced, next_of};
 
-use crate::fault::{AddFault, Nothing};
+use crate::fault::{AddFault, NothingToHand};
 use crate::held::{Held, place_of};
 use lvish_lattice::Lattice;
 use lvish_names::HandlerName;
@@ -19,10 +19,10 @@ pub struct Handlers<L: Lattice> {
 }
 
 impl<L: Lattice> Model for Handlers<L> {
-    ghost use Rattle.lvish_handlers.specs.Handlers.{View};
+    ghost use Rattle.lvish_handlers.specs.Handlers.{HandlersView};
     ghost use Rattle.lvish_handlers.specs.Counted.{IsCounted};
 
-    ghost Value = { View L.Event };
+    ghost Value = { HandlersView L.Event };
 
     ghost view = { λ h. record { held = h.held.items; running = h.running.items } };
 
@@ -119,12 +119,12 @@ impl<L: Lattice> Handlers<L> {
     ///
     /// # Errors
     ///
-    /// `Nothing` where no event comes next.
+    /// `NothingToHand` where no event comes next.
     pub fn advance(
         &mut self,
         variable: &Variable<L>,
         name: &HandlerName<L::Event>,
-    ) -> Result<(), Nothing>
+    ) -> Result<(), NothingToHand>
         requires { IsWithin self.old variable.now.log }
         ensures ok { OnOk result (IsAdvanced L.Event.eq variable.now.log name.now self.old self.new) }
         ensures within { IsWithin self.new variable.now.log }
@@ -133,11 +133,11 @@ impl<L: Lattice> Handlers<L> {
     {
         let at = match place_of(&self.held, name) {
             Ok(at) => at,
-            Err(_) => return Err(Nothing),
+            Err(_) => return Err(NothingToHand),
         };
         let handed = self.held[at].handed;
         if handed >= variable.log().len() {
-            return Err(Nothing);
+            return Err(NothingToHand);
         }
         self.held[at].handed = handed + 1;
         self.total += 1;
@@ -174,7 +174,7 @@ impl<L: Lattice> Handlers<L> {
         self.running[pool] += 1;
     }
 
-    /// One task less runs in the pool.
+    /// One task fewer runs in the pool.
     pub fn task_ended(&mut self, pool: usize)
         requires pool_is_there { pool < length self.old.running }
         requires some { 0 < slice_index self.old.running pool }

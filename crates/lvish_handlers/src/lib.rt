@@ -23,6 +23,6 @@ mod fault;
 mod handlers;
 mod held;
 
-pub use fault::{AddFault, Nothing};
+pub use fault::{AddFault, NothingToHand};
 pub use handlers::Handlers;
 pub use held::Held;

@@ -301,7 +301,7 @@ module _ {K : Type 0} {R : K → K → Ordering} (o : IsTotalOrder R) where
   sorted_from_rising [] s = λ k d l h. absurd (omega arith)
   sorted_from_rising (x ∷ xs) s = sorted_later x xs s.0 (sorted_from_rising xs s.1)
 
-  -- what stands before and after the place of an element that the list hasn't
+  -- what stands before and after the place of an element that the list does not have
   pub parted : (xs : List K) (x : K) (i : ℕ) → IsStrictlySortedBy R xs → IsBinarySearchResult (λ y. R y x) xs (Err i) → IsPartitionPoint (λ y. R y x ≡ Less) (λ y. R y x ≡ Greater) xs i
   parted xs x i s found = found (searchable_from_sorted o (λ y. y) xs x (sorted_from_rising xs s))
 
@@ -324,7 +324,7 @@ module _ {K : Type 0} {R : K → K → Ordering} (o : IsTotalOrder R) where
     is_there : (x : K) (xs : List K) (i : ℕ) → i < length xs → HoldsAt (λ y. R y x ≡ Equal) xs i → is_member (eq_by_cmp R) xs x ≡ true
     is_there x xs i l h = list_any-from_Contains (eq_by_cmp_equiv o) x xs (i, l, same _ x (h x))
 
-    -- an element that is there is put in to no effect
+    -- putting in an element that is there changes nothing
     pub merge_found : (x : K) (xs : List K) (i : ℕ) → IsStrictlySortedBy R xs → i < length xs → HoldsAt (λ y. R y x ≡ Equal) xs i → sorted_merge R true (x ∷ []) xs ≡ xs
     unfolding IsStrictlySortedBy
     merge_found x xs i s l h = merge_within o same (x ∷ []) xs (tt, tt) s (All-cons (λ y. is_member (eq_by_cmp R) xs y ≡ true) x [] (is_there x xs i l h) (All-nil (λ y. is_member (eq_by_cmp R) xs y ≡ true)))
@@ -366,33 +366,6 @@ module _ {K : Type 0} {R : K → K → Ordering} (o : IsTotalOrder R) where
     pub merge_last : (x : K) (us ys : List K) → IsStrictlySortedBy R (us ++ x ∷ []) → IsStrictlySortedBy R ys → sorted_merge R true (x ∷ []) (sorted_merge R true us ys) ≡ sorted_merge R true (us ++ x ∷ []) ys
     unfolding IsStrictlySortedBy
     merge_last x us ys s t = sym (merge_regroups o same (x ∷ []) us (tt, tt) (rises_front x us s) ys t) ∙ ap (λ l. sorted_merge R true l ys) (in_back x us s)
-
-    -- whether a list is within another, from the front on
-    pub within_equal : (x y : K) (us vs : List K) → R x y ≡ Equal → (sorted_merge R true (x ∷ us) (y ∷ vs) ≡ y ∷ vs) ↔ (sorted_merge R true us vs ≡ vs)
-    within_equal x y us vs h =
-        let e : x ≡ y = same x y h in
-        let merged : sorted_merge R true (x ∷ us) (y ∷ vs) ≡ x ∷ sorted_merge R true us vs = ap (λ r. match_ordering r (x ∷ sorted_merge R true us (y ∷ vs)) (x ∷ sorted_merge R true us vs) (y ∷ sorted_merge R true (x ∷ us) vs)) h in
-        ((λ p. rest_same x y _ _ (sym merged ∙ p)), λ p. merged ∙ ap (λ zs. x ∷ zs) p ∙ ap (λ z. z ∷ vs) e)
-      where
-        rest_same : (x y : K) (us vs : List K) → x ∷ us ≡ y ∷ vs → us ≡ vs
-        rest_same x y us vs p = cc
-
-  pub within_less : (x y : K) (us vs : List K) → R x y ≡ Less → sorted_merge R true (x ∷ us) (y ∷ vs) ≡ y ∷ vs → ⊥
-  within_less x y us vs h p =
-      let merged : sorted_merge R true (x ∷ us) (y ∷ vs) ≡ x ∷ sorted_merge R true us (y ∷ vs) = ap (λ r. match_ordering r (x ∷ sorted_merge R true us (y ∷ vs)) (x ∷ sorted_merge R true us vs) (y ∷ sorted_merge R true (x ∷ us) vs)) h in
-      let e : x ≡ y = first_same x y _ _ (sym merged ∙ p) in
-      not_tied x (subst (λ z. R x z ≡ Less) (sym e) h)
-    where
-      first_same : (x y : K) (us vs : List K) → x ∷ us ≡ y ∷ vs → x ≡ y
-      first_same x y us vs p = cc
-
-  pub within_greater : (x y : K) (us vs : List K) → R x y ≡ Greater → (sorted_merge R true (x ∷ us) (y ∷ vs) ≡ y ∷ vs) ↔ (sorted_merge R true (x ∷ us) vs ≡ vs)
-  within_greater x y us vs h =
-      let merged : sorted_merge R true (x ∷ us) (y ∷ vs) ≡ y ∷ sorted_merge R true (x ∷ us) vs = ap (λ r. match_ordering r (x ∷ sorted_merge R true us (y ∷ vs)) (x ∷ sorted_merge R true us vs) (y ∷ sorted_merge R true (x ∷ us) vs)) h in
-      ((λ p. rest_same y y _ _ (sym merged ∙ p)), λ p. merged ∙ ap (λ zs. y ∷ zs) p)
-    where
-      rest_same : (x y : K) (us vs : List K) → x ∷ us ≡ y ∷ vs → us ≡ vs
-      rest_same x y us vs p = cc
 
 -- the same by a test that holds where two elements tie
 pub search_has_by : {K : Type 0} {R : K → K → Ordering} (o : IsTotalOrder R) (same : (x y : K) → R x y ≡ Equal → x ≡ y) (eq : K → K → Bool) → ((x y : K) → eq x y ≡ is_eq (R x y)) → (x : K) (xs : List K) (r : Result ℕ ℕ) → IsStrictlySortedBy R xs → IsSearchInRange r (length xs)

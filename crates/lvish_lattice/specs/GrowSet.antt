@@ -1,4 +1,4 @@
--- Sets that only grow, and that they are a lattice.
+-- Sets that only grow, and what makes them a lattice.
 use Rattle.std.specs.Prelude.{◌≡◌, ◌↔◌, Bool, true, false, not, List, [], Option, Some, None, option_and_then, is_some, unwrap_or, filter, refl}
 use Rattle.std.proofs.Common.{sym, ◌∙◌, ap, subst}
 use mathlib.Core.HLevel.{Σ_prop_path}
@@ -26,7 +26,7 @@ module _ {V : Type 0} {o : ord.Ghosts V} {e : partial_eq.Ghosts V} {p : partial_
   abbrev pub empty : GrowSet V o e p
   empty = record { items = []; ascending = nothing_rises o.cmp }
 
-  -- by their items
+  -- whether two sets have the same items
   abbrev pub alike : (V → V → Bool) → GrowSet V o e p → GrowSet V o e p → Bool
   alike eq a b = pointwise eq a.items b.items
 

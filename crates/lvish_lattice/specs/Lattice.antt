@@ -16,8 +16,8 @@ pub record IsJoin {S : Type 0} (least : S) (join : S → S → Option S) : Type 
   pub associative : (a b c : S) → option_and_then (λ x. join x c) (join a b) ≡ option_and_then (λ x. join a x) (join b c)
 
 -- a is at or below b
-abbrev pub IsBelow : {S : Type 0} → (S → S → Option S) → S → S → Type 0
-IsBelow join a b = join a b ≡ Some b
+abbrev pub IsAtOrBelow : {S : Type 0} → (S → S → Option S) → S → S → Type 0
+IsAtOrBelow join a b = join a b ≡ Some b
 
 -- Each state has a list of events, ascending and without repeats, and is determined by them.
 pub record HasEvents {S E : Type 0} (least : S) (join : S → S → Option S) (eq : E → E → Bool) (cmp : E → E → Ordering) (events : S → List E) : Type 0 where
@@ -26,23 +26,23 @@ pub record HasEvents {S E : Type 0} (least : S) (join : S → S → Option S) (e
   pub union : (a b c : S) → join a b ≡ Some c → IsUnion eq (events a) (events b) (events c)
   pub determine : (a b : S) → events a ≡ events b → a ≡ b
 
--- the events of new that old hasn't, none where there is no new state
+-- the events of new that old does not have, none where there is no new state
 abbrev pub events_beyond : {S E : Type 0} → (E → E → Bool) → (S → List E) → S → Option S → List E
 events_beyond eq events old (Some new) = filter (λ e. not (is_member eq (events old) e)) (events new)
 events_beyond eq events old None = []
 
--- the events of the join that old hasn't, none where the join is top
+-- the events of the join that old does not have, none where the join is top
 abbrev pub fresh_of : {S E : Type 0} → (S → S → Option S) → (E → E → Bool) → (S → List E) → S → S → List E
 fresh_of join eq events old put = events_beyond eq events old (join old put)
 
--- A read is a set of groups, each a set of states with one answer, which tells the group: member m a says that m is in the group of answer a.
+-- A read is a set of groups, each a set of states with one answer, which names the group: member m a says that m is in the group of answer a.
 -- It is checked where any two members of different groups join to top.
 abbrev pub IsChecked : {S A : Type 0} → (S → S → Option S) → (S → A → Type 0) → Type 0
 IsChecked {S} {A} join member = (m n : S) (a b : A) → member m a → member n b → (a ≡ b) ⊎ (join m n ≡ None)
 
 -- a is the answer of a group with a member at or below the state
 abbrev pub Answers : {S A : Type 0} → (S → S → Option S) → (S → A → Type 0) → S → A → Type 0
-Answers {S} join member state a = (m : S) × member m a × IsBelow join m state
+Answers {S} join member state a = (m : S) × member m a × IsAtOrBelow join m state
 
 -- in each state there is an answer exactly where a group with a member at or below the state has it
 abbrev pub IsAnswered : {S A : Type 0} → (S → S → Option S) → (S → A → Type 0) → (S → Option A) → Type 0
@@ -55,6 +55,6 @@ pub record BringsAt {S E W : Type 0} (eq : E → E → Bool) (events : S → Lis
   pub missing : is_member eq (events old) event ≡ false
   pub at : spot_of event ≡ w
 
--- where a read that waits at a spot has no answer in one state and has one in another, that one has an event of the spot which the first hasn't
+-- where a read that waits at a spot has no answer in one state and has one in another, the second state has an event of the spot which the first does not have
 abbrev pub IsWatched : {S E R A W : Type 0} → (E → E → Bool) → (S → List E) → (E → W) → (R → Option W) → (R → S → Option A) → Type 0
 IsWatched {S} {E} {R} {A} {W} eq events spot_of watched answer_of = (r : R) (w : W) → watched r ≡ Some w → (old new : S) (a : A) → answer_of r old ≡ None → answer_of r new ≡ Some a → BringsAt eq events spot_of old new w

@@ -1,13 +1,10 @@
 -- Reads by a list: the first that passes, and where one value alone is listed.
-use Rattle.std.specs.Prelude.{◌≡◌, ◌⊎◌, Bool, true, false, ◌&&◌, cond, List, [], ◌∷◌, Option, Some, None, Contains, find, option_map, refl}
+use Rattle.std.specs.Prelude.{◌≡◌, ◌⊎◌, Bool, true, false, cond, List, [], ◌∷◌, Option, Some, None, Contains, find, option_map, refl}
 use Rattle.std.proofs.Common.{sym, ◌∙◌, ap, subst, arith, zero, suc, inl, inr}
+use Rattle.std.proofs.lemmas.Bool.{and_parts}
+use Rattle.std.proofs.lemmas.Option.{cond_some, none-some}
 use Rattle.std.specs.List.{list_all}
 use Rattle.lvish_lattice.specs.Lattice.{IsIdentity}
-
-both_hold : (a b : Bool) → (a && b) ≡ true → (a ≡ true) × (b ≡ true)
-both_hold true true e = (refl, refl)
-both_hold true false e = absurd cc
-both_hold false b e = absurd cc
 
 module _ {X : Type 0} where
   first_contained : (x : X) (xs : List X) → Contains (x ∷ xs) x
@@ -32,24 +29,21 @@ module _ {X : Type 0} where
       let s : y ≡ x = one y (first_contained y ys) in
       ap (λ b. cond b (Some y) (find test ys)) (ap test s ∙ t) ∙ ap (λ (z : X). Some z) s
 
+  pub unmapped : {A : Type 0} (f : X → A) (r : Option X) → option_map f r ≡ None → r ≡ None
+  unmapped f (Some x) e = absurd cc
+  unmapped f None e = refl
+
   pub mapped : {A : Type 0} (f : X → A) (r : Option X) (a : A) → option_map f r ≡ Some a → (x : X) × (r ≡ Some x) × (f x ≡ a)
   mapped f (Some x) a e = (x, refl, cc)
   mapped f None a e = absurd cc
 
   pub some_is_not_none : (r : Option X) (x : X) → r ≡ Some x → r ≡ None → ⊥
-  some_is_not_none r x p q = absurd (clash x (sym p ∙ q))
-    where
-      clash : (x : X) → Some x ≡ None → ⊥
-      clash x h = cc
+  some_is_not_none r x p q = none-some x (sym q ∙ p)
 
   -- the one value that is listed, however often; none where there is none, or several
   abbrev pub one_of : (X → X → Bool) → List X → Option X
   one_of eq [] = None
   one_of eq (x ∷ xs) = cond (list_all (eq x) xs) (Some x) None
-
-  one_when : (b : Bool) (x y : X) → cond b (Some x) None ≡ Some y → (b ≡ true) × (x ≡ y)
-  one_when true x y e = (refl, cc)
-  one_when false x y e = absurd cc
 
   listed_cases : (z : X) (zs : List X) (y : X) → Contains (z ∷ zs) y → (z ≡ y) ⊎ Contains zs y
   listed_cases z zs y (zero, lt, e) = inl e
@@ -58,14 +52,14 @@ module _ {X : Type 0} where
   all_are : (eq : X → X → Bool) (same : IsIdentity eq) (x : X) (xs : List X) → list_all (eq x) xs ≡ true → (y : X) → Contains xs y → x ≡ y
   all_are eq same x [] h y c = absurd (omega (arith, c.1))
   all_are eq same x (z ∷ zs) h y c =
-      let b = both_hold (eq x z) (list_all (eq x) zs) h in
+      let b = and_parts (eq x z) (list_all (eq x) zs) h in
       elim (listed_cases z zs y c) [ inl e ↦ same x z b.0 ∙ e | inr d ↦ all_are eq same x zs b.1 y d ]
 
-  -- it is each value that is listed, and is listed
+  -- that value is listed, and each listed value is the same
   pub one_is_each : (eq : X → X → Bool) (same : IsIdentity eq) (xs : List X) (x : X) → one_of eq xs ≡ Some x → Contains xs x × ((y : X) → Contains xs y → x ≡ y)
   one_is_each eq same [] x e = absurd cc
   one_is_each eq same (z ∷ zs) x e =
-      let h = one_when (list_all (eq z) zs) z x e in
+      let h = cond_some (list_all (eq z) zs) z x e in
       (subst (λ q. Contains (z ∷ zs) q) h.1 (first_contained z zs), λ y c. elim (listed_cases z zs y c) [ inl d ↦ sym h.1 ∙ d | inr d ↦ sym h.1 ∙ all_are eq same z zs h.0 y d ])
 
   -- where nothing is found, nothing that is listed passes

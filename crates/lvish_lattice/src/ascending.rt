@@ -20,7 +20,7 @@ pub fn sorted<V: Plain>(alloc: Global, xs: &[V]) -> Result<Vec<V>, AllocError>
     Ok(sorted)
 }
 
-/// The two lists merged, with what both have once.
+/// The two lists merged; a value that both have stands once.
 pub fn merged<V: Ord + Copy>(alloc: Global, xs: &[V], ys: &[V]) -> Result<Vec<V>, AllocError>
     ensures { IfOk result (λ v. v.items ≡ sorted_merge V.cmp true xs.now ys.now) }
 {
@@ -76,7 +76,7 @@ pub fn is_within<V: Plain>(xs: &[V], ys: &[V]) -> bool
     i == xs.len()
 }
 
-/// Those of ys that the ascending xs hasn't.
+/// The elements of `ys` that the ascending `xs` does not have.
 pub fn beyond<V: Plain>(alloc: Global, xs: &[V], ys: &[V]) -> Result<Vec<V>, AllocError>
     requires { IsStrictlySortedBy V.cmp xs.now }
     ensures { IfOk result (λ v. v.items ≡ filter (λ e. not (is_member V.eq xs.now e)) ys.now) }
@@ -103,7 +103,7 @@ fn put_in<V: Plain>(items: &mut Vec<V>, x: V)
     }
 }
 
-/// Merges the list in: room first, and then nothing fails.
+/// Merges the list in. It makes room first, and after that nothing can fail.
 pub fn merge_in<V: Plain>(items: &mut Vec<V>, put: &[V]) -> Result<(), AllocError>
     requires first { IsStrictlySortedBy V.cmp items.old.items }
     requires second { IsStrictlySortedBy V.cmp put.now }

@@ -95,7 +95,7 @@ impl<V: Plain + Hash> Lattice for Flat<V> {
     }
 
     ghost use Rattle.std.specs.Prelude.{refl};
-    ghost use Rattle.lvish_lattice.specs.FlatLaws.{flat_identical, flat_is_join, flat_has_events};
+    ghost use Rattle.lvish_lattice.specs.laws.FlatLaws.{flat_identical, flat_is_join, flat_has_events};
 
     ghost identical = { flat_identical V.eq V.identical _ (λ y. refl) (λ x. refl) (λ x y. refl) };
 
@@ -149,7 +149,7 @@ impl<V: Plain + Hash> Reads for Flat<V> {
         Some(Whole)
     }
 
-    ghost use Rattle.lvish_lattice.specs.FlatLaws.{flat_answers, flat_waits};
+    ghost use Rattle.lvish_lattice.specs.laws.FlatLaws.{flat_answers, flat_waits};
 
     ghost waits = { flat_waits V.eq V.identical V.Eq.laws };
 

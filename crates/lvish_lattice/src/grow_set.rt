@@ -11,7 +11,7 @@ use std::hash::Hash;
 
 /// A set that only grows.
 ///
-/// What stands behind it is its elements in ascending order.
+/// It is stored as its elements in ascending order.
 #[derive(Debug, Drop)]
 pub struct GrowSet<V: Plain> {
     items: Items<V>,
@@ -150,7 +150,7 @@ fn first_held<V: Plain>(listed: &[V], items: &[V]) -> Option<V>
 
 impl<V: Plain + Hash> Reads for GrowSet<V> {
     ghost use Rattle.lvish_lattice.specs.Members.{Member, answer_of, spot_of, watched};
-    ghost use Rattle.lvish_lattice.specs.MembersLaws.{sets_answer, sets_wait};
+    ghost use Rattle.lvish_lattice.specs.laws.MembersLaws.{sets_answer, sets_wait};
 
     type Read = Members<V>;
 

@@ -1,5 +1,5 @@
 ghost use Rattle.std.specs.Prelude.{◌≡◌, ◌↔◌, List, Option, Some, IfOk, IfErr, is_some, unwrap_or, IsTrue};
-ghost use Rattle.lvish_lattice.specs.Lattice.{IsIdentity, IsJoin, IsBelow, HasEvents, IsChecked, IsAnswered, IsWatched, fresh_of};
+ghost use Rattle.lvish_lattice.specs.Lattice.{IsIdentity, IsJoin, IsAtOrBelow, HasEvents, IsChecked, IsAnswered, IsWatched, fresh_of};
 
 use std::alloc::{AllocError, Global};
 use std::hash::Hash;
@@ -35,13 +35,14 @@ pub trait Lattice: Eq + Drop {
 
     /// Whether this state is at or below the other: their join is the other.
     fn leq(&self, other: &Self) -> bool
-        ensures { IsTrue result ↔ IsBelow joined self.now other.now };
+        ensures { IsTrue result ↔ IsAtOrBelow joined self.now other.now };
 
     /// The events of this state, ascending.
     fn events(&self, alloc: Global) -> Result<Vec<Self::Event>, AllocError>
         ensures { IfOk result (λ v. v.items ≡ events_of self.now) };
 
-    /// The events of the join of `old` and `put` that `old` hasn't, ascending; none where the join is top.
+    /// The events of the join of `old` and `put` that `old` does not have, ascending; none where
+    /// the join is top.
     fn fresh(alloc: Global, old: &Self, put: &Self) -> Result<Vec<Self::Event>, AllocError>
         ensures { IfOk result (λ v. v.items ≡ fresh_of joined Self.Event.eq events_of old.now put.now) };
 
@@ -108,8 +109,8 @@ pub trait Reads: Lattice {
     fn spot(event: &Self::Event) -> Self::Spot
         ensures { result ≡ spot_of event.now };
 
-    /// The spot at which a read waits: an answer comes to it only with an event of this spot; `None`
-    /// where any event can bring it.
+    /// The spot at which a read waits: only an event of this spot can bring it an answer; `None`
+    /// where any event can.
     fn watch(read: &Self::Read) -> Option<Self::Spot>
         ensures { result ≡ watched read.now };
 

@@ -74,7 +74,7 @@ fn between(alloc: Global, low: u16, high: u16) -> Result<Vec<i64>, AllocError>
 
 impl Plain for MaxCounter {
     ghost use Rattle.std.specs.Prelude.{refl};
-    ghost use Rattle.lvish_lattice.specs.MaxCounterLaws.{counters_identical};
+    ghost use Rattle.lvish_lattice.specs.laws.MaxCounterLaws.{counters_identical};
 
     ghost identical = { counters_identical _ (λ a b. refl) };
 }
@@ -119,7 +119,7 @@ impl Lattice for MaxCounter {
     }
 
     ghost use Rattle.std.specs.Prelude.{refl};
-    ghost use Rattle.lvish_lattice.specs.MaxCounterLaws.{counters_identical, counters_are_join, counters_have_events};
+    ghost use Rattle.lvish_lattice.specs.laws.MaxCounterLaws.{counters_identical, counters_are_join, counters_have_events};
 
     ghost identical = { counters_identical _ (λ a b. refl) };
 
@@ -131,7 +131,7 @@ impl Lattice for MaxCounter {
 impl Reads for MaxCounter {
     ghost use Rattle.std.specs.Prelude.{refl};
     ghost use Rattle.lvish_lattice.specs.MaxCounter.{Member, answer_of, spot_of, watched};
-    ghost use Rattle.lvish_lattice.specs.MaxCounterLaws.{counters_identical, counters_answer, counters_wait};
+    ghost use Rattle.lvish_lattice.specs.laws.MaxCounterLaws.{counters_identical, counters_answer, counters_wait};
 
     type Read = Levels;
 

@@ -1,8 +1,8 @@
 //! What the rows are about.
 
-use crate::fault::Fault;
-use crate::handlers::Bench;
+use crate::handlers::HandlerBench;
 use crate::notation::elements;
+use crate::row_fault::RowFault;
 use crate::{handlers, lattices, names, order, pools, reads, values, variables};
 use lvish_compound::{Any, MapOf, Pair, Part};
 use lvish_lattice::{Flat, GrowSet, MaxCounter};
@@ -18,7 +18,7 @@ type Cells = MapOf<i64, Cell>;
 pub struct Desk {
     cell: Variable<Cell>,
     set: Variable<GrowSet<i64>>,
-    handlers: Bench<GrowSet<i64>>,
+    handlers: HandlerBench<GrowSet<i64>>,
 }
 
 impl Desk {
@@ -26,14 +26,14 @@ impl Desk {
         Ok(Desk {
             cell: Variable::new(alloc),
             set: Variable::new(alloc),
-            handlers: Bench::new(alloc, &[])?,
+            handlers: HandlerBench::new(alloc, &[])?,
         })
     }
 
-    /// The answer to a row: its first word says of what it is asked.
-    pub fn answer(&mut self, alloc: Global, words: &[&str]) -> Result<String, Fault> {
+    /// The answer to a row: its first word says what is asked.
+    pub fn answer(&mut self, alloc: Global, words: &[&str]) -> Result<String, RowFault> {
         let Some((of, asked)) = words.split_first() else {
-            return Err(Fault::Unreadable);
+            return Err(RowFault::Unreadable);
         };
         match *of {
             "task-or-handler" => names::answer(alloc, asked),
@@ -52,7 +52,7 @@ impl Desk {
 }
 
 /// The answer of a lattice of `lvish_lattice`, or of one that is made of these.
-fn of_lattice(alloc: Global, of: &str, asked: &[&str]) -> Result<String, Fault> {
+fn of_lattice(alloc: Global, of: &str, asked: &[&str]) -> Result<String, RowFault> {
     match of {
         "cell" => of_cells(alloc, asked),
         "set" => of_sets(alloc, asked),
@@ -62,7 +62,7 @@ fn of_lattice(alloc: Global, of: &str, asked: &[&str]) -> Result<String, Fault> 
     }
 }
 
-fn of_compound(alloc: Global, of: &str, asked: &[&str]) -> Result<String, Fault> {
+fn of_compound(alloc: Global, of: &str, asked: &[&str]) -> Result<String, RowFault> {
     match of {
         "map" => of_maps(alloc, asked),
         "map-of-maps" => of_maps_of_maps(alloc, asked),
@@ -70,50 +70,50 @@ fn of_compound(alloc: Global, of: &str, asked: &[&str]) -> Result<String, Fault>
         "cell|cell" => of_two_cells(alloc, asked),
         "part" => of_parts(alloc, asked),
         "state" => of_states(alloc, asked),
-        _ => Err(Fault::Unreadable),
+        _ => Err(RowFault::Unreadable),
     }
 }
 
-fn of_cells(alloc: Global, asked: &[&str]) -> Result<String, Fault> {
+fn of_cells(alloc: Global, asked: &[&str]) -> Result<String, RowFault> {
     reads::answer::<Cell>(alloc, asked)
 }
 
-fn of_sets(alloc: Global, asked: &[&str]) -> Result<String, Fault> {
+fn of_sets(alloc: Global, asked: &[&str]) -> Result<String, RowFault> {
     reads::answer::<GrowSet<i64>>(alloc, asked)
 }
 
 /// The elements of a set that is made of these pairs.
-fn of_sets_of_pairs(alloc: Global, asked: &[&str]) -> Result<String, Fault> {
+fn of_sets_of_pairs(alloc: Global, asked: &[&str]) -> Result<String, RowFault> {
     match asked {
         [pairs] => elements::<(i64, i64)>(alloc, pairs),
-        _ => Err(Fault::Unreadable),
+        _ => Err(RowFault::Unreadable),
     }
 }
 
-fn of_counters(alloc: Global, asked: &[&str]) -> Result<String, Fault> {
+fn of_counters(alloc: Global, asked: &[&str]) -> Result<String, RowFault> {
     reads::answer::<MaxCounter>(alloc, asked)
 }
 
-fn of_maps(alloc: Global, asked: &[&str]) -> Result<String, Fault> {
+fn of_maps(alloc: Global, asked: &[&str]) -> Result<String, RowFault> {
     reads::answer::<Cells>(alloc, asked)
 }
 
-fn of_maps_of_maps(alloc: Global, asked: &[&str]) -> Result<String, Fault> {
+fn of_maps_of_maps(alloc: Global, asked: &[&str]) -> Result<String, RowFault> {
     lattices::answer::<MapOf<i64, Cells>>(alloc, asked)
 }
 
-fn of_sets_and_counters(alloc: Global, asked: &[&str]) -> Result<String, Fault> {
+fn of_sets_and_counters(alloc: Global, asked: &[&str]) -> Result<String, RowFault> {
     lattices::answer::<Pair<GrowSet<i64>, MaxCounter>>(alloc, asked)
 }
 
-fn of_two_cells(alloc: Global, asked: &[&str]) -> Result<String, Fault> {
+fn of_two_cells(alloc: Global, asked: &[&str]) -> Result<String, RowFault> {
     reads::answer::<Pair<Cell, Cell>>(alloc, asked)
 }
 
-fn of_parts(alloc: Global, asked: &[&str]) -> Result<String, Fault> {
+fn of_parts(alloc: Global, asked: &[&str]) -> Result<String, RowFault> {
     lattices::answer::<Part>(alloc, asked)
 }
 
-fn of_states(alloc: Global, asked: &[&str]) -> Result<String, Fault> {
+fn of_states(alloc: Global, asked: &[&str]) -> Result<String, RowFault> {
     reads::answer::<Any>(alloc, asked)
 }

@@ -1,14 +1,14 @@
 //! A variable with its handlers and one pool, call by call; and how many tasks run in pools.
 
-mod bench;
 mod counts;
+mod handler_bench;
 
-use crate::fault::Fault;
 use crate::names::handler;
-use crate::notation::{Notation, Value};
+use crate::notation::{Notation, RowValue};
+use crate::row_fault::RowFault;
 use crate::words::{or_none, yes_or_no};
-pub use bench::Bench;
 use counts::{one_pool, two_pools};
+pub use handler_bench::HandlerBench;
 use lvish_handlers::Held;
 use lvish_lattice::Numbered;
 use lvish_names::HandlerName;
@@ -19,45 +19,50 @@ use std::fmt::Write;
 /// into.
 pub fn answer<L: Notation>(
     alloc: Global,
-    bench: &mut Bench<L>,
+    handler_bench: &mut HandlerBench<L>,
     words: &[&str],
-) -> Result<String, Fault>
+) -> Result<String, RowFault>
 where
-    L::Event: Value + Numbered,
+    L::Event: RowValue + Numbered,
 {
     match words {
         ["new", states @ ..] => {
             let done = String::from_str(alloc, "ok")?;
-            *bench = made(alloc, states)?;
+            *handler_bench = made(alloc, states)?;
             Ok(done)
         }
-        ["add", path, number] => add(alloc, bench, handler(alloc, path, number)?),
-        [verb, path, number] => of_handler(alloc, bench, verb, &handler(alloc, path, number)?),
+        ["add", path, number] => add(alloc, handler_bench, handler(alloc, path, number)?),
+        [verb, path, number] => of_handler(
+            alloc,
+            handler_bench,
+            verb,
+            &handler(alloc, path, number)?,
+        ),
         ["freeze"] => {
             let done = String::from_str(alloc, "ok")?;
-            bench.freeze(alloc)?;
+            handler_bench.freeze(alloc)?;
             Ok(done)
         }
-        [verb] => seen(alloc, bench, verb),
-        _ => Err(Fault::Unreadable),
+        [verb] => seen(alloc, handler_bench, verb),
+        _ => Err(RowFault::Unreadable),
     }
 }
 
-fn made<L: Notation>(alloc: Global, texts: &[&str]) -> Result<Bench<L>, Fault> {
+fn made<L: Notation>(alloc: Global, texts: &[&str]) -> Result<HandlerBench<L>, RowFault> {
     let mut states = Vec::new(alloc);
     for text in texts {
         states.push(L::state(alloc, text)?)?;
     }
-    Ok(Bench::new(alloc, states.as_slice())?)
+    Ok(HandlerBench::new(alloc, states.as_slice())?)
 }
 
 fn add<L: Notation>(
     alloc: Global,
-    bench: &mut Bench<L>,
+    handler_bench: &mut HandlerBench<L>,
     name: HandlerName<L::Event>,
-) -> Result<String, Fault> {
+) -> Result<String, RowFault> {
     let done = String::from_str(alloc, "ok")?;
-    match bench.add(alloc, name) {
+    match handler_bench.add(alloc, name) {
         Some(added) => {
             added?;
             Ok(done)
@@ -68,19 +73,19 @@ fn add<L: Notation>(
 
 fn of_handler<L: Notation>(
     alloc: Global,
-    bench: &mut Bench<L>,
+    handler_bench: &mut HandlerBench<L>,
     verb: &str,
     name: &HandlerName<L::Event>,
-) -> Result<String, Fault> {
+) -> Result<String, RowFault> {
     match verb {
-        "holds" => Ok(yes_or_no(alloc, bench.holds(name))?),
-        "next" => Ok(event_text::<L>(alloc, bench.next(name))?),
+        "holds" => Ok(yes_or_no(alloc, handler_bench.holds(name))?),
+        "next" => Ok(event_text::<L>(alloc, handler_bench.next(name))?),
         "advance" => {
             let done = String::from_str(alloc, "ok")?;
-            bench.advance(name)?;
+            handler_bench.advance(name)?;
             Ok(done)
         }
-        _ => Err(Fault::Unreadable),
+        _ => Err(RowFault::Unreadable),
     }
 }
 
@@ -92,20 +97,27 @@ fn event_text<L: Notation>(alloc: Global, event: Option<L::Event>) -> Result<Str
     or_none(alloc, text)
 }
 
-fn seen<L: Notation>(alloc: Global, bench: &Bench<L>, verb: &str) -> Result<String, Fault>
+fn seen<L: Notation>(
+    alloc: Global,
+    handler_bench: &HandlerBench<L>,
+    verb: &str,
+) -> Result<String, RowFault>
 where
-    L::Event: Value + Numbered,
+    L::Event: RowValue + Numbered,
 {
     match verb {
-        "drained" => Ok(yes_or_no(alloc, bench.drained())?),
-        "held" => Ok(held_text(alloc, bench.held())?),
+        "drained" => Ok(yes_or_no(alloc, handler_bench.drained())?),
+        "held" => Ok(held_text(alloc, handler_bench.held())?),
         "one-pool" => Ok(one_pool::<L>(alloc)?),
         "two-pools" => Ok(two_pools::<L>(alloc)?),
-        _ => Err(Fault::Unreadable),
+        _ => Err(RowFault::Unreadable),
     }
 }
 
-fn held_text<E: Value + Numbered>(alloc: Global, held: &[Held<E>]) -> Result<String, AllocError> {
+fn held_text<E: RowValue + Numbered>(
+    alloc: Global,
+    held: &[Held<E>],
+) -> Result<String, AllocError> {
     let mut text = String::new(alloc);
     for it in held {
         if !text.is_empty() {

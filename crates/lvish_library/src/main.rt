@@ -1,12 +1,12 @@
 //! Compares what the library answers to each row of the files of `data/` with what stands beside it.
 //!
 //! A row is a line such as `set join 3,1 2 -> 1,2,3`: what is asked, and the answer. A row that is
-//! answered otherwise is printed with that answer; of each file the number of its other rows is. Where
-//! the first word is `refused`, each call is made once for each of its growths, which is refused then.
+//! answered otherwise is printed with that answer; for each file the number of its other rows is
+//! printed. Where the first word is `refused`, each call is made once for each of its growths,
+//! which is refused then.
 #![tactic(auto)]
 
 mod desk;
-mod fault;
 mod handlers;
 mod keys;
 mod lattices;
@@ -16,6 +16,7 @@ mod order;
 mod pools;
 mod reads;
 mod refused;
+mod row_fault;
 mod rows;
 mod values;
 mod variables;

@@ -5,16 +5,16 @@ mod part;
 mod simple;
 mod state;
 
-use crate::fault::Fault;
+use crate::row_fault::RowFault;
 use lvish_lattice::{Lattice, Plain, Reads};
 pub use simple::elements;
 pub use state::kind;
 use std::alloc::{AllocError, Global};
 
 /// Small values that are written in rows.
-pub trait Value: Plain {
+pub trait RowValue: Plain {
     /// The value that the text spells.
-    fn value(text: &str) -> Result<Self, Fault>;
+    fn value(text: &str) -> Result<Self, RowFault>;
 
     fn write_value(&self, out: &mut String) -> Result<(), AllocError>;
 }
@@ -22,7 +22,7 @@ pub trait Value: Plain {
 /// A lattice whose states and events are written in rows.
 pub trait Notation: Lattice {
     /// The state that the text spells.
-    fn state(alloc: Global, text: &str) -> Result<Self, Fault>;
+    fn state(alloc: Global, text: &str) -> Result<Self, RowFault>;
 
     fn write_state(&self, out: &mut String) -> Result<(), AllocError>;
 
@@ -32,7 +32,7 @@ pub trait Notation: Lattice {
 /// A lattice whose reads are written in rows, too.
 pub trait ReadNotation: Notation + Reads {
     /// The read that the text spells.
-    fn read(alloc: Global, text: &str) -> Result<Self::Read, Fault>;
+    fn read(alloc: Global, text: &str) -> Result<Self::Read, RowFault>;
 
     fn write_answer(answer: &Self::Answer, out: &mut String) -> Result<(), AllocError>;
 

@@ -1,43 +1,43 @@
 //! Events and kinds alone: their order, and how names print an event.
 
-use crate::fault::Fault;
 use crate::notation::kind;
+use crate::row_fault::RowFault;
 use crate::words::{halves, integer, yes_or_no};
 use lvish_compound::{Event, Kind};
 use lvish_lattice::Numbered;
 use std::alloc::{AllocError, Global};
 
 /// What is asked of events, written as `2:set:7`.
-pub fn of_events(alloc: Global, words: &[&str]) -> Result<String, Fault> {
+pub fn of_events(alloc: Global, words: &[&str]) -> Result<String, RowFault> {
     match words {
         ["ascending", texts @ ..] => {
             Ok(yes_or_no(alloc, is_ascending(events(alloc, texts)?.as_slice()))?)
         }
         ["order", a, b] => Ok(format!(in alloc; "{:?}", event(a)?.order(&event(b)?))?),
         ["printed", a] => Ok(printed(alloc, &event(a)?)?),
-        _ => Err(Fault::Unreadable),
+        _ => Err(RowFault::Unreadable),
     }
 }
 
 /// What is asked of numbers, the events of a cell.
-pub fn of_numbers(alloc: Global, words: &[&str]) -> Result<String, Fault> {
+pub fn of_numbers(alloc: Global, words: &[&str]) -> Result<String, RowFault> {
     match words {
         ["printed", a] => Ok(printed(alloc, &integer(a)?)?),
-        _ => Err(Fault::Unreadable),
+        _ => Err(RowFault::Unreadable),
     }
 }
 
 /// What is asked of kinds.
-pub fn of_kinds(alloc: Global, words: &[&str]) -> Result<String, Fault> {
+pub fn of_kinds(alloc: Global, words: &[&str]) -> Result<String, RowFault> {
     match words {
         ["ascending", texts @ ..] => {
             Ok(yes_or_no(alloc, is_ascending(kinds(alloc, texts)?.as_slice()))?)
         }
-        _ => Err(Fault::Unreadable),
+        _ => Err(RowFault::Unreadable),
     }
 }
 
-fn event(text: &str) -> Result<Event, Fault> {
+fn event(text: &str) -> Result<Event, RowFault> {
     let (key, other) = halves(text, ':')?;
     let (of, number) = halves(other, ':')?;
     Ok(Event {
@@ -47,7 +47,7 @@ fn event(text: &str) -> Result<Event, Fault> {
     })
 }
 
-fn events(alloc: Global, texts: &[&str]) -> Result<Vec<Event>, Fault> {
+fn events(alloc: Global, texts: &[&str]) -> Result<Vec<Event>, RowFault> {
     let mut events = Vec::new(alloc);
     for text in texts {
         events.push(event(text)?)?;
@@ -55,7 +55,7 @@ fn events(alloc: Global, texts: &[&str]) -> Result<Vec<Event>, Fault> {
     Ok(events)
 }
 
-fn kinds(alloc: Global, texts: &[&str]) -> Result<Vec<Kind>, Fault> {
+fn kinds(alloc: Global, texts: &[&str]) -> Result<Vec<Kind>, RowFault> {
     let mut kinds = Vec::new(alloc);
     for text in texts {
         kinds.push(kind(text)?)?;

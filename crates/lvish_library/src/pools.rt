@@ -1,15 +1,15 @@
 //! The pools that a freeze names.
 
-use crate::fault::Fault;
+use crate::row_fault::RowFault;
 use crate::words::{items_of, or_none};
 use lvish_calculus::Pools;
 use std::alloc::{AllocError, Global};
 use std::fmt::Write;
 
 /// The numbers of the pools that the text spells, and those of their copy.
-pub fn answer(alloc: Global, words: &[&str]) -> Result<String, Fault> {
+pub fn answer(alloc: Global, words: &[&str]) -> Result<String, RowFault> {
     let [text] = words else {
-        return Err(Fault::Unreadable);
+        return Err(RowFault::Unreadable);
     };
     let pools = pools(alloc, text)?;
     let copied = pools.copy(alloc)?;
@@ -18,7 +18,7 @@ pub fn answer(alloc: Global, words: &[&str]) -> Result<String, Fault> {
     Ok(format!(in alloc; "{first} and {second}")?)
 }
 
-fn pools(alloc: Global, text: &str) -> Result<Pools, Fault> {
+fn pools(alloc: Global, text: &str) -> Result<Pools, RowFault> {
     let mut pools = Vec::new(alloc);
     for item in items_of(alloc, text)?.iter() {
         pools.push(item.parse::<usize>()?)?;

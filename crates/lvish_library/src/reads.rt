@@ -1,13 +1,13 @@
 //! What any lattice that is read answers.
 
-use crate::fault::Fault;
 use crate::lattices;
 use crate::notation::ReadNotation;
+use crate::row_fault::RowFault;
 use crate::words::yes_or_no;
 use std::alloc::{AllocError, Global};
 
 /// The answer to a verb, and the read or the states that follow it.
-pub fn answer<L: ReadNotation>(alloc: Global, words: &[&str]) -> Result<String, Fault> {
+pub fn answer<L: ReadNotation>(alloc: Global, words: &[&str]) -> Result<String, RowFault> {
     match words {
         ["check", read] => Ok(yes_or_no(alloc, L::check(&L::read(alloc, read)?))?),
         ["answer", read, state] => {

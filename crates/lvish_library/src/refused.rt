@@ -3,7 +3,7 @@
 //! answers as its row says at last, as do the rows after it.
 
 use crate::desk::Desk;
-use crate::fault::Fault;
+use crate::row_fault::RowFault;
 use crate::rows::is_row;
 use crate::words::words_of;
 use lvish_refusals::{is_spared, refuse};
@@ -17,8 +17,8 @@ const MOST_GROWTHS: u64 = 1_000_000;
 
 /// What a row's call answers at last, and how many growths were refused until then.
 #[derive(Drop)]
-struct Tried {
-    answer: Result<String, Fault>,
+struct LastAnswer {
+    answer: Result<String, RowFault>,
     growths: u64,
 }
 
@@ -49,7 +49,7 @@ pub fn told_at_last<R: AllocGlobal + Files>(
     Ok(told)
 }
 
-/// Whether the row is answered as it says, where it isn't, tells how it is; and how many growths were
+/// Whether the row is answered as it says, or else how it is answered; and how many growths were
 /// refused.
 fn is_as_expected<R: AllocGlobal + Files>(
     rt: &R,
@@ -59,7 +59,7 @@ fn is_as_expected<R: AllocGlobal + Files>(
 ) -> io::Result<(bool, u64)> {
     let (asked, wanted) = row.split_once(" -> ").unwrap_or((row, ""));
     let words = words_of(rt.alloc(), asked)?;
-    let Tried { answer, growths } = answered_at_last(rt, desk, words.as_slice())?;
+    let LastAnswer { answer, growths } = answered_at_last(rt, desk, words.as_slice())?;
     let answer = answer_text(rt.alloc(), answer)?;
     let is_same = answer.as_str() == wanted;
     if !is_same {
@@ -68,7 +68,7 @@ fn is_as_expected<R: AllocGlobal + Files>(
     Ok((is_same, growths))
 }
 
-fn answer_text(alloc: Global, answer: Result<String, Fault>) -> io::Result<String> {
+fn answer_text(alloc: Global, answer: Result<String, RowFault>) -> io::Result<String> {
     match answer {
         Ok(answer) => Ok(answer),
         Err(fault) => Ok(format!(in alloc; "{fault}")?),
@@ -81,13 +81,13 @@ fn answered_at_last<R: AllocGlobal + Files>(
     rt: &R,
     desk: &mut Desk,
     words: &[&str],
-) -> io::Result<Tried> {
+) -> io::Result<LastAnswer> {
     for number in 1..MOST_GROWTHS {
         refuse(rt, number)?;
         let answer = desk.answer(rt.alloc(), words);
         let is_last = is_spared(rt);
         if is_last || !is_memory(&answer) {
-            return Ok(Tried {
+            return Ok(LastAnswer {
                 answer,
                 growths: if is_last {
                     number.saturating_sub(1)
@@ -97,13 +97,13 @@ fn answered_at_last<R: AllocGlobal + Files>(
             });
         }
     }
-    Ok(Tried {
-        answer: Err(Fault::Unreadable),
+    Ok(LastAnswer {
+        answer: Err(RowFault::Unreadable),
         growths: MOST_GROWTHS,
     })
 }
 
-fn is_memory(answer: &Result<String, Fault>) -> bool {
+fn is_memory(answer: &Result<String, RowFault>) -> bool {
     match answer {
         Ok(_) => false,
         Err(fault) => fault.is_memory(),

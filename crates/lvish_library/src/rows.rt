@@ -28,7 +28,7 @@ pub fn is_row(line: &str) -> bool {
     !line.is_empty() && !line.starts_with('#')
 }
 
-/// Whether the row is answered as it says; where it isn't, tells how it is.
+/// Whether the row is answered as it says, or else how it is answered.
 fn is_as_expected(
     alloc: Global,
     desk: &mut Desk,

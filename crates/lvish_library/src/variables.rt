@@ -1,10 +1,10 @@
 //! What a variable answers, call by call.
 
-use crate::fault::Fault;
 use crate::lattices::state_text;
 use crate::names::task;
-use crate::notation::{Notation, ReadNotation, Value};
+use crate::notation::{Notation, ReadNotation, RowValue};
 use crate::reads::answer_text;
+use crate::row_fault::RowFault;
 use crate::words::{natural, or_none, yes_or_no};
 use lvish_lattice::Numbered;
 use lvish_names::TaskName;
@@ -17,9 +17,9 @@ pub fn answer<L: ReadNotation>(
     alloc: Global,
     variable: &mut Variable<L>,
     words: &[&str],
-) -> Result<String, Fault>
+) -> Result<String, RowFault>
 where
-    L::Event: Value + Numbered,
+    L::Event: RowValue + Numbered,
 {
     match words {
         ["new"] => {
@@ -40,7 +40,7 @@ where
         ["freeze"] => Ok(state_text(alloc, &variable.freeze(alloc)?)?),
         ["read", read] => Ok(answer_text::<L>(alloc, variable.read(&L::read(alloc, read)?))?),
         [verb] => seen(alloc, variable, verb),
-        _ => Err(Fault::Unreadable),
+        _ => Err(RowFault::Unreadable),
     }
 }
 
@@ -50,30 +50,30 @@ fn put<L: Notation>(
     task: &TaskName<L::Event>,
     number: u64,
     state: &L,
-) -> Result<String, Fault> {
+) -> Result<String, RowFault> {
     let done = String::from_str(alloc, "ok")?;
     variable.put(alloc, task, number, state)?;
     Ok(done)
 }
 
 /// What is seen of the variable.
-fn seen<L: Notation>(alloc: Global, variable: &Variable<L>, verb: &str) -> Result<String, Fault>
+fn seen<L: Notation>(alloc: Global, variable: &Variable<L>, verb: &str) -> Result<String, RowFault>
 where
-    L::Event: Value + Numbered,
+    L::Event: RowValue + Numbered,
 {
     match verb {
         "state" => Ok(state_text(alloc, variable.state())?),
         "is-frozen" => Ok(yes_or_no(alloc, variable.is_frozen())?),
         "log" => Ok(log_text::<L>(alloc, variable.log())?),
-        "memory" => Err(Fault::Put(PutFault::from(AllocError))),
-        _ => Err(Fault::Unreadable),
+        "memory" => Err(RowFault::Put(PutFault::from(AllocError))),
+        _ => Err(RowFault::Unreadable),
     }
 }
 
 /// Of each entry the event, the task, and the number of the put.
 fn log_text<L: Notation>(alloc: Global, log: &[Entry<L::Event>]) -> Result<String, AllocError>
 where
-    L::Event: Value + Numbered,
+    L::Event: RowValue + Numbered,
 {
     let mut text = String::new(alloc);
     for entry in log {

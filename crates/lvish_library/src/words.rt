@@ -1,6 +1,6 @@
 //! What rows are written with.
 
-use crate::fault::Fault;
+use crate::row_fault::RowFault;
 use std::alloc::{AllocError, Global};
 
 /// What stands between blanks.
@@ -23,15 +23,15 @@ pub fn items_of(alloc: Global, text: &str) -> Result<Vec<&str>, AllocError> {
     Ok(items)
 }
 
-pub fn integer(text: &str) -> Result<i64, Fault> {
+pub fn integer(text: &str) -> Result<i64, RowFault> {
     Ok(text.parse::<i64>()?)
 }
 
-pub fn natural(text: &str) -> Result<u64, Fault> {
+pub fn natural(text: &str) -> Result<u64, RowFault> {
     Ok(text.parse::<u64>()?)
 }
 
-pub fn integers(alloc: Global, text: &str) -> Result<Vec<i64>, Fault> {
+pub fn integers(alloc: Global, text: &str) -> Result<Vec<i64>, RowFault> {
     let mut integers = Vec::new(alloc);
     for item in items_of(alloc, text)?.iter() {
         integers.push(integer(item)?)?;
@@ -40,10 +40,10 @@ pub fn integers(alloc: Global, text: &str) -> Result<Vec<i64>, Fault> {
 }
 
 /// The text before the mark, and the text after it.
-pub fn halves(text: &str, mark: char) -> Result<(&str, &str), Fault> {
+pub fn halves(text: &str, mark: char) -> Result<(&str, &str), RowFault> {
     match text.split_once(mark) {
         Some(halves) => Ok(halves),
-        None => Err(Fault::Unreadable),
+        None => Err(RowFault::Unreadable),
     }
 }
 

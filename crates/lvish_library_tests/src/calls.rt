@@ -1,7 +1,7 @@
 //! The calls of a lattice through its bound alone.
 
 ghost use Rattle.std.specs.Prelude.{◌≡◌, ◌↔◌, IfOk, IfErr, IsTrue, is_some, unwrap_or};
-ghost use Rattle.lvish_lattice.specs.Lattice.{IsBelow, IsChecked, fresh_of};
+ghost use Rattle.lvish_lattice.specs.Lattice.{IsAtOrBelow, IsChecked, fresh_of};
 
 use lvish_lattice::{Lattice, Reads};
 use std::alloc::{AllocError, Global};
@@ -22,7 +22,7 @@ pub fn bottom_of<L: Lattice>(alloc: Global) -> L
 
 /// Whether one state is at or below another.
 pub fn is_below<L: Lattice>(a: &L, b: &L) -> bool
-    ensures { IsTrue result ↔ IsBelow L.joined a.now b.now }
+    ensures { IsTrue result ↔ IsAtOrBelow L.joined a.now b.now }
 {
     a.leq(b)
 }

@@ -1,4 +1,4 @@
-//! Calls of the library as code makes them that knows no more than a bound, and what only a test can
+//! Calls of the library by code that knows no more than a bound, and what only a test can
 //! see: that a call whose growth was refused can be made again.
 #![tactic(auto)]
 

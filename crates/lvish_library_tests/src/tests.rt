@@ -1,5 +1,5 @@
 //! Calls that are made again where a growth was refused (`rt try --test --fail-alloc N` refuses the
-//! N-th): what they were made on is as it was, and then they do what they do at once elsewhere.
+//! N-th): what they were made on is as it was, and then they do what they do without a refusal.
 
 mod merges;
 mod puts;

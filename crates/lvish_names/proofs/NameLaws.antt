@@ -9,16 +9,16 @@ use Rattle.std.specs.Ordering.{eq_by_cmp, is_eq}
 use Rattle.std.specs.Cmp.{IsTotalOrder}
 use Rattle.std.proofs.lemmas.Cmp.{tied_itself}
 use Rattle.lvish_lattice.specs.Lattice.{IsIdentity}
-use Rattle.lvish_names.specs.declared.part.Part.{Part}
-use Rattle.lvish_names.specs.Names.{Name, Handler, main, forked, handed, parts, is_deep, same_name, same_handler}
+use Rattle.lvish_names.specs.declared.name_part.NamePart.{NamePart}
+use Rattle.lvish_names.specs.Names.{Name, Handler, main, forked, handed, part_count, is_deep, same_name, same_handler}
 use Rattle.lvish_names.specs.NameOrder.{name_cmp, handler_cmp}
-pub use Rattle.lvish_names.specs.OrderLaws.{same_name-refl, same_handler-refl}
-use Rattle.lvish_names.specs.OrderLaws.{name_total, handler_total, name_ties, handler_ties}
+pub use Rattle.lvish_names.specs.laws.OrderLaws.{same_name-refl, same_handler-refl}
+use Rattle.lvish_names.specs.laws.OrderLaws.{name_total, handler_total, name_ties, handler_ties}
 
 -- ---- how many parts a name has
 
 -- the number of parts is the length of the list
-pub parts-length : {E : Type 0} (t : Name E) → parts t ≡ length t
+pub parts-length : {E : Type 0} (t : Name E) → part_count t ≡ length t
 parts-length main = refl
 parts-length (forked t i) = ap suc (parts-length t)
 parts-length (handed t j e) = ap suc (parts-length t)
@@ -26,20 +26,20 @@ parts-length (handed t j e) = ap suc (parts-length t)
 pub is_deep-length : {E : Type 0} (t : Name E) → is_deep t ≡ nat_le 64 (length t)
 is_deep-length t = ap (λ n. nat_le 64 n) (parts-length t)
 
-pub is_deep-from_parts : {E : Type 0} (xs : List (Part E)) → is_deep (reverse xs) ≡ nat_le 64 (length xs)
+pub is_deep-from_parts : {E : Type 0} (xs : List (NamePart E)) → is_deep (reverse xs) ≡ nat_le 64 (length xs)
 is_deep-from_parts xs = is_deep-length (reverse xs) ∙ ap (λ n. nat_le 64 n) (length-reverse xs)
 
 -- a name that isn't deep has room for one more part
 pub lt-from_not_deep : {E : Type 0} (t : Name E) → is_deep t ≡ false → length t < 64
 lt-from_not_deep t h = leb-false 64 (length t) (sym (is_deep-length t) ∙ h)
 
-pub few-from_not_deep : {E : Type 0} (xs : List (Part E)) (t : Name E) → reverse xs ≡ t → is_deep t ≡ false → length xs < 64
+pub few-from_not_deep : {E : Type 0} (xs : List (NamePart E)) (t : Name E) → reverse xs ≡ t → is_deep t ≡ false → length xs < 64
 few-from_not_deep xs t e h = subst (λ n. n < 64) (sym (ap length e) ∙ length-reverse xs) (lt-from_not_deep t h)
 
 pub not_deep-from_lt : {E : Type 0} (t : Name E) → length t < 64 → is_deep t ≡ false
 not_deep-from_lt t h = is_deep-length t ∙ lt-leb 64 (length t) h
 
-pub not_deep-from_parts : {E : Type 0} (xs : List (Part E)) → length xs < 64 → is_deep (reverse xs) ≡ false
+pub not_deep-from_parts : {E : Type 0} (xs : List (NamePart E)) → length xs < 64 → is_deep (reverse xs) ≡ false
 not_deep-from_parts xs h = is_deep-from_parts xs ∙ lt-leb 64 (length xs) h
 
 -- ---- `==` holds of one name alone
@@ -47,22 +47,17 @@ not_deep-from_parts xs h = is_deep-from_parts xs ∙ lt-leb 64 (length xs) h
 module _ {E : Type 0} {eq : E → E → Bool} (same : IsIdentity eq) where
   pub same_name-true : (t u : Name E) → same_name eq t u ≡ true → t ≡ u
   same_name-true main main e = refl
-  same_name-true main (forked u k) e = absurd (false≢true e)
-  same_name-true main (handed u k f) e = absurd (false≢true e)
-  same_name-true (forked t i) main e = absurd (false≢true e)
   same_name-true (forked t i) (forked u k) e =
       let p = and_parts _ _ e in
       let q : t ≡ u = same_name-true t u p.1 in
       let r : i ≡ k = eqb-true i k p.0 in cc
-  same_name-true (forked t i) (handed u k f) e = absurd (false≢true e)
-  same_name-true (handed t i x) main e = absurd (false≢true e)
-  same_name-true (handed t i x) (forked u k) e = absurd (false≢true e)
   same_name-true (handed t i x) (handed u k f) e =
       let p = and_parts _ _ e in
       let p2 = and_parts _ _ p.1 in
       let q : t ≡ u = same_name-true t u p2.1 in
       let s : x ≡ f = same x f p2.0 in
       let r : i ≡ k = eqb-true i k p.0 in cc
+  same_name-true t u e = absurd (false≢true e)
 
   pub same_handler-true : (h k : Handler E) → same_handler eq h k ≡ true → h ≡ k
   same_handler-true h k e =

@@ -1,6 +1,6 @@
 pub mod Names
 pub mod Path
 pub mod NameOrder
-pub mod OrderLaws
 pub mod NameHash
 pub mod NameText
+pub mod laws

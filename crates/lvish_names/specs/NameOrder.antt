@@ -4,19 +4,19 @@ use Rattle.std.specs.declared.cmp.Ordering.{Ordering}
 use Rattle.std.specs.declared.cmp.Ordering.TheVariants.{Less, Greater}
 use Rattle.std.specs.Ordering.{nat_cmp, ordering_then}
 use Rattle.std.specs.Cmp.Lexicographic.{slice_cmp}
-use Rattle.lvish_names.specs.declared.part.Part.{Part}
-use Rattle.lvish_names.specs.declared.part.Part.TheVariants.{Fork, Hand}
+use Rattle.lvish_names.specs.declared.name_part.NamePart.{NamePart}
+use Rattle.lvish_names.specs.declared.name_part.NamePart.TheVariants.{Fork, Hand}
 use Rattle.lvish_names.specs.Names.{Name, Handler}
 
--- one part is the other
-abbrev pub part_eq : {E : Type 0} → (E → E → Bool) → Part E → Part E → Bool
+-- whether two parts are the same
+abbrev pub part_eq : {E : Type 0} → (E → E → Bool) → NamePart E → NamePart E → Bool
 part_eq eq (Fork i) (Fork k) = nat_eq i k
 part_eq eq (Fork i) (Hand k f) = false
 part_eq eq (Hand i e) (Fork k) = false
 part_eq eq (Hand i e) (Hand k f) = nat_eq i k && eq e f
 
 -- a fork before what a handler is handed; forks by their number, and the rest by the handler's number and then by the event
-abbrev pub part_cmp : {E : Type 0} → (E → E → Ordering) → Part E → Part E → Ordering
+abbrev pub part_cmp : {E : Type 0} → (E → E → Ordering) → NamePart E → NamePart E → Ordering
 part_cmp cmp (Fork i) (Fork k) = nat_cmp i k
 part_cmp cmp (Fork i) (Hand k f) = Less
 part_cmp cmp (Hand i e) (Fork k) = Greater

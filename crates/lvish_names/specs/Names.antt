@@ -1,11 +1,11 @@
 -- Names of tasks and handlers, as paths from main.
 use Rattle.std.specs.Prelude.{ℕ, suc, Bool, true, false, ◌&&◌, List, [], ◌∷◌, Option, Some, None, nat_eq, nat_le}
-use Rattle.lvish_names.specs.declared.part.Part.{Part}
-use Rattle.lvish_names.specs.declared.part.Part.TheVariants.{Fork as ForkPart, Hand as HandPart}
+use Rattle.lvish_names.specs.declared.name_part.NamePart.{NamePart}
+use Rattle.lvish_names.specs.declared.name_part.NamePart.TheVariants.{Fork as ForkPart, Hand as HandPart}
 
 -- a task's name is its parts after main, the last one first
 abbrev pub Name : Type 0 → Type 0
-Name E = List (Part E)
+Name E = List (NamePart E)
 
 pattern abbrev pub main : {E : Type 0} → Name E
 main = []
@@ -24,14 +24,14 @@ pub record Handler (E : Type 0) : Type 0 where
   pub number : ℕ
 
 -- the number of parts after main
-abbrev pub parts : {E : Type 0} → Name E → ℕ
-parts main = 0
-parts (forked t i) = suc (parts t)
-parts (handed t j e) = suc (parts t)
+abbrev pub part_count : {E : Type 0} → Name E → ℕ
+part_count main = 0
+part_count (forked t i) = suc (part_count t)
+part_count (handed t j e) = suc (part_count t)
 
 -- a name of 64 parts, which no part may be added to
 abbrev pub is_deep : {E : Type 0} → Name E → Bool
-is_deep t = nat_le 64 (parts t)
+is_deep t = nat_le 64 (part_count t)
 
 -- the handler of the last Hand part, in whose pool the task runs
 abbrev pub handler_of : {E : Type 0} → Name E → Option (Handler E)
@@ -39,7 +39,7 @@ handler_of main = None
 handler_of (forked t i) = handler_of t
 handler_of (handed t j e) = Some (record { adder = t; number = j })
 
--- one name is the other
+-- whether two names are the same
 abbrev pub same_name : {E : Type 0} → (E → E → Bool) → Name E → Name E → Bool
 same_name eq main main = true
 same_name eq (forked t i) (forked u k) = nat_eq i k && same_name eq t u

@@ -88,7 +88,7 @@ impl<E: Plain> HandlerName<E> {
 }
 
 impl<E: PartialEq> PartialEq for HandlerName<E> {
-    ghost use Rattle.lvish_names.specs.OrderLaws.{handler_per};
+    ghost use Rattle.lvish_names.specs.laws.OrderLaws.{handler_per};
 
     ghost eq = { same_handler E.eq };
 
@@ -100,7 +100,7 @@ impl<E: PartialEq> PartialEq for HandlerName<E> {
 }
 
 impl<E: Eq> Eq for HandlerName<E> {
-    ghost use Rattle.lvish_names.specs.OrderLaws.{handler_equiv};
+    ghost use Rattle.lvish_names.specs.laws.OrderLaws.{handler_equiv};
 
     ghost laws = { handler_equiv E.Eq.laws };
 }
@@ -109,7 +109,7 @@ impl<E: Ord> PartialOrd for HandlerName<E> {
     ghost use Rattle.std.specs.Prelude.{refl};
     ghost use Rattle.std.specs.Ordering.{as_partial_cmp};
     ghost use Rattle.std.specs.Cmp.{partial_order_from_agreeing_total};
-    ghost use Rattle.lvish_names.specs.OrderLaws.{handler_total, handler_ties};
+    ghost use Rattle.lvish_names.specs.laws.OrderLaws.{handler_total, handler_ties};
 
     ghost partial_cmp = { as_partial_cmp (handler_cmp E.cmp) };
 
@@ -122,7 +122,7 @@ impl<E: Ord> PartialOrd for HandlerName<E> {
 
 impl<E: Ord> Ord for HandlerName<E> {
     ghost use Rattle.std.specs.Prelude.{refl};
-    ghost use Rattle.lvish_names.specs.OrderLaws.{handler_total, handler_ties};
+    ghost use Rattle.lvish_names.specs.laws.OrderLaws.{handler_total, handler_ties};
 
     ghost cmp = { handler_cmp E.cmp };
 

@@ -15,11 +15,11 @@
 mod handler_name;
 mod laws;
 mod name_fault;
-mod part;
+mod name_part;
 mod task_name;
 
 pub use handler_name::HandlerName;
 pub use laws::{handler_names_identical, task_names_identical};
 pub use name_fault::NameFault;
-pub use part::Part;
+pub use name_part::NamePart;
 pub use task_name::TaskName;

@@ -8,7 +8,7 @@ ghost use Rattle.std.specs.List.{fold};
 
 use crate::handler_name::HandlerName;
 use crate::name_fault::NameFault;
-use crate::part::Part;
+use crate::name_part::NamePart;
 use lvish_lattice::{Numbered, Plain};
 use std::alloc::{AllocError, Global};
 use std::cmp::Ordering;
@@ -22,7 +22,7 @@ use std::sync::ArcSlice;
 /// Copies share it.
 #[derive(Debug, Drop)]
 pub struct TaskName<E> {
-    path: Option<ArcSlice<Part<E>>>,
+    path: Option<ArcSlice<NamePart<E>>>,
     // how many parts of the path are the name's, from `main` on
     depth: usize,
 }
@@ -31,13 +31,13 @@ impl<E> Model for TaskName<E> {
     ghost use Rattle.std.specs.Prelude.{◌≤◌, option_map, reverse};
     ghost use Rattle.std.specs.Arc.{arc_slice_items};
     ghost use Rattle.lvish_names.specs.Names.{Name};
-    ghost use Rattle.lvish_names.specs.Path.{taken, total};
+    ghost use Rattle.lvish_names.specs.Path.{first_parts, path_length};
 
     ghost Value = { Name E };
 
-    ghost view = { λ n. reverse (taken (option_map arc_slice_items n.path) n.depth) };
+    ghost view = { λ n. reverse (first_parts (option_map arc_slice_items n.path) n.depth) };
 
-    ghost invariant = { λ n. (n.depth ≤ total (option_map arc_slice_items n.path)) × (n.depth ≤ 64) };
+    ghost invariant = { λ n. (n.depth ≤ path_length (option_map arc_slice_items n.path)) × (n.depth ≤ 64) };
 }
 
 impl<E> TaskName<E> {
@@ -52,7 +52,7 @@ impl<E> TaskName<E> {
     }
 
     /// The parts after `main`, in order from `main`.
-    pub fn parts(&self) -> &[Part<E>]
+    pub fn parts(&self) -> &[NamePart<E>]
         ensures parts { result.now ≡ reverse self.now }
         ensures few { length result.now ≤ 64 }
     {
@@ -91,7 +91,7 @@ impl<E: Plain> TaskName<E> {
         if self.is_deep() {
             return Err(NameFault::Deep);
         }
-        Ok(self.followed_by(alloc, Part::Fork(number))?)
+        Ok(self.followed_by(alloc, NamePart::Fork(number))?)
     }
 
     /// The name of the task that handles the event for the handler.
@@ -106,7 +106,7 @@ impl<E: Plain> TaskName<E> {
     ) -> Result<TaskName<E>, AllocError>
         ensures { IfOk result (λ t. t ≡ handed handler.now.adder handler.now.number event.now) }
     {
-        let last = Part::Hand(handler.number(), *event);
+        let last = NamePart::Hand(handler.number(), *event);
         handler.adder().followed_by(alloc, last)
     }
 
@@ -121,7 +121,7 @@ impl<E: Plain> TaskName<E> {
     {
         let mut parts = self.parts();
         while let Some((last, before)) = parts.split_last() {
-            if let Part::Hand(number, _) = last {
+            if let NamePart::Hand(number, _) = last {
                 let adder = self.up_to(before.len())?;
                 return Ok(Some(HandlerName::of(adder, *number)));
             }
@@ -141,7 +141,7 @@ impl<E: Plain> TaskName<E> {
         self.up_to(self.len())
     }
 
-    /// The name of the task to which so many parts of this name lead.
+    /// The name of the task to which the first `depth` parts of this name lead.
     ///
     /// # Errors
     ///
@@ -157,7 +157,7 @@ impl<E: Plain> TaskName<E> {
         Ok(TaskName { path, depth })
     }
 
-    fn followed_by(&self, alloc: Global, part: Part<E>) -> Result<TaskName<E>, AllocError>
+    fn followed_by(&self, alloc: Global, part: NamePart<E>) -> Result<TaskName<E>, AllocError>
         requires { IsFalse (is_deep self.now) }
         ensures { IfOk result (λ t. t ≡ part ∷ self.now) }
     {
@@ -173,7 +173,7 @@ impl<E: Plain> TaskName<E> {
 }
 
 impl<E: PartialEq> PartialEq for TaskName<E> {
-    ghost use Rattle.lvish_names.specs.OrderLaws.{name_per};
+    ghost use Rattle.lvish_names.specs.laws.OrderLaws.{name_per};
 
     ghost eq = { same_name E.eq };
 
@@ -185,7 +185,7 @@ impl<E: PartialEq> PartialEq for TaskName<E> {
 }
 
 impl<E: Eq> Eq for TaskName<E> {
-    ghost use Rattle.lvish_names.specs.OrderLaws.{name_equiv};
+    ghost use Rattle.lvish_names.specs.laws.OrderLaws.{name_equiv};
 
     ghost laws = { name_equiv E.Eq.laws };
 }
@@ -194,7 +194,7 @@ impl<E: Ord> PartialOrd for TaskName<E> {
     ghost use Rattle.std.specs.Prelude.{refl};
     ghost use Rattle.std.specs.Ordering.{as_partial_cmp};
     ghost use Rattle.std.specs.Cmp.{partial_order_from_agreeing_total};
-    ghost use Rattle.lvish_names.specs.OrderLaws.{name_total, name_ties};
+    ghost use Rattle.lvish_names.specs.laws.OrderLaws.{name_total, name_ties};
 
     ghost partial_cmp = { as_partial_cmp (name_cmp E.cmp) };
 
@@ -207,7 +207,7 @@ impl<E: Ord> PartialOrd for TaskName<E> {
 
 impl<E: Ord> Ord for TaskName<E> {
     ghost use Rattle.std.specs.Prelude.{refl};
-    ghost use Rattle.lvish_names.specs.OrderLaws.{name_total, name_ties};
+    ghost use Rattle.lvish_names.specs.laws.OrderLaws.{name_total, name_ties};
 
     ghost cmp = { name_cmp E.cmp };
 
@@ -235,7 +235,7 @@ impl<E: Eq + Hash> Hash for TaskName<E> {
 }
 
 /// Feeds each part to the hasher, the last one first.
-fn feed<E: Eq + Hash, H: Hasher>(parts: &[Part<E>], state: &mut H)
+fn feed<E: Eq + Hash, H: Hasher>(parts: &[NamePart<E>], state: &mut H)
     ensures { state.new ≡ fold H.write state.old (name_input E.hash_input (reverse parts.now)) }
 {
     if let Some((last, before)) = parts.split_last() {

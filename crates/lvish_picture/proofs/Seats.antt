@@ -1,32 +1,29 @@
 -- The handlers of all variables, as one variable or its handlers change.
-use Rattle.std.proofs.Common.{◌≡◌, ◌⊎◌, inl, inr, ℕ, suc, zero, List, [], ◌∷◌, ◌++◌, map, slice_set, slice_get, All, Some, refl, sym, ap, ◌∙◌, subst, arith, append_assoc}
+use Rattle.std.proofs.Common.{◌≡◌, ◌⊎◌, inl, inr, ℕ, suc, zero, List, [], ◌∷◌, ◌++◌, map, slice_set, slice_get, get_or, All, Some, refl, sym, ap, ◌∙◌, subst, arith, append_assoc}
+use Rattle.std.proofs.lemmas.List.Elements.{All-contains, Contains-get_or, Contains-append_left, Contains-append_right, Contains-append_cases}
 use Rattle.lvish_calculus.specs.Handing.{IsAmong}
-use Rattle.lvish_variable.specs.Variable.{View as Variable, logged}
+use Rattle.lvish_calculus.proofs.Sound.{some_is}
+use Rattle.lvish_variable.specs.Variable.{VariableView as Variable, logged}
 use Rattle.lvish_handlers.specs.declared.held.Held.{Held}
-use Rattle.lvish_handlers.specs.Handlers.{View as Handlers}
-use Rattle.lvish_picture.specs.Picture.{Seat, seats, seats_at}
-
-pub some_same : {X : Type 0} {x y : X} → Some x ≡ Some y → x ≡ y
-some_same e = cc
-
-pub none_there : {X : Type 0} (v : ℕ) (x : X) → slice_get [] v ≡ Some x → ⊥
-none_there v x e = cc
+use Rattle.lvish_handlers.specs.Handlers.{HandlersView as Handlers}
+use Rattle.lvish_picture.specs.Picture.{HandlerAtLog, seats, seats_at}
+use Rattle.lvish_picture.proofs.Slots.{contained, among}
 
 module _ {S E : Type 0} where
   -- the handlers of one variable stand between those of the others
   pub record Place (xs : List (Variable S E)) (hss : List (Handlers E)) (v : ℕ) (x : Variable S E) (hs : Handlers E) : Type 0 where
-    pub before : List (Seat E)
-    pub after : List (Seat E)
+    pub before : List (HandlerAtLog E)
+    pub after : List (HandlerAtLog E)
     pub there : seats xs hss ≡ before ++ (seats_at (logged x.log) hs.held ++ after)
     pub handlers : (ks : Handlers E) → seats xs (slice_set hss v ks) ≡ before ++ (seats_at (logged x.log) ks.held ++ after)
     pub variable : (y : Variable S E) → seats (slice_set xs v y) hss ≡ before ++ (seats_at (logged y.log) hs.held ++ after)
 
   pub place : (xs : List (Variable S E)) (hss : List (Handlers E)) (v : ℕ) (x : Variable S E) (hs : Handlers E) → slice_get xs v ≡ Some x → slice_get hss v ≡ Some hs → Place xs hss v x hs
-  place [] hss v x hs a b = absurd (none_there v x a)
-  place (y ∷ xs) [] v x hs a b = absurd (none_there v hs b)
+  place [] hss v x hs a b = absurd (cc a)
+  place (y ∷ xs) [] v x hs a b = absurd (cc b)
   place (y ∷ xs) (ks ∷ hss) zero x hs a b =
-      let e : y ≡ x = some_same a in
-      let f : ks ≡ hs = some_same b in
+      let e : y ≡ x = some_is a in
+      let f : ks ≡ hs = some_is b in
       record {
         before = [];
         after = seats xs hss;
@@ -36,7 +33,7 @@ module _ {S E : Type 0} where
       }
   place (y ∷ xs) (ks ∷ hss) (suc v) x hs a b =
       let g = place xs hss v x hs a b in
-      let first : List (Seat E) = seats_at (logged y.log) ks.held in
+      let first : List (HandlerAtLog E) = seats_at (logged y.log) ks.held in
       record {
         before = first ++ g.before;
         after = g.after;
@@ -46,28 +43,30 @@ module _ {S E : Type 0} where
       }
 
 -- two parts of one variable's handlers
-pub parted : {E : Type 0} (log : List E) (hb ha : List (Held E)) (after : List (Seat E)) → seats_at log (hb ++ ha) ++ after ≡ seats_at log hb ++ (seats_at log ha ++ after)
+pub parted : {E : Type 0} (log : List E) (hb ha : List (Held E)) (after : List (HandlerAtLog E)) → seats_at log (hb ++ ha) ++ after ≡ seats_at log hb ++ (seats_at log ha ++ after)
 parted log [] ha after = refl
 parted log (h ∷ hb) ha after = ap (λ l. record { log = log; held = h } ∷ l) (parted log hb ha after)
 
-pub middle : {E : Type 0} (log : List E) (held hb ha : List (Held E)) (before after : List (Seat E)) → held ≡ hb ++ ha → before ++ (seats_at log held ++ after) ≡ (before ++ seats_at log hb) ++ (seats_at log ha ++ after)
+pub middle : {E : Type 0} (log : List E) (held hb ha : List (Held E)) (before after : List (HandlerAtLog E)) → held ≡ hb ++ ha → before ++ (seats_at log held ++ after) ≡ (before ++ seats_at log hb) ++ (seats_at log ha ++ after)
 middle log held hb ha before after e =
     ap (λ l. before ++ (seats_at log l ++ after)) e ∙ ap (λ l. before ++ l) (parted log hb ha after) ∙ sym (append_assoc before (seats_at log hb) (seats_at log ha ++ after))
 
 -- elements of two lists, and of lists of handlers
 pub among_append : {X : Type 0} (x : X) (ys zs : List X) → IsAmong x (ys ++ zs) → IsAmong x ys ⊎ IsAmong x zs
-among_append x [] zs h = inr h
-among_append x (y ∷ ys) zs (inl e) = inl (inl e)
-among_append x (y ∷ ys) zs (inr h) = elim (among_append x ys zs h) [ inl z ↦ inl (inr z) | inr z ↦ inr z ]
+among_append x ys zs h = elim (Contains-append_cases ys zs x (contained (ys ++ zs) x h)) [ inl z ↦ inl (among ys x z) | inr z ↦ inr (among zs x z) ]
 
 pub among_left : {X : Type 0} (x : X) (ys zs : List X) → IsAmong x ys → IsAmong x (ys ++ zs)
-among_left x [] zs h = absurd h
-among_left x (y ∷ ys) zs (inl e) = inl e
-among_left x (y ∷ ys) zs (inr h) = inr (among_left x ys zs h)
+among_left x ys zs h = among (ys ++ zs) x (Contains-append_left ys zs x (contained ys x h))
 
 pub among_right : {X : Type 0} (x : X) (ys zs : List X) → IsAmong x zs → IsAmong x (ys ++ zs)
-among_right x [] zs h = h
-among_right x (y ∷ ys) zs h = inr (among_right x ys zs h)
+among_right x ys zs h = among (ys ++ zs) x (Contains-append_right ys zs x (contained zs x h))
+
+-- an element of a list with one more, or with another in its place
+pub among_mid : {X : Type 0} (x y : X) (before after : List X) → IsAmong x (before ++ y ∷ after) → (x ≡ y) ⊎ IsAmong x (before ++ after)
+among_mid x y before after h = elim (among_append x before (y ∷ after) h) [ inl z ↦ inr (among_left x before after z) | inr (inl e) ↦ inl e | inr (inr z) ↦ inr (among_right x before after z) ]
+
+pub among_other : {X : Type 0} (x y : X) (before after : List X) → IsAmong x (before ++ after) → IsAmong x (before ++ y ∷ after)
+among_other x y before after h = elim (among_append x before after h) [ inl z ↦ among_left x before (y ∷ after) z | inr z ↦ among_right x before (y ∷ after) (inr z) ]
 
 pub among_map : {X Y : Type 0} (f : X → Y) (x : X) (xs : List X) → IsAmong x xs → IsAmong (f x) (map f xs)
 among_map f x [] h = absurd h
@@ -75,23 +74,19 @@ among_map f x (y ∷ xs) (inl e) = inl (ap f e)
 among_map f x (y ∷ xs) (inr h) = inr (among_map f x xs h)
 
 pub all_among : {X : Type 0} (P : X → Type 0) (x : X) (xs : List X) → All P xs → IsAmong x xs → P x
-all_among P x [] all h = absurd h
-all_among P x (y ∷ xs) all (inl e) = subst P (sym e) (all 0 y (omega arith))
-all_among P x (y ∷ xs) all (inr h) = all_among P x xs (λ k d lt. all (suc k) d (omega arith)) h
+all_among P x xs all h = All-contains P xs x all (contained xs x h)
 
 pub among_all : {X : Type 0} (P : X → Type 0) (xs : List X) → ((x : X) → IsAmong x xs → P x) → All P xs
-among_all P [] h k d lt = absurd (omega arith)
-among_all P (x ∷ xs) h zero d lt = h x (inl refl)
-among_all P (x ∷ xs) h (suc k) d lt = among_all P xs (λ y z. h y (inr z)) k d (omega arith)
+among_all P xs h k d lt = h (get_or xs k d) (among xs (get_or xs k d) (Contains-get_or xs k d lt))
 
-at_log : {E : Type 0} (log : List E) (held : List (Held E)) (s : Seat E) → IsAmong s (seats_at log held) → (s.log ≡ log) × IsAmong s.held held
+at_log : {E : Type 0} (log : List E) (held : List (Held E)) (s : HandlerAtLog E) → IsAmong s (seats_at log held) → (s.log ≡ log) × IsAmong s.held held
 at_log log [] s h = absurd h
-at_log {E} log (k ∷ held) s (inl e) = (ap (λ (r : Seat E). r.log) e, inl (ap (λ (r : Seat E). r.held) e))
+at_log {E} log (k ∷ held) s (inl e) = (ap (λ (r : HandlerAtLog E). r.log) e, inl (ap (λ (r : HandlerAtLog E). r.held) e))
 at_log log (k ∷ held) s (inr h) = let g = at_log log held s h in (g.0, inr g.1)
 
 module _ {S E : Type 0} where
   -- where a handler is
-  pub record Found (xs : List (Variable S E)) (hss : List (Handlers E)) (s : Seat E) : Type 0 where
+  pub record Found (xs : List (Variable S E)) (hss : List (Handlers E)) (s : HandlerAtLog E) : Type 0 where
     pub variable : ℕ
     pub at : Variable S E
     pub at_is : slice_get xs variable ≡ Some at
@@ -100,7 +95,7 @@ module _ {S E : Type 0} where
     pub log : s.log ≡ logged at.log
     pub held : IsAmong s.held hs.held
 
-  pub find_seat : (xs : List (Variable S E)) (hss : List (Handlers E)) (s : Seat E) → IsAmong s (seats xs hss) → Found xs hss s
+  pub find_seat : (xs : List (Variable S E)) (hss : List (Handlers E)) (s : HandlerAtLog E) → IsAmong s (seats xs hss) → Found xs hss s
   find_seat [] hss s h = absurd h
   find_seat (x ∷ xs) [] s h = absurd h
   find_seat (x ∷ xs) (hs ∷ hss) s h = elim (among_append s (seats_at (logged x.log) hs.held) (seats xs hss) h) [

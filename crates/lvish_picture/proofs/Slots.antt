@@ -1,10 +1,14 @@
 -- Reads of a list after a write, and its elements.
-use Rattle.std.proofs.Common.{◌≡◌, ◌⊎◌, ◌↔◌, inl, inr, ℕ, suc, zero, ◌<◌, Bool, true, false, List, [], ◌∷◌, ◌++◌, length, filter, Contains, slice_set, slice_get, Option, Some, option_map, unwrap_or, nat_eq, if◌then◌else◌, refl, sym, ap, ◌∙◌, subst, arith}
+use Rattle.std.proofs.Common.{◌≡◌, ◌⊎◌, ◌↔◌, inl, inr, ℕ, suc, zero, ◌<◌, Bool, true, false, List, [], ◌∷◌, ◌++◌, length, filter, Contains, slice_set, slice_get, Option, Some, option_map, unwrap_or, nat_eq, if◌then◌else◌, refl, sym, ap, ◌∙◌, subst, arith, get_or, take, length-take}
 use Rattle.std.proofs.lemmas.Bool.{cases_Bool, both_ways}
+use Rattle.std.proofs.lemmas.List.Elements.{Contains-append_right}
 use Rattle.std.proofs.lemmas.Option.{slice_get_within}
+use Rattle.std.proofs.lemmas.List.{get_or-take}
+use Rattle.std.proofs.lemmas.Map.Made.{is_member-Decides}
+use Rattle.std.specs.Set.{is_member}
 use Rattle.lvish_calculus.specs.Handing.{IsAmong}
 use Rattle.lvish_calculus.proofs.Names.{nat_eq-true, nat_eq-refl}
-use Rattle.lvish_picture.proofs.Seats.{some_same}
+use Rattle.lvish_calculus.proofs.Sound.{some_is}
 
 get_same : {X : Type 0} (xs : List X) (v : ℕ) (x : X) → v < length xs → slice_get (slice_set xs v x) v ≡ Some x
 get_same [] v x lt = absurd (omega arith)
@@ -32,7 +36,7 @@ pub data Read {X : Type 0} (xs : List X) (v : ℕ) (x : X) (w : ℕ) (y : X) : T
 pub read : {X : Type 0} (xs : List X) (v : ℕ) (x : X) (w : ℕ) (y : X) → v < length xs → slice_get (slice_set xs v x) w ≡ Some y → Read xs v x w y
 read xs v x w y lt e = elim (cases_Bool (nat_eq w v)) [
   | inl b ↦ let wv : w ≡ v = nat_eq-true w v b in
-      written wv (some_same (sym e ∙ ap (slice_get (slice_set xs v x)) wv ∙ get_same xs v x lt))
+      written wv (some_is (sym e ∙ ap (slice_get (slice_set xs v x)) wv ∙ get_same xs v x lt))
   | inr b ↦ let ne : w ≡ v → ⊥ = (λ z. both_ways _ b (subst (λ u. nat_eq w u ≡ true) z (nat_eq-refl w))) in
       earlier ne (sym (get_other xs v x w ne) ∙ e)
 ]
@@ -88,17 +92,15 @@ among_filter {X} p x (y ∷ xs) = by (among_filter p x xs) (p y) refl
       λ z. elim (z.0) [ inl q ↦ absurd (both_ways _ e (sym (ap p q) ∙ z.1)) | inr q ↦ ih.1 (q, z.1) ],
     )
 
--- an element of a list with one more, or with another in its place
-pub among_mid : {X : Type 0} (x y : X) (before after : List X) → IsAmong x (before ++ y ∷ after) → (x ≡ y) ⊎ IsAmong x (before ++ after)
-among_mid x y [] after h = h
-among_mid x y (z ∷ before) after (inl e) = inr (inl e)
-among_mid x y (z ∷ before) after (inr h) = elim (among_mid x y before after h) [ inl e ↦ inl e | inr q ↦ inr (inr q) ]
-
-pub among_other : {X : Type 0} (x y : X) (before after : List X) → IsAmong x (before ++ after) → IsAmong x (before ++ y ∷ after)
-among_other x y [] after h = inr h
-among_other x y (z ∷ before) after (inl e) = inl e
-among_other x y (z ∷ before) after (inr h) = inr (among_other x y before after h)
-
 pub among_here : {X : Type 0} (y : X) (before after : List X) → IsAmong y (before ++ y ∷ after)
-among_here y [] after = inl refl
-among_here y (z ∷ before) after = inr (among_here y before after)
+among_here y before after = among (before ++ y ∷ after) y (Contains-append_right before (y ∷ after) y (0, omega arith, refl))
+
+pub cases_3 : (a b : ℕ) → (a < b) ⊎ ((a ≡ b) ⊎ (b < a))
+cases_3 a b = grind arith
+
+pub in_take : {X : Type 0} (xs : List X) (n k : ℕ) (x : X) → k < n → k < length xs → get_or xs k x ≡ x → Contains (take n xs) x
+in_take xs n k x lt ins is = (k, simp length-take (omega arith), get_or-take n xs k x lt ∙ is)
+
+-- a list has an element or not
+pub has_or_not : {X : Type 0} (eq : X → X → Bool) (same : (x y : X) → (eq x y ≡ true) ↔ (x ≡ y)) (xs : List X) (x : X) → Contains xs x ⊎ (Contains xs x → ⊥)
+has_or_not eq same xs x = let decides = is_member-Decides same xs x in elim (cases_Bool (is_member eq xs x)) [ inl b ↦ inl (decides.0 b) | inr b ↦ inr (λ z. both_ways _ b (decides.1 z)) ]

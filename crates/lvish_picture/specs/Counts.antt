@@ -2,37 +2,38 @@
 use Rattle.std.specs.Prelude.{◌≡◌, ◌↔◌, ◌<◌, ◌≤◌, ◌+◌, ◌-◌, ℕ, Bool, false, List, [], Option, Some, None, All, length, nat_eq, if◌then◌else◌, option_and_then, option_map, slice_get, slice_index, slice_set}
 use Rattle.lvish_calculus.specs.declared.label.Label.{Label}
 use Rattle.lvish_calculus.specs.Machine.{Machine, IsOf}
-use Rattle.lvish_calculus.specs.Calculus.{Name, handed, Handler, handler_of, Task, Live, Ended, State, IsLive, IsIn, IsQuiet, start}
+use Rattle.lvish_calculus.specs.Calculus.{Task, Live, Ended, State, IsLive, IsIn, IsQuiet, start}
+use Rattle.lvish_names.specs.Names.{Name, handed, Handler, handler_of}
 use Rattle.lvish_calculus.specs.Handing.{IsAmong, NoRepeats}
-use Rattle.lvish_variable.specs.Variable.{View as Variable}
+use Rattle.lvish_variable.specs.Variable.{VariableView as Variable}
 use Rattle.lvish_handlers.specs.declared.held.Held.{Held}
-use Rattle.lvish_handlers.specs.Handlers.{View as Handlers}
-use Rattle.lvish_picture.specs.Picture.{Table, picture, IsPictured}
-use Rattle.lvish_picture.specs.Steps.{IsPlainStep, IsHandStep, IsBegun}
+use Rattle.lvish_handlers.specs.Handlers.{HandlersView as Handlers}
+use Rattle.lvish_picture.specs.Picture.{Table, table_picture, IsPictured}
+use Rattle.lvish_picture.specs.Steps.{IsPlainStep, IsHandStep, IsTableBegun}
 
 -- the pool of a task: that of the handler to which its name leads
 abbrev pub pool_of : {S E L : Type 0} → State S E L → Name E → Option ℕ
 pool_of c t = option_and_then (λ h. option_map (λ post. post.pool) (c.handlers h)) (handler_of t)
 
--- n live tasks are in the pool: so long is a list, without repeats, of just their names
-pub record HasRunning {S E L : Type 0} (c : State S E L) (pool n : ℕ) : Type 0 where
+-- n live tasks are in the pool: n is the length of a list, without repeats, of exactly their names
+pub record PoolHasRunning {S E L : Type 0} (c : State S E L) (pool n : ℕ) : Type 0 where
   pub names : List (Name E)
   pub once : NoRepeats names
   pub just : (t : Name E) → IsAmong t names ↔ (IsLive (c.tasks t) × (pool_of c t ≡ Some pool))
   pub count : length names ≡ n
 
 -- each variable counts the tasks that run in its pools
-abbrev pub IsCounted : {S E R A L : Type 0} → Machine S E R A L → Table S E L → Type 0
-IsCounted {S} {E} M c = (v : ℕ) (hs : Handlers E) (p : ℕ) → slice_get c.handlers v ≡ Some hs → M.pool_variable p ≡ Some v → (p < length hs.running) × HasRunning (picture M c) p (slice_index hs.running p)
+abbrev pub CountsRunning : {S E R A L : Type 0} → Machine S E R A L → Table S E L → Type 0
+CountsRunning {S} {E} M c = (v : ℕ) (hs : Handlers E) (p : ℕ) → slice_get c.handlers v ≡ Some hs → M.pool_variable p ≡ Some v → (p < length hs.running) × PoolHasRunning (table_picture M c) p (slice_index hs.running p)
 
 -- whether this is the pool, of a task that may be in none
-abbrev pub is_pool : Option ℕ → ℕ → Bool
-is_pool None p = false
-is_pool (Some q) p = nat_eq q p
+abbrev pub is_this_pool : Option ℕ → ℕ → Bool
+is_this_pool None p = false
+is_this_pool (Some q) p = nat_eq q p
 
 -- 1 where this is the task's pool, else 0
 abbrev pub one_in : {S E L : Type 0} → State S E L → Name E → ℕ → ℕ
-one_in c t p = if is_pool (pool_of c t) p then 1 else 0
+one_in c t p = if is_this_pool (pool_of c t) p then 1 else 0
 
 -- how many tasks of the pool start, where this one is made
 abbrev pub starts : {S E L : Type 0} → State S E L → Option (Name E × Task L) → ℕ → ℕ
@@ -51,40 +52,40 @@ AreCounts {S} {E} M c own made old new = (v : ℕ) (ks : Handlers E) (p : ℕ) �
 
 -- what a task does keeps the counts, where it is of this kind
 abbrev pub ActCounted : {S E R A L : Type 0} → (Machine S E R A L → Table S E L → Name E → Table S E L → Type 0) → Machine S E R A L → Type 0
-ActCounted {S} {E} {R} {A} {L} IsOfKind M = (xs : List (Label E)) (c d : Table S E L) (t : Name E) → IsPictured M c xs → IsCounted M c → IsOfKind M c t d → IsCounted M d
+ActCounted {S} {E} {R} {A} {L} IsOfKind M = (xs : List (Label E)) (c d : Table S E L) (t : Name E) → IsPictured M c xs → CountsRunning M c → IsOfKind M c t d → CountsRunning M d
 
 -- a get, a fork, a pause or an end keeps the counts, where they follow the tasks that it makes and ends
 abbrev pub PlainCounted : {S E R A L : Type 0} → Machine S E R A L → Type 0
-PlainCounted {S} {E} {R} {A} {L} M = (xs : List (Label E)) (c d : Table S E L) (t : Name E) → IsPictured M c xs → IsCounted M c → (s : IsPlainStep M c t d)
-    → AreCounts M (picture M c) s.own s.made c.handlers d.handlers → IsCounted M d
+PlainCounted {S} {E} {R} {A} {L} M = (xs : List (Label E)) (c d : Table S E L) (t : Name E) → IsPictured M c xs → CountsRunning M c → (s : IsPlainStep M c t d)
+    → AreCounts M (table_picture M c) s.own s.made c.handlers d.handlers → CountsRunning M d
 
--- what is handed keeps the counts, where they follow the task that starts
+-- a handing keeps the counts, where they follow the task that starts
 abbrev pub HandCounted : {S E R A L : Type 0} → Machine S E R A L → Type 0
-HandCounted {S} {E} {R} {A} {L} M = (xs : List (Label E)) (c d : Table S E L) (h : Handler E) (e : E) → IsPictured M c xs → IsCounted M c → (s : IsHandStep M c h e d)
-    → AreCounts M (picture M c) None (Some (handed h.adder h.number e, Live (M.start_handler s.advanced.handler.procedure e) 0 0 0)) c.handlers d.handlers → IsCounted M d
+HandCounted {S} {E} {R} {A} {L} M = (xs : List (Label E)) (c d : Table S E L) (h : Handler E) (e : E) → IsPictured M c xs → CountsRunning M c → (s : IsHandStep M c h e d)
+    → AreCounts M (table_picture M c) None (Some (handed h.adder h.number e, Live (M.start_handler s.advanced.handler.procedure e) 0 0 0)) c.handlers d.handlers → CountsRunning M d
 
 -- a freeze can be made exactly where v's cursors are at the log's end and the counts of the pools are 0
 abbrev pub FreezesByCounts : {S E R A L : Type 0} → Machine S E R A L → Type 0
-FreezesByCounts {S} {E} {R} {A} {L} M = (xs : List (Label E)) (c : Table S E L) (v : ℕ) (x : Variable S E) (hs : Handlers E) (pools : List ℕ) → IsPictured M c xs → IsCounted M c
+FreezesByCounts {S} {E} {R} {A} {L} M = (xs : List (Label E)) (c : Table S E L) (v : ℕ) (x : Variable S E) (hs : Handlers E) (pools : List ℕ) → IsPictured M c xs → CountsRunning M c
     → slice_get c.variables v ≡ Some x → slice_get c.handlers v ≡ Some hs → IsOf M pools v
-    → (All (λ h. h.handed ≡ length x.log) hs.held × All (λ p. slice_index hs.running p ≡ 0) pools) ↔ IsQuiet M (picture M c) v pools
+    → (All (λ h. h.handed ≡ length x.log) hs.held × All (λ p. slice_index hs.running p ≡ 0) pools) ↔ IsQuiet M (table_picture M c) v pools
 
 -- the counts of the pools are 0 exactly where every task of these pools has ended
 abbrev pub EndedByCounts : {S E R A L : Type 0} → Machine S E R A L → Type 0
-EndedByCounts {S} {E} {R} {A} {L} M = (c : Table S E L) (v : ℕ) (hs : Handlers E) (pools : List ℕ) → IsCounted M c → slice_get c.handlers v ≡ Some hs → IsOf M pools v
-    → All (λ p. slice_index hs.running p ≡ 0) pools ↔ ((t : Name E) → IsIn (picture M c) t pools → IsLive ((picture M c).tasks t) → ⊥)
+EndedByCounts {S} {E} {R} {A} {L} M = (c : Table S E L) (v : ℕ) (hs : Handlers E) (pools : List ℕ) → CountsRunning M c → slice_get c.handlers v ≡ Some hs → IsOf M pools v
+    → All (λ p. slice_index hs.running p ≡ 0) pools ↔ ((t : Name E) → IsIn (table_picture M c) t pools → IsLive ((table_picture M c).tasks t) → ⊥)
 
 -- a table at the start stands for the calculus's start, which the empty run leads to, and its counts are right
 abbrev pub BegunIsPictured : {S E R A L : Type 0} → Machine S E R A L → Type 0
-BegunIsPictured {S} {E} {R} {A} {L} M = (pools : ℕ) (c : Table S E L) → IsBegun M pools c → (picture M c ≡ start M) × IsPictured M c [] × IsCounted M c
+BegunIsPictured {S} {E} {R} {A} {L} M = (pools : ℕ) (c : Table S E L) → IsTableBegun M pools c → (table_picture M c ≡ start M) × IsPictured M c [] × CountsRunning M c
 
 -- no more tasks run in a pool than steps were made
 abbrev pub FewRun : {S E R A L : Type 0} → Machine S E R A L → Type 0
-FewRun {S} {E} {R} {A} {L} M = (xs : List (Label E)) (c : Table S E L) (p n : ℕ) → IsPictured M c xs → HasRunning (picture M c) p n → n ≤ length xs
+FewRun {S} {E} {R} {A} {L} M = (xs : List (Label E)) (c : Table S E L) (p n : ℕ) → IsPictured M c xs → PoolHasRunning (table_picture M c) p n → n ≤ length xs
 
 -- where a live task is in a pool, some task runs in it
 abbrev pub SomeRun : {S E R A L : Type 0} → Machine S E R A L → Type 0
-SomeRun {S} {E} {R} {A} {L} M = (c : Table S E L) (t : Name E) (p n : ℕ) → HasRunning (picture M c) p n → IsLive ((picture M c).tasks t) → pool_of (picture M c) t ≡ Some p → 0 < n
+SomeRun {S} {E} {R} {A} {L} M = (c : Table S E L) (t : Name E) (p n : ℕ) → PoolHasRunning (table_picture M c) p n → IsLive ((table_picture M c).tasks t) → pool_of (table_picture M c) t ≡ Some p → 0 < n
 
 -- a task that starts in the pool q of v is followed where v counts one more in q
 abbrev pub StartIsFollowed : {S E R A L : Type 0} → Machine S E R A L → Type 0

@@ -4,12 +4,13 @@ use Rattle.std.specs.List.{find, list_any}
 use Rattle.std.specs.Set.{is_member}
 use Rattle.lvish_calculus.specs.Machine.{Machine}
 use Rattle.lvish_calculus.specs.declared.label.Label.{Label}
-use Rattle.lvish_calculus.specs.Calculus.{Name, Handler, Task, Absent, Post, State, same_name, same_handler}
+use Rattle.lvish_calculus.specs.Calculus.{Task, Absent, Post, State}
+use Rattle.lvish_names.specs.Names.{Name, Handler, same_name, same_handler}
 use Rattle.lvish_calculus.specs.Laws.{Reaches}
-use Rattle.lvish_calculus.specs.Handing.{IsCoreRun, NoRepeats}
-use Rattle.lvish_variable.specs.Variable.{View as Variable, logged}
+use Rattle.lvish_calculus.specs.Handing.{HandsOldestFirst, NoRepeats}
+use Rattle.lvish_variable.specs.Variable.{VariableView as Variable, logged}
 use Rattle.lvish_handlers.specs.declared.held.Held.{Held}
-use Rattle.lvish_handlers.specs.Handlers.{View as Handlers, IsWithin}
+use Rattle.lvish_handlers.specs.Handlers.{HandlersView as Handlers, IsWithin}
 use Rattle.lvish_picture.specs.Logs.{IsInOrder}
 
 -- each variable, the handlers of each, and each task under its name
@@ -19,25 +20,25 @@ pub record Table (S E L : Type 0) : Type 0 where
   pub tasks : List (Name E × Task L)
 
 -- a handler, beside the events of its variable's log
-pub record Seat (E : Type 0) : Type 0 where
+pub record HandlerAtLog (E : Type 0) : Type 0 where
   pub log : List E
   pub held : Held E
 
 -- handlers of one variable
-abbrev pub seats_at : {E : Type 0} → List E → List (Held E) → List (Seat E)
+abbrev pub seats_at : {E : Type 0} → List E → List (Held E) → List (HandlerAtLog E)
 seats_at log held = map (λ h. record { log = log; held = h }) held
 
 -- the handlers of all variables
-abbrev pub seats : {S E : Type 0} → List (Variable S E) → List (Handlers E) → List (Seat E)
+abbrev pub seats : {S E : Type 0} → List (Variable S E) → List (Handlers E) → List (HandlerAtLog E)
 seats (x ∷ xs) (hs ∷ hss) = seats_at (logged x.log) hs.held ++ seats xs hss
 seats _ _ = []
 
 -- the handler's pool and procedure, if it is there
-abbrev pub post_in : {E : Type 0} → (E → E → Bool) → List (Seat E) → Handler E → Option Post
+abbrev pub post_in : {E : Type 0} → (E → E → Bool) → List (HandlerAtLog E) → Handler E → Option Post
 post_in eq ss h = option_map (λ s. record { pool = s.held.pool; procedure = s.held.procedure }) (find (λ s. same_handler eq h s.held.name) ss)
 
 -- e is among the first entries of the log of h's variable, as many as h was handed
-abbrev pub handled_in : {E : Type 0} → (E → E → Bool) → List (Seat E) → Handler E → E → Bool
+abbrev pub handled_in : {E : Type 0} → (E → E → Bool) → List (HandlerAtLog E) → Handler E → E → Bool
 handled_in eq ss h e = list_any (λ s. same_handler eq h s.held.name && is_member eq (take s.held.handed s.log) e) ss
 
 -- what runs under a name
@@ -45,9 +46,9 @@ abbrev pub task_of : {E L : Type 0} → (E → E → Bool) → List (Name E × T
 task_of eq [] t = Absent
 task_of eq (x ∷ xs) t = if same_name eq t x.0 then x.1 else task_of eq xs t
 
--- the configuration that the table stands for; variables that it hasn't are at bottom and unfrozen
-abbrev pub picture : {S E R A L : Type 0} → Machine S E R A L → Table S E L → State S E L
-picture M c = record {
+-- the configuration that the table stands for; variables that it does not have are at bottom and unfrozen
+abbrev pub table_picture : {S E R A L : Type 0} → Machine S E R A L → Table S E L → State S E L
+table_picture M c = record {
   content = λ v. unwrap_or (option_map (λ x. x.state) (slice_get c.variables v)) M.bottom;
   frozen = λ v. unwrap_or (option_map (λ x. x.frozen) (slice_get c.variables v)) false;
   tasks = task_of M.event_same c.tasks;
@@ -61,20 +62,20 @@ pub record IsTable {S E R A L : Type 0} (M : Machine S E R A L) (c : Table S E L
   pub beside : length c.handlers ≡ length c.variables
   -- no handler was handed more entries than the log has
   pub within : (v : ℕ) (x : Variable S E) (hs : Handlers E) → slice_get c.variables v ≡ Some x → slice_get c.handlers v ≡ Some hs → IsWithin hs x.log
-  -- of all handlers no two have one name
+  -- no two handlers have the same name
   pub once : NoRepeats (map (λ s. s.held.name) (seats c.variables c.handlers))
   -- each handler's pool is one of its variable
   pub own : (v : ℕ) (hs : Handlers E) → slice_get c.handlers v ≡ Some hs → All (λ h. M.pool_variable h.pool ≡ Some v) hs.held
 
--- the run xs is a core run to the picture, each log has that run's events in the order of their introduction, and the table is one
+-- the run xs is a core run to the picture, each log has that run's events in the order of their introduction, and `IsTable` holds
 pub record IsPictured {S E R A L : Type 0} (M : Machine S E R A L) (c : Table S E L) (xs : List (Label E)) : Type 0 where
-  pub reached : Reaches M xs (picture M c)
-  pub core : IsCoreRun M xs
-  pub logs : (v : ℕ) (x : Variable S E) → slice_get c.variables v ≡ Some x → IsInOrder M xs (picture M c) v (logged x.log)
+  pub reached : Reaches M xs (table_picture M c)
+  pub core : HandsOldestFirst M xs
+  pub logs : (v : ℕ) (x : Variable S E) → slice_get c.variables v ≡ Some x → IsInOrder M xs (table_picture M c) v (logged x.log)
   pub table : IsTable M c
 
 -- a core run of n labels leads to the picture
-pub record IsReached {S E R A L : Type 0} (M : Machine S E R A L) (c : Table S E L) (n : ℕ) : Type 0 where
+pub record IsTableReached {S E R A L : Type 0} (M : Machine S E R A L) (c : Table S E L) (n : ℕ) : Type 0 where
   pub run : List (Label E)
   pub count : length run ≡ n
   pub pictured : IsPictured M c run

@@ -4,24 +4,25 @@ use Rattle.lvish_calculus.specs.declared.request.ErrorKind.{ErrorKind}
 use Rattle.lvish_calculus.specs.declared.request.ErrorKind.TheVariants.{Conflict, Frozen, Late, Deep}
 use Rattle.lvish_calculus.specs.declared.request.Request.{Request}
 use Rattle.lvish_calculus.specs.declared.request.Request.TheVariants.{Put, Fork, Add, Freeze, Fault}
-use Rattle.lvish_calculus.specs.declared.request.Reply.TheVariants.{Done, Frozen as Content}
+use Rattle.lvish_calculus.specs.declared.request.Reply.TheVariants.{Done, Content}
 use Rattle.lvish_calculus.specs.Machine.{Machine}
-use Rattle.lvish_calculus.specs.Calculus.{Name, Handler, handed, Task, Live, Changes, IsReady, IsQuiet, is_deep, request_outcome, start, with_task}
+use Rattle.lvish_calculus.specs.Calculus.{Task, Live, Changes, IsReady, IsQuiet, request_effect, start, with_task}
+use Rattle.lvish_names.specs.Names.{Name, Handler, handed, is_deep}
 use Rattle.lvish_variable.specs.declared.put_fault.PutFault.TheVariants.{Conflict as PutConflict, Frozen as PutFrozen}
-use Rattle.lvish_variable.specs.Variable.{View as Variable, IsPut, IsRefused}
-use Rattle.lvish_handlers.specs.Handlers.{View as Handlers, IsAdded, IsAdvanced, next_of}
-use Rattle.lvish_picture.specs.Picture.{Table, picture, task_of}
+use Rattle.lvish_variable.specs.Variable.{VariableView as Variable, IsPut, IsPutRefused}
+use Rattle.lvish_handlers.specs.Handlers.{HandlersView as Handlers, IsAdded, IsAdvanced, next_of}
+use Rattle.lvish_picture.specs.Picture.{Table, table_picture, task_of}
 
 -- the task t is in the local state l, with these numbers of forks, adds and puts, and asks for r
 pub record IsAsking {S E R A L : Type 0} (M : Machine S E R A L) (c : Table S E L) (t : Name E) (l : L) (forks adds puts : ℕ) (r : Request S R L) : Type 0 where
   pub live : task_of M.event_same c.tasks t ≡ Live l forks adds puts
   pub asked : M.request l ≡ r
 
--- the tasks are the old ones, but for the acting one and a new one
+-- the tasks are the old ones, except for the acting one and a new one
 abbrev pub AreTasks : {E L : Type 0} → (E → E → Bool) → List (Name E × Task L) → Option (Name E × Task L) → Option (Name E × Task L) → List (Name E × Task L) → Type 0
 AreTasks {E} eq old own made new = (u : Name E) → task_of eq new u ≡ with_task eq own (with_task eq made (task_of eq old)) u
 
--- the handlers in each place are the old ones, with their cursors; the numbers of running tasks may be others
+-- the handlers in each place are the old ones, with their cursors; the numbers of running tasks may differ
 abbrev pub AreHeld : {E : Type 0} → List (Handlers E) → List (Handlers E) → Type 0
 AreHeld old new = map (λ hs. hs.held) new ≡ map (λ hs. hs.held) old
 
@@ -51,7 +52,7 @@ pub record IsFreezeStep {S E R A L : Type 0} (M : Machine S E R A L) (c : Table 
   pub variable : ℕ
   pub pools : List ℕ
   pub asking : IsAsking M c t local forks adds puts (Freeze variable pools)
-  pub quiet : IsQuiet M (picture M c) variable pools
+  pub quiet : IsQuiet M (table_picture M c) variable pools
   pub old : Variable S E
   pub was : slice_get c.variables variable ≡ Some old
   pub variables : d.variables ≡ slice_set c.variables variable (record { state = old.state; frozen = true; log = old.log })
@@ -89,10 +90,10 @@ pub record IsPlainStep {S E R A L : Type 0} (M : Machine S E R A L) (c : Table S
   pub puts : ℕ
   pub request : Request S R L
   pub asking : IsAsking M c t local forks adds puts request
-  pub ready : IsReady M (picture M c) request
+  pub ready : IsReady M (table_picture M c) request
   pub own : Option (Name E × Task L)
   pub made : Option (Name E × Task L)
-  pub does : request_outcome M (picture M c) t (M.at local) forks adds puts request ≡ Changes (record { own = own; made = made; added = None; joined = None; froze = None; handing = None })
+  pub does : request_effect M (table_picture M c) t (M.at local) forks adds puts request ≡ Changes (record { own = own; made = made; added = None; joined = None; froze = None; handing = None })
   pub variables : d.variables ≡ c.variables
   pub handlers : AreHeld c.handlers d.handlers
   pub tasks : AreTasks M.event_same c.tasks own made d.tasks
@@ -111,10 +112,10 @@ pub record IsHandStep {S E R A L : Type 0} (M : Machine S E R A L) (c : Table S 
   pub handlers : AreHeld (slice_set c.handlers variable new) d.handlers
   pub tasks : AreTasks M.event_same c.tasks None (Some (handed h.adder h.number e, Live (M.start_handler advanced.handler.procedure e) 0 0 0)) d.tasks
 
--- t asks for what is an error, as the variable and the task's name tell
+-- t's request is an error, as the variable and the task's name show
 abbrev pub IsErring : {S E R A L : Type 0} → Machine S E R A L → Table S E L → Name E → Request S R L → ErrorKind → Option ℕ → Type 0
-IsErring {S} {E} M c t (Put v put) Conflict o = (old : Variable S E) × (slice_get c.variables v ≡ Some old) × IsRefused M.join put old PutConflict × (o ≡ Some v)
-IsErring {S} {E} M c t (Put v put) Frozen o = (old : Variable S E) × (slice_get c.variables v ≡ Some old) × IsRefused M.join put old PutFrozen × (o ≡ Some v)
+IsErring {S} {E} M c t (Put v put) Conflict o = (old : Variable S E) × (slice_get c.variables v ≡ Some old) × IsPutRefused M.join put old PutConflict × (o ≡ Some v)
+IsErring {S} {E} M c t (Put v put) Frozen o = (old : Variable S E) × (slice_get c.variables v ≡ Some old) × IsPutRefused M.join put old PutFrozen × (o ≡ Some v)
 IsErring M c t (Fork child) Deep o = (is_deep t ≡ true) × (o ≡ None)
 IsErring M c t (Add pool procedure) Deep o = (is_deep t ≡ true) × (o ≡ None)
 IsErring {S} {E} M c t (Add pool procedure) Late o =
@@ -122,8 +123,8 @@ IsErring {S} {E} M c t (Add pool procedure) Late o =
 IsErring M c t (Fault kind) k o = (k ≡ kind) × (o ≡ None)
 IsErring M c t _ _ o = ⊥
 
--- every variable at bottom, unfrozen and with no log, no handler, no task in any of so many pools, and main alone in its first local state
-pub record IsBegun {S E R A L : Type 0} (M : Machine S E R A L) (pools : ℕ) (c : Table S E L) : Type 0 where
+-- every variable at bottom, unfrozen and with no log, no handler, this many pools with no task, and main alone in its first local state
+pub record IsTableBegun {S E R A L : Type 0} (M : Machine S E R A L) (pools : ℕ) (c : Table S E L) : Type 0 where
   pub variables : (v : ℕ) (x : Variable S E) → slice_get c.variables v ≡ Some x → x ≡ record { state = M.bottom; frozen = false; log = [] }
   pub beside : length c.handlers ≡ length c.variables
   pub handlers : (v : ℕ) (hs : Handlers E) → slice_get c.handlers v ≡ Some hs → hs ≡ record { held = []; running = replicate pools 0 }

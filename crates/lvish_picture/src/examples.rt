@@ -1,9 +1,10 @@
 //! A worked example: a table, and the configuration that it stands for.
 
 ghost use Rattle.std.specs.Prelude.{◌≡◌, [], ◌∷◌, Some, true, false};
-ghost use Rattle.lvish_calculus.specs.Calculus.{main, handed, Absent, Live};
+ghost use Rattle.lvish_calculus.specs.Calculus.{Absent, Live};
+ghost use Rattle.lvish_names.specs.Names.{main, handed};
 ghost use Rattle.lvish_calculus.specs.Examples.{copying, copier, handing, numbers, over_sets};
-ghost use Rattle.lvish_picture.specs.Counts.{IsCounted};
+ghost use Rattle.lvish_picture.specs.Counts.{CountsRunning};
 ghost use Rattle.lvish_picture.specs.Examples.{halfway, halfway_picture, halfway_run};
 ghost use Rattle.lvish_picture.specs.Picture.{IsPictured};
 
@@ -12,7 +13,7 @@ ghost use Rattle.lvish_picture.specs.Picture.{IsPictured};
 pub fn halfway()
     // The table is reached by the laws of steps, one after the other, from the start.
     ensures pictured { IsPictured (over_sets handing) halfway halfway_run }
-    ensures counted { IsCounted (over_sets handing) halfway }
+    ensures counted { CountsRunning (over_sets handing) halfway }
     ensures s { numbers (halfway_picture.content 0) ≡ 1 ∷ 3 ∷ [] }
     ensures out { numbers (halfway_picture.content 1) ≡ [] }
     ensures unfrozen { halfway_picture.frozen 0 ≡ false }

@@ -70,27 +70,27 @@ pub fn errors_are_steps<P: Program>()
     lawful::<P>();
 }
 
-/// What a handler can be handed is told by its cursor.
+/// A handler's cursor says what it can be handed.
 pub fn handed_next<P: Program>()
     // Something, where the cursor is below the log's length.
     ensures below_the_end { (p : P) → HandsBelowTheEnd (⟦<P as Meaning>⟧.machine p) }
     // In a core run the log's next entry, and no other event.
     ensures next { (p : P) → HandsTheNext (⟦<P as Meaning>⟧.machine p) }
-    // None but the table's handlers are handed anything.
+    // Only the table's handlers are handed anything.
     ensures held { (p : P) → HandsTheHeld (⟦<P as Meaning>⟧.machine p) }
 {
     lawful::<P>();
     ordered::<P>();
 }
 
-/// Whether a variable's handlers were handed every event is told by their cursors.
+/// The cursors of a variable's handlers say whether they were handed every event.
 pub fn drained_at_the_end<P: Program>()
     ensures { (p : P) → DrainedAtTheEnd (⟦<P as Meaning>⟧.machine p) }
 {
     lawful::<P>();
 }
 
-/// Whether a run has ended is told by the tasks' requests and the cursors.
+/// The tasks' requests and the cursors say whether a run has ended.
 pub fn ends_by_cursors<P: Program>()
     ensures { (p : P) → EndsByCursors (⟦<P as Meaning>⟧.machine p) }
 {
@@ -115,7 +115,7 @@ pub fn names_are_new<P: Program>()
     lawful::<P>();
 }
 
-/// The counts of running tasks are kept by each step, where they follow the tasks that it makes
+/// Each step keeps the counts of running tasks right, where they follow the tasks that it makes
 /// and ends.
 pub fn counts_kept<P: Program>()
     ensures put { (p : P) → ActCounted IsPutStep (⟦<P as Meaning>⟧.machine p) }
@@ -148,7 +148,7 @@ pub fn running_counts<P: Program>()
     lawful::<P>();
 }
 
-/// Whether a freeze can be made is told by cursors and counts, with no look at any task.
+/// Cursors and counts say whether a freeze can be made, with no look at any task.
 pub fn freezes_by_counts<P: Program>()
     // The pools' tasks have ended, where the counts are 0.
     ensures ended { (p : P) → EndedByCounts (⟦<P as Meaning>⟧.machine p) }

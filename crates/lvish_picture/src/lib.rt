@@ -6,9 +6,9 @@
 //! and which event was handed to which handler. `specs/` defines the one from the other: an event
 //! was handed to a handler where it is among the first entries of the log, as many as the cursor
 //! says. The functions of [`laws`] have no code: their contracts say, of every program, that a
-//! table that does what `specs/Steps.antt` tells of a step goes on to stand for the last
-//! configuration of a run that hands events in the order of their introduction, and that cursors
-//! and counts tell what the calculus asks before it lets a freeze pass.
+//! table changed as `specs/Steps.antt` says of a step still stands for the last configuration of
+//! a run that hands events in the order of their introduction, and that cursors and counts answer
+//! what the calculus asks before a freeze.
 //!
 //! The functions of [`examples`] have no code either: a table, and its picture, computed.
 #![tactic(auto)]

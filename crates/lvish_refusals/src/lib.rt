@@ -1,4 +1,4 @@
-//! Has one growth refused, and tells whether it was: for programs that try what becomes of a call
+//! Has one growth refused, and says whether it was: for programs that try what becomes of a call
 //! whose growths are refused, each in its turn.
 //!
 //! ```text

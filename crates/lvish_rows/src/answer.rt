@@ -5,19 +5,19 @@ use std::alloc::{AllocError, Global};
 
 /// What is printed, and the number of the status that goes with it.
 #[derive(PartialEq, Drop)]
-pub struct Answer {
+pub struct RowAnswer {
     pub status: u8,
     pub text: String,
 }
 
 /// The answer of a text, as of an order that is done.
-pub fn done(text: String) -> Answer {
-    Answer { status: 0, text }
+pub fn done(text: String) -> RowAnswer {
+    RowAnswer { status: 0, text }
 }
 
 /// The answer about a text that is no script.
-pub fn refusal(alloc: Global, refused: &ScriptFault) -> Result<Answer, AllocError> {
+pub fn refusal(alloc: Global, refused: &ScriptFault) -> Result<RowAnswer, AllocError> {
     let (number, name, line) = (refused.fault.number(), refused.fault.name(), refused.line);
     let text = format!(in alloc; "refused {number} {name} line {line}\n")?;
-    Ok(Answer { status: 4, text })
+    Ok(RowAnswer { status: 4, text })
 }

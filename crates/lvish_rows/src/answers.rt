@@ -11,13 +11,13 @@ pub mod performed;
 mod replayed;
 mod reports;
 
-use crate::answer::Answer;
+use crate::answer::RowAnswer;
 use crate::host::Host;
 use std::alloc::AllocError;
 
 /// The answer to a question about a script: what the program `lvish` prints under these words, or,
 /// where the first word is one of the following, what the crates below it say.
-pub fn answer_to<R: Host>(rt: &R, words: &[&str], script: &[u8]) -> Result<Answer, AllocError> {
+pub fn answer_to<R: Host>(rt: &R, words: &[&str], script: &[u8]) -> Result<RowAnswer, AllocError> {
     let alloc = rt.alloc();
     let (first, rest) = match words.split_first() {
         Some((first, rest)) => (*first, rest),

@@ -1,21 +1,21 @@
 //! The questions of a row, compared with what is answered.
 
-use crate::answer::Answer;
+use crate::answer::RowAnswer;
 use crate::answers::answer_to;
 use crate::host::Host;
-use crate::row::{Question, Row};
+use crate::script_row::{Question, ScriptRow};
 use crate::script_text::script_of;
 use anyhow::{Context, Result};
 use std::alloc::{AllocError, Global};
 
 /// How many answers are as expected, and how many aren't.
 #[derive(Clone, Copy)]
-pub struct Tally {
+pub struct Score {
     pub same: u64,
     pub others: u64,
 }
 
-impl Tally {
+impl Score {
     fn count(&mut self, is_same: bool) {
         if is_same {
             self.same = self.same.saturating_add(1);
@@ -26,7 +26,7 @@ impl Tally {
 }
 
 /// Compares the answers to the row's questions, and prints a line for each that isn't as expected.
-pub fn compare<R: Host>(rt: &R, file: &str, row: &Row<'_>, tally: &mut Tally) -> Result<()> {
+pub fn compare<R: Host>(rt: &R, file: &str, row: &ScriptRow<'_>, tally: &mut Score) -> Result<()> {
     for question in row.questions.iter() {
         let answer = answered(rt, row, question).context(format_args!("{}", row.name))?;
         let is_same = is_expected(question, &answer);
@@ -39,7 +39,7 @@ pub fn compare<R: Host>(rt: &R, file: &str, row: &Row<'_>, tally: &mut Tally) ->
 }
 
 /// The answer to a question about the row's script.
-fn answered<R: Host>(rt: &R, row: &Row<'_>, question: &Question<'_>) -> Result<Answer> {
+fn answered<R: Host>(rt: &R, row: &ScriptRow<'_>, question: &Question<'_>) -> Result<RowAnswer> {
     let alloc = rt.alloc();
     let script = script_of(alloc, row.lines.as_slice(), question.filling)?;
     let words = words_of(alloc, question.words)?;
@@ -55,7 +55,7 @@ pub fn words_of(alloc: Global, words: &str) -> Result<Vec<&str>, AllocError> {
     Ok(all)
 }
 
-fn is_expected(question: &Question<'_>, answer: &Answer) -> bool {
+fn is_expected(question: &Question<'_>, answer: &RowAnswer) -> bool {
     answer.status == question.status && answer.text.as_str() == question.text.as_str()
 }
 
@@ -65,9 +65,9 @@ fn print_other<R: Host>(
     file: &str,
     name: &str,
     question: &Question<'_>,
-    answer: &Answer,
+    answer: &RowAnswer,
 ) -> Result<()> {
-    let Answer { status, text } = answer;
+    let RowAnswer { status, text } = answer;
     rt.println(format_args!("{file}: {name}: {}: got {status} {text:?}", question.line))?;
     Ok(())
 }

@@ -1,7 +1,7 @@
 //! Runs the rows of files: worked examples of scripts, each with what has to be printed about it.
 //!
 //! The words are the names of the files. For each of them there is a line with the number of its
-//! comparisons, below a line for each that turned out otherwise. Behind the word `refused` each
+//! comparisons, below a line for each that differs. Behind the word `refused` each
 //! question is asked once for each of its growths, which is refused then.
 #![tactic(auto)]
 
@@ -13,11 +13,11 @@ mod escapes;
 mod host;
 mod reading;
 mod refused;
-mod row;
+mod script_row;
 mod script_text;
 
 use anyhow::{Context, Result, bail};
-use comparing::{Tally, compare};
+use comparing::{Score, compare};
 use host::Host;
 use reading::rows_of;
 use refused::{Tried, try_row};
@@ -69,8 +69,8 @@ fn refuse_file<R: Host>(rt: &R, file: &str) -> Result<Tried> {
     let text = fs::read_to_string(rt, file)?;
     let rows = rows_of(rt.alloc(), text.as_str())?;
     let mut tried = Tried::new();
-    for row in rows.iter() {
-        try_row(rt, file, row, &mut tried)?;
+    for script_row in rows.iter() {
+        try_row(rt, file, script_row, &mut tried)?;
     }
     Ok(tried)
 }
@@ -98,12 +98,12 @@ fn is_as_expected<R: Host>(rt: &R, file: &str) -> Result<bool> {
 }
 
 /// How many comparisons of the file's rows come out as expected, and how many don't.
-fn compare_file<R: Host>(rt: &R, file: &str) -> Result<Tally> {
+fn compare_file<R: Host>(rt: &R, file: &str) -> Result<Score> {
     let text = fs::read_to_string(rt, file)?;
     let rows = rows_of(rt.alloc(), text.as_str())?;
-    let mut tally = Tally { same: 0, others: 0 };
-    for row in rows.iter() {
-        compare(rt, file, row, &mut tally)?;
+    let mut tally = Score { same: 0, others: 0 };
+    for script_row in rows.iter() {
+        compare(rt, file, script_row, &mut tally)?;
     }
     Ok(tally)
 }

@@ -1,11 +1,11 @@
 //! Rows from the text of their file.
 
-use crate::row::{Question, Row};
+use crate::script_row::{Question, ScriptRow};
 use anyhow::{Context, Result, bail};
 use std::alloc::{AllocError, Global};
 
 /// The rows of a file. What stands above the first is a comment.
-pub fn rows_of(alloc: Global, text: &str) -> Result<Vec<Row<'_>>> {
+pub fn rows_of(alloc: Global, text: &str) -> Result<Vec<ScriptRow<'_>>> {
     let mut rows = Vec::new(alloc);
     for line in text.lines() {
         match line.strip_prefix("== ") {
@@ -18,7 +18,7 @@ pub fn rows_of(alloc: Global, text: &str) -> Result<Vec<Row<'_>>> {
 }
 
 /// Refuses a file without rows, or with a row in which nothing is asked.
-fn check_rows(rows: &[Row<'_>]) -> Result<()> {
+fn check_rows(rows: &[ScriptRow<'_>]) -> Result<()> {
     if rows.is_empty() {
         bail!("no rows");
     }
@@ -30,8 +30,12 @@ fn check_rows(rows: &[Row<'_>]) -> Result<()> {
     Ok(())
 }
 
-fn begin_row<'a>(alloc: Global, rows: &mut Vec<Row<'a>>, name: &'a str) -> Result<(), AllocError> {
-    rows.push(Row {
+fn begin_row<'a>(
+    alloc: Global,
+    rows: &mut Vec<ScriptRow<'a>>,
+    name: &'a str,
+) -> Result<(), AllocError> {
+    rows.push(ScriptRow {
         name,
         lines: Vec::new(alloc),
         questions: Vec::new(alloc),
@@ -39,7 +43,7 @@ fn begin_row<'a>(alloc: Global, rows: &mut Vec<Row<'a>>, name: &'a str) -> Resul
     Ok(())
 }
 
-fn add_to_last<'a>(alloc: Global, rows: &mut Vec<Row<'a>>, line: &'a str) -> Result<()> {
+fn add_to_last<'a>(alloc: Global, rows: &mut Vec<ScriptRow<'a>>, line: &'a str) -> Result<()> {
     match rows.as_mut_slice().last_mut() {
         Some(row) => add_line(alloc, row, line),
         None => Ok(()),
@@ -47,7 +51,7 @@ fn add_to_last<'a>(alloc: Global, rows: &mut Vec<Row<'a>>, line: &'a str) -> Res
 }
 
 /// Adds a line to the row: a question, a line of its script or one of the last question's answer.
-fn add_line<'a>(alloc: Global, row: &mut Row<'a>, line: &'a str) -> Result<()> {
+fn add_line<'a>(alloc: Global, row: &mut ScriptRow<'a>, line: &'a str) -> Result<()> {
     if line.starts_with("$ ") || line.starts_with("% ") {
         row.questions.push(question(alloc, line)?)?;
     } else if row.questions.is_empty() {
@@ -89,7 +93,7 @@ fn status_of(answer: &str) -> Result<(u8, &str)> {
 }
 
 /// Adds a line to the text that the last question of the row expects.
-fn add_printed(row: &mut Row<'_>, line: &str) -> Result<(), AllocError> {
+fn add_printed(row: &mut ScriptRow<'_>, line: &str) -> Result<(), AllocError> {
     match row.questions.as_mut_slice().last_mut() {
         Some(question) => push_printed(&mut question.text, line),
         None => Ok(()),

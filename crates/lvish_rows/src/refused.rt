@@ -1,6 +1,7 @@
 //! Rows while growths are refused. Each question about a script is asked once for each growth that it
 //! has, which is refused then; and so is its script run, by workers and by picks. The answer is want of
-//! memory, with nothing written, and the same call made again answers as ever; or it is as ever.
+//! memory, with nothing written, and the same call made again gives the usual one; or it is the
+//! usual answer at once.
 
 mod case;
 mod orders;
@@ -9,7 +10,7 @@ mod words;
 
 use crate::comparing::words_of;
 use crate::host::Host;
-use crate::row::{Question, Row};
+use crate::script_row::{Question, ScriptRow};
 use crate::script_text::script_of;
 use anyhow::{Context, Result};
 use case::Case;
@@ -23,7 +24,7 @@ use words::{is_of_many, try_words};
 const FEW_STEPS: u64 = 100;
 
 /// Asks the row's questions, each once for each of its growths.
-pub fn try_row<R: Host>(rt: &R, file: &str, row: &Row<'_>, tried: &mut Tried) -> Result<()> {
+pub fn try_row<R: Host>(rt: &R, file: &str, row: &ScriptRow<'_>, tried: &mut Tried) -> Result<()> {
     for question in row.questions.iter() {
         try_question(rt, file, row, question, tried).context(format_args!("{}", row.name))?;
     }
@@ -33,7 +34,7 @@ pub fn try_row<R: Host>(rt: &R, file: &str, row: &Row<'_>, tried: &mut Tried) ->
 fn try_question<R: Host>(
     rt: &R,
     file: &str,
-    row: &Row<'_>,
+    row: &ScriptRow<'_>,
     question: &Question<'_>,
     tried: &mut Tried,
 ) -> Result<()> {

@@ -1,15 +1,17 @@
--- An end is like all others.
+-- All ends are alike.
 use Rattle.std.proofs.Common.{◌≡◌, ℕ, List, length, sym, ◌∙◌, subst}
 use Rattle.std.proofs.lemmas.List.{length-map}
 use Rattle.lvish_calculus.specs.declared.label.Label.{Label}
 use Rattle.lvish_calculus.specs.Machine.{Machine}
-use Rattle.lvish_calculus.specs.Calculus.{Name, Running, IsEnd, start}
+use Rattle.lvish_calculus.specs.Calculus.{Running, IsEnd, start}
+use Rattle.lvish_names.specs.Names.{Name}
 use Rattle.lvish_calculus.specs.Laws.{IsCrossed, FreezesAllBy, NeverErrs, SameEndIf}
 use Rattle.lvish_calculus.specs.Live.{HasLive}
-use Rattle.lvish_board.specs.declared.entry.Entry.{Entry}
+use Rattle.lvish_board.specs.declared.trace_entry.TraceEntry.{TraceEntry}
 use Rattle.lvish_run.specs.declared.report.Report.{Report}
 use Rattle.lvish_board.specs.declared.outcome.Outcome.TheVariants.{Ended}
-use Rattle.lvish_run.specs.Honest.{labels_of, AreStates, Comes, IsOutcome, IsHonest}
+use Rattle.lvish_run.specs.Honest.{AreFinalStates, Comes, IsOutcome, IsHonest}
+use Rattle.lvish_board.specs.Standing.{labels_of}
 use Rattle.lvish_run.specs.Alike.{EndsAlikeIf, IsAlike}
 
 module _ {S E R A L : Type 0} (M : Machine S E R A L) (variables workers budget : ℕ) (r : Report S E) (honest : IsHonest M variables workers budget r) where
@@ -18,9 +20,9 @@ module _ {S E R A L : Type 0} (M : Machine S E R A L) (variables workers budget 
       let o : (h : Comes M variables r) × IsEnd M h.last = subst (λ x. IsOutcome M variables budget r x) ended honest.outcome in
       let h : Comes M variables r = o.0 in
       let s : (h.last ≡ b) × (length (labels_of r.trace) ≡ length ys) = same (labels_of r.trace) ys h.last b h.reached reached o.1 end holds in (
-        subst (λ d. AreStates variables d r.states) s.0 h.states,
+        subst (λ d. AreFinalStates variables d r.states) s.0 h.states,
         subst (λ d. HasLive d r.blocked) s.0 h.blocked,
-        sym s.1 ∙ length-map r.trace (λ (e : Entry E). e.label) ∙ sym honest.steps,
+        sym s.1 ∙ length-map r.trace (λ (e : TraceEntry E). e.label) ∙ sym honest.steps,
       )
 
   pub ends_alike : SameEndIf M (λ xs ys. IsCrossed M xs ys → ⊥)

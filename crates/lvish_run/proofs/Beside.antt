@@ -1,29 +1,32 @@
 -- An agenda stays beside its board.
-use Rattle.std.proofs.Common.{◌≡◌, ◌⊎◌, inl, inr, ℕ, false, List, [], ◌∷◌, ◌++◌, map, Option, Some, None, Ordering, refl, sym, ap, ◌∙◌, subst}
-use Rattle.std.proofs.lemmas.List.{map-append}
+use Rattle.std.proofs.Common.{◌≡◌, ◌⊎◌, inl, inr, ℕ, false, List, [], ◌∷◌, ◌++◌, Option, Some, None, Ordering, refl, sym, ap, ◌∙◌, subst}
+use Rattle.std.proofs.lemmas.List.{map_push}
 use Rattle.lvish_calculus.specs.declared.label.Label.{Label}
-use Rattle.lvish_calculus.specs.declared.label.Label.TheVariants.{Task as Act, Hand}
+use Rattle.lvish_calculus.specs.declared.label.Label.TheVariants.{Act, Hand}
 use Rattle.lvish_calculus.specs.Machine.{Machine, IsLawful}
-use Rattle.lvish_calculus.specs.Calculus.{Name, Handler, State, Running, Error, Change, Outcome, Changes, Fails, Nothing, CanStep, IsEnabled, IsRun, after, changed, outcome, start}
+use Rattle.lvish_calculus.specs.Calculus.{State, Running, Error, Change, Effect, Changes, Fails, Nothing, CanStep, IsEnabled, IsRun, after, changed, effect, start}
+use Rattle.lvish_names.specs.Names.{Name, Handler}
 use Rattle.lvish_calculus.specs.Laws.{Reaches}
 use Rattle.lvish_calculus.specs.Handing.{IsAmong}
 use Rattle.lvish_calculus.proofs.Runs.{reached, nothing}
 use Rattle.lvish_calculus.proofs.SameThere.{run_split}
 use Rattle.lvish_picture.specs.Laws.{HandsBelowTheEnd, HandsTheHeld}
-use Rattle.lvish_core.specs.Core.{View, IsRunTo, CanTake, state, picture, at_fault}
+use Rattle.lvish_core.specs.Core.{CoreView, IsRunTo, CanTake, state, picture, at_fault}
 use Rattle.lvish_core.specs.CoreLaws.{HandsWhatComes}
 use Rattle.lvish_core.specs.Changes.{local_of, moved_by, moved_in}
-use Rattle.lvish_board.specs.declared.entry.Entry.{Entry}
+use Rattle.lvish_board.specs.declared.trace_entry.TraceEntry.{TraceEntry}
 use Rattle.lvish_board.specs.declared.work.Work.{Work}
 use Rattle.lvish_board.specs.declared.work.Work.TheVariants.{Stretch, Act as ActOn, Hand as HandTo}
-use Rattle.lvish_board.specs.declared.outcome.Outcome.{Outcome as Out}
-use Rattle.lvish_board.specs.Place.{Place}
-use Rattle.lvish_board.specs.Standing.{Standing, tasks_of, labels_of, IsCurrent, IsSound, OverIs}
+use Rattle.lvish_board.specs.Place.{TaskPlace}
+use Rattle.lvish_board.specs.Standing.{Standing, tasks_of, labels_of, IsCurrent, IsBoardSound}
 use Rattle.lvish_board.specs.Listed.{IsListed, Concerns, by_handing, HasNext, tickets, stretches, acts, handings}
 use Rattle.lvish_board.specs.Woken.{IsParkedBeside}
-use Rattle.lvish_run.specs.Agenda.{Open, Adds, IsTaskOf, IsBeside, IsBesideAllBut}
+use Rattle.lvish_run.specs.Agenda.{Open, Adds, IsTaskOf, IsBeside}
 use Rattle.lvish_run.specs.Walk.{IsEntered}
-use Rattle.lvish_run.proofs.Placed.{place, among_left, among_right, among_either, place_of, task_of_place, stays_at, came_by, ticket_at}
+use Rattle.lvish_core.specs.laws.Lists.{either_among, among_first, among_last}
+use Rattle.lvish_board.proofs.Steps.{of_task, no_fault}
+use Rattle.lvish_run.proofs.Agendas.{place_in}
+use Rattle.lvish_run.proofs.Placed.{place, mapped_from, mapped_into, stays_at, came_by, ticket_at}
 use Rattle.lvish_run.proofs.Upcoming.{to_hand_before, has_next}
 
 -- the task and the handler of a label's work
@@ -43,83 +46,48 @@ is_handler_in : {E : Type 0} (l : Label E) (h : Handler E) → handler_in l ≡ 
 is_handler_in (Act u) h e = absurd (let z : ⊥ = cc in z)
 is_handler_in (Hand k x) h e = let same : k ≡ h = cc in (x, ap (λ g. Hand g x) same)
 
-all_but : {P S E R A L : Type 0} (M : Machine S E R A L) (s : Standing P S E L) (l : Label E) (a : Open E L) → IsBesideAllBut M s l a → IsBeside M s (task_in l) (handler_in l) a
-all_but M s (Act t) a b = b
-all_but M s (Hand h e) a b = b
-
 -- ---- the work of a list
 
-mapped_in : {X Y : Type 0} (f : X → Y) → ((x y : X) → f x ≡ f y → x ≡ y) → (x : X) (xs : List X) → IsAmong (f x) (map f xs) → IsAmong x xs
-mapped_in f apart x [] i = i
-mapped_in f apart x (y ∷ ys) (inl e) = inl (apart x y e)
-mapped_in f apart x (y ∷ ys) (inr i) = inr (mapped_in f apart x ys i)
-
-none_mapped : {X Y : Type 0} (f : X → Y) (z : Y) → ((x : X) → z ≡ f x → ⊥) → (xs : List X) → IsAmong z (map f xs) → ⊥
-none_mapped f z apart [] i = i
-none_mapped f z apart (y ∷ ys) (inl e) = apart y e
-none_mapped f z apart (y ∷ ys) (inr i) = none_mapped f z apart ys i
-
-into_mapped : {X Y : Type 0} (f : X → Y) (x : X) (xs : List X) → IsAmong x xs → IsAmong (f x) (map f xs)
-into_mapped f x [] i = i
-into_mapped f x (y ∷ ys) (inl e) = inl (ap f e)
-into_mapped f x (y ∷ ys) (inr i) = inr (into_mapped f x ys i)
-
-module _ {P J S L R A W E : Type 0} (ws : List (Work P J S L R A W E)) (ts woken : List (Place E L)) (hs : List (Handler E)) (is : ws ≡ stretches ts ++ acts woken ++ handings hs) where
-  abbrev stretch_of : Place E L → Work P J S L R A W E
-  stretch_of p = Stretch p
-
-  abbrev act_of : Place E L → Work P J S L R A W E
-  act_of p = ActOn p
-
-  abbrev hand_of : Handler E → Work P J S L R A W E
-  hand_of h = HandTo h
-
-  parts : (w : Work P J S L R A W E) → IsAmong w ws → IsAmong w (map stretch_of ts) ⊎ (IsAmong w (map act_of woken) ⊎ IsAmong w (map hand_of hs))
-  parts w i = elim (among_either w (map stretch_of ts ++ map act_of woken) (map hand_of hs) (subst (λ us. IsAmong w us) is i)) [
+module _ {P J S L R A W E : Type 0} (ws : List (Work P J S L R A W E)) (ts woken : List (TaskPlace E L)) (hs : List (Handler E)) (is : ws ≡ stretches ts ++ acts woken ++ handings hs) where
+  parts : (w : Work P J S L R A W E) → IsAmong w ws → IsAmong w (stretches ts) ⊎ (IsAmong w (acts woken) ⊎ IsAmong w (handings hs))
+  parts w i = elim (either_among w (stretches ts ++ acts woken) (handings hs) (subst (λ us. IsAmong w us) is i)) [
     | inr j ↦ inr (inr j)
-    | inl j ↦ elim (among_either w (map stretch_of ts) (map act_of woken) j) [
-      | inl k ↦ inl k
-      | inr k ↦ inr (inl k)
-    ]
+    | inl j ↦ elim (either_among w (stretches ts) (acts woken) j) [ inl k ↦ inl k | inr k ↦ inr (inl k) ]
   ]
 
-  stretch_from : (p : Place E L) → IsAmong (Stretch p) ws → IsAmong p ts
-  stretch_from p i = elim (parts (Stretch p) i) [
-    | inl j ↦ mapped_in stretch_of (λ x y e. (let z : x ≡ y = cc in z)) p ts j
-    | inr (inl j) ↦ absurd (none_mapped act_of (Stretch p) (λ x e. (let z : ⊥ = cc in z)) woken j)
-    | inr (inr j) ↦ absurd (none_mapped hand_of (Stretch p) (λ x e. (let z : ⊥ = cc in z)) hs j)
+  of_work : (w : Work P J S L R A W E) (p : TaskPlace E L) → place_in w ≡ Some p → IsAmong w ws → IsAmong p ts ⊎ IsAmong p woken
+  of_work w p at i = elim (parts w i) [
+    | inl j ↦ let z = mapped_from {Y = Work P J S L R A W E} (λ q. Stretch q) w ts j in inl (subst (λ q. IsAmong q ts) (same z.0 (sym (ap place_in z.2) ∙ at)) z.1)
+    | inr (inl j) ↦ let z = mapped_from {Y = Work P J S L R A W E} (λ q. ActOn q) w woken j in inr (subst (λ q. IsAmong q woken) (same z.0 (sym (ap place_in z.2) ∙ at)) z.1)
+    | inr (inr j) ↦ let z = mapped_from {Y = Work P J S L R A W E} (λ h. HandTo h) w hs j in absurd (let no : None ≡ Some p = sym (ap place_in z.2) ∙ at in let n : ⊥ = cc in n)
   ]
+    where
+      same : (q : TaskPlace E L) → Some q ≡ Some p → q ≡ p
+      same q e = cc
 
-  act_from : (p : Place E L) → IsAmong (ActOn p) ws → IsAmong p woken
-  act_from p i = elim (parts (ActOn p) i) [
-    | inl j ↦ absurd (none_mapped stretch_of (ActOn p) (λ x e. (let z : ⊥ = cc in z)) ts j)
-    | inr (inl j) ↦ mapped_in act_of (λ x y e. (let z : x ≡ y = cc in z)) p woken j
-    | inr (inr j) ↦ absurd (none_mapped hand_of (ActOn p) (λ x e. (let z : ⊥ = cc in z)) hs j)
-  ]
+  task_from : (p : TaskPlace E L) → IsTaskOf ws p → IsAmong p ts ⊎ IsAmong p woken
+  task_from p (inl i) = of_work (Stretch p) p refl i
+  task_from p (inr i) = of_work (ActOn p) p refl i
 
-  task_from : (p : Place E L) → IsTaskOf ws p → IsAmong p ts ⊎ IsAmong p woken
-  task_from p (inl i) = inl (stretch_from p i)
-  task_from p (inr i) = inr (act_from p i)
-
-  listed : (w : Work P J S L R A W E) → IsAmong w (map stretch_of ts) ⊎ (IsAmong w (map act_of woken) ⊎ IsAmong w (map hand_of hs)) → IsAmong w ws
+  listed : (w : Work P J S L R A W E) → IsAmong w (stretches ts) ⊎ (IsAmong w (acts woken) ⊎ IsAmong w (handings hs)) → IsAmong w ws
   listed w i = subst (λ us. IsAmong w us) (sym is) (elim i [
-    | inl j ↦ among_left w (map stretch_of ts ++ map act_of woken) (map hand_of hs) (among_left w (map stretch_of ts) (map act_of woken) j)
-    | inr (inl j) ↦ among_left w (map stretch_of ts ++ map act_of woken) (map hand_of hs) (among_right w (map stretch_of ts) (map act_of woken) j)
-    | inr (inr j) ↦ among_right w (map stretch_of ts ++ map act_of woken) (map hand_of hs) j
+    | inl j ↦ among_first w (stretches ts ++ acts woken) (handings hs) (among_first w (stretches ts) (acts woken) j)
+    | inr (inl j) ↦ among_first w (stretches ts ++ acts woken) (handings hs) (among_last w (stretches ts) (acts woken) j)
+    | inr (inr j) ↦ among_last w (stretches ts ++ acts woken) (handings hs) j
   ])
 
-  ticket_listed : (p : Place E L) → IsAmong p ts → IsTaskOf ws p
-  ticket_listed p i = inl (listed (Stretch p) (inl (into_mapped stretch_of p ts i)))
+  ticket_listed : (p : TaskPlace E L) → IsAmong p ts → IsTaskOf ws p
+  ticket_listed p i = inl (listed (Stretch p) (inl (mapped_into {Y = Work P J S L R A W E} (λ q. Stretch q) p ts i)))
 
-  woken_listed : (p : Place E L) → IsAmong p woken → IsTaskOf ws p
-  woken_listed p i = inr (listed (ActOn p) (inr (inl (into_mapped act_of p woken i))))
+  woken_listed : (p : TaskPlace E L) → IsAmong p woken → IsTaskOf ws p
+  woken_listed p i = inr (listed (ActOn p) (inr (inl (mapped_into {Y = Work P J S L R A W E} (λ q. ActOn q) p woken i))))
 
   handler_listed : (h : Handler E) → IsAmong h hs → IsAmong (HandTo h) ws
-  handler_listed h i = listed (HandTo h) (inr (inr (into_mapped hand_of h hs i)))
+  handler_listed h i = listed (HandTo h) (inr (inr (mapped_into {Y = Work P J S L R A W E} (λ k. HandTo k) h hs i)))
 
 -- ---- one step of a board
 
-module _ {P S E R A L : Type 0} (M : Machine S E R A L) (program : P) (budget : ℕ) (s r : Standing P S E L) (l : Label E) (sound : IsSound M program budget s) (then : IsSound M program budget r) (over : s.over ≡ None) (still : r.over ≡ None) (entered : IsEntered s l r) where
+module _ {P S E R A L : Type 0} (M : Machine S E R A L) (program : P) (budget : ℕ) (s r : Standing P S E L) (l : Label E) (sound : IsBoardSound M program budget s) (then : IsBoardSound M program budget r) (over : s.over ≡ None) (entered : IsEntered s l r) where
   abbrev c : State S E L
   c = state M s.core
 
@@ -130,28 +98,32 @@ module _ {P S E R A L : Type 0} (M : Machine S E R A L) (program : P) (budget : 
   xs = labels_of s.trace
 
   fine : s.core.fault ≡ None
-  fine = subst (λ (o : Option (Out E)). OverIs M budget s o) over sound.over_is
-
-  still_fine : r.core.fault ≡ None
-  still_fine = subst (λ (o : Option (Out E)). OverIs M budget r o) still then.over_is
-
-  grown : labels_of r.trace ≡ xs ++ l ∷ []
-  grown = ap labels_of entered ∙ map-append (λ (e : Entry E). e.label) s.trace (record { worker = 0; label = l } ∷ [])
+  fine = no_fault M program budget s sound over
 
   on : IsRunTo M r.core (xs ++ l ∷ [])
-  on = subst (λ ls. IsRunTo M r.core ls) grown then.leads
+  on = subst (λ ls. IsRunTo M r.core ls) (ap labels_of entered ∙ map_push (λ (e : TraceEntry E). e.label) s.trace (record { worker = 0; label = l })) then.leads
 
   reach : Reaches M xs c
   reach = subst (λ f. IsRun M (Running (start M)) xs (at_fault c f)) fine sound.leads.reached
 
-  one : IsRun M (Running c) (l ∷ []) (Running d)
-  one = run_split M xs (l ∷ []) (Running (start M)) (Running c) (Running d) reach (subst (λ f. IsRun M (Running (start M)) (xs ++ l ∷ []) (at_fault d f)) still_fine on.reached)
+  made : IsRun M (Running c) (l ∷ []) (picture M r.core)
+  made = run_split M xs (l ∷ []) (Running (start M)) (Running c) (picture M r.core) reach on.reached
 
-  module _ (ok : IsLawful M) where
-    change : (ch : Change S E L) × (outcome M c l ≡ Changes ch) × (changed M ch c ≡ d)
-    change = by (outcome M c l) refl
+  -- the step was enabled
+  pub was_enabled : CanStep M (picture M s.core) l
+  was_enabled = subst (λ f. CanStep M (at_fault c f) l) (sym fine) made.0
+
+  module _ (still : r.over ≡ None) (ok : IsLawful M) where
+    still_fine : r.core.fault ≡ None
+    still_fine = no_fault M program budget r then still
+
+    one : IsRun M (Running c) (l ∷ []) (Running d)
+    one = subst (λ f. IsRun M (Running c) (l ∷ []) (at_fault d f)) still_fine made
+
+    change : (ch : Change S E L) × (effect M c l ≡ Changes ch) × (changed M ch c ≡ d)
+    change = by (effect M c l) refl
       where
-        by : (o : Outcome S E L) → outcome M c l ≡ o → (ch : Change S E L) × (outcome M c l ≡ Changes ch) × (changed M ch c ≡ d)
+        by : (o : Effect S E L) → effect M c l ≡ o → (ch : Change S E L) × (effect M c l ≡ Changes ch) × (changed M ch c ≡ d)
         by (Changes ch) e = let same : Running (changed M ch c) ≡ Running d = sym (ap (after M c) e) ∙ one.1 in (ch, e, (let at : changed M ch c ≡ d = cc in at))
         by (Fails kind v t) e = let same : Error kind v t ≡ Running d = sym (ap (after M c) e) ∙ one.1 in absurd (let n : ⊥ = cc in n)
         by Nothing e = absurd (nothing M ok c l one.0 e)
@@ -162,14 +134,14 @@ module _ {P S E R A L : Type 0} (M : Machine S E R A L) (program : P) (budget : 
     local_then : (t : Name E) (k : L) → local_of ((changed M ch c).tasks t) ≡ Some k → local_of (d.tasks t) ≡ Some k
     local_then t k e = subst (λ (x : State S E L). local_of (x.tasks t) ≡ Some k) change.2 e
 
-    stays : (p : Place E L) → IsCurrent M s.core p → (l ≡ Act p.task → ⊥) → IsCurrent M r.core p
+    stays : (p : TaskPlace E L) → IsCurrent M s.core p → (l ≡ Act p.task → ⊥) → IsCurrent M r.core p
     stays p at other = local_then p.task p.from (stays_at M ok xs c reach l one.0 ch change.1 p.task p.from at other)
 
-    moved : moved_in (outcome M c l) ≡ moved_by ch
+    moved : moved_in (effect M c l) ≡ moved_by ch
     moved = ap moved_in change.1
 
-    -- what is parked didn't act
-    parked_waits : (p : Place E L) → IsAmong p s.parked → l ≡ Act p.task → ⊥
+    -- a parked task didn't act
+    parked_waits : (p : TaskPlace E L) → IsAmong p s.parked → l ≡ Act p.task → ⊥
     parked_waits p i e = (sound.blocked p i).blocked (subst (λ f. CanStep M (at_fault c f) (Act p.task)) (sym fine) (subst (λ m. IsEnabled M c m) e one.0), tt)
 
     module _ (comes : HandsWhatComes P M) (below : HandsBelowTheEnd M) (held : HandsTheHeld M) where
@@ -182,10 +154,10 @@ module _ {P S E R A L : Type 0} (M : Machine S E R A L) (program : P) (budget : 
           (to_hand_before M ok s.core l ch change.1 one.0 (reached M ok xs c reach) h apart z.0 (subst (λ (x : State S E L). IsEnabled M x (Hand h z.0)) (sym change.2) en))
 
       module _ {Q J B W : Type 0} (cmp : E → E → Ordering) (ws : List (Work Q J S L R B W E)) (w : IsListed cmp M s l r ws) (a b : Open E L) (before : IsBeside M s (task_in l) (handler_in l) a) (adds : Adds ws a b) where
-        abbrev ts : List (Place E L)
-        ts = tickets l (moved_in (outcome M c l))
+        abbrev ts : List (TaskPlace E L)
+        ts = tickets l (moved_in (effect M c l))
 
-        current : (t : Name E) (p : Place E L) → b.at t ≡ Some p → (p.task ≡ t) × IsCurrent M r.core p × (None ≡ Some t → ⊥)
+        current : (t : Name E) (p : TaskPlace E L) → b.at t ≡ Some p → (p.task ≡ t) × IsCurrent M r.core p × (None ≡ Some t → ⊥)
         current t p e = elim (adds.from t p e) [
           | inl was ↦
               let k = before.current t p was in
@@ -206,14 +178,14 @@ module _ {P S E R A L : Type 0} (M : Machine S E R A L) (program : P) (budget : 
           | inr z ↦ z.0 (is_task_in l t (before.tasks t k z.1 gone.0 was_parked))
         ])
           where
-            gone : (a.at t ≡ None) × ((p : Place E L) → IsTaskOf ws p → p.task ≡ t → ⊥)
+            gone : (a.at t ≡ None) × ((p : TaskPlace E L) → IsTaskOf ws p → p.task ≡ t → ⊥)
             gone = adds.kept t none
 
             was_parked : IsAmong t (tasks_of s.parked) → ⊥
             was_parked i =
-                let p = place_of t s.parked i in
+                let p = of_task t s.parked i in
                 let waits : CanTake M r.core (Act p.0.task) → ⊥ = λ can. gone.1 p.0 (woken_listed ws ts w.woken w.hands w.is p.0 ((w.woken_are p.0).1 (p.1, can))) p.2 in
-                not_parked (subst (λ u. IsAmong u (tasks_of r.parked)) p.2 (task_of_place p.0 r.parked ((w.still p.0).1 (p.1, waits))))
+                not_parked (subst (λ u. IsAmong u (tasks_of r.parked)) p.2 (mapped_into (λ (x : TaskPlace E L). x.task) p.0 r.parked ((w.still p.0).1 (p.1, waits))))
 
         hands : (h : Handler E) → HasNext M r.core h → b.has h ≡ false → None ≡ Some h
         hands h z none = absurd (
@@ -226,44 +198,27 @@ module _ {P S E R A L : Type 0} (M : Machine S E R A L) (program : P) (budget : 
         pub beside_after : IsBeside M r None None b
         beside_after = record { current = current; tasks = tasks; hands = hands }
 
--- a step was enabled
-module _ {P S E R A L : Type 0} (M : Machine S E R A L) (program : P) (budget : ℕ) (s r : Standing P S E L) (l : Label E) (sound : IsSound M program budget s) (then : IsSound M program budget r) (over : s.over ≡ None) (entered : IsEntered s l r) where
-  pub was_enabled : CanStep M (picture M s.core) l
-  was_enabled = subst (λ f. CanStep M (at_fault (state M s.core) f) l) (sym fine) one.0
-    where
-      fine : s.core.fault ≡ None
-      fine = subst (λ (o : Option (Out E)). OverIs M budget s o) over sound.over_is
-
-      reach : Reaches M (labels_of s.trace) (state M s.core)
-      reach = subst (λ f. IsRun M (Running (start M)) (labels_of s.trace) (at_fault (state M s.core) f)) fine sound.leads.reached
-
-      grown : labels_of r.trace ≡ labels_of s.trace ++ l ∷ []
-      grown = ap labels_of entered ∙ map-append (λ (e : Entry E). e.label) s.trace (record { worker = 0; label = l } ∷ [])
-
-      one : IsRun M (Running (state M s.core)) (l ∷ []) (picture M r.core)
-      one = run_split M (labels_of s.trace) (l ∷ []) (Running (start M)) (Running (state M s.core)) (picture M r.core) reach (subst (λ ls. IsRun M (Running (start M)) ls (picture M r.core)) grown then.leads.reached)
-
 -- ---- without a step
 
--- where the task can't go on and was parked, nothing is left out
-module _ {P S E R A L : Type 0} (M : Machine S E R A L) (s r : Standing P S E L) (p : Place E L) (a : Open E L) (same : r.core ≡ s.core) (parks : IsParkedBeside s.parked p r.parked) where
+-- where a task can't go on and was parked, the agenda still has all that may be done
+module _ {P S E R A L : Type 0} (M : Machine S E R A L) (s r : Standing P S E L) (p : TaskPlace E L) (a : Open E L) (same : r.core ≡ s.core) (parks : IsParkedBeside s.parked p r.parked) where
   pub beside_parked : IsBeside M s (Some p.task) None a → IsBeside M r None None a
   beside_parked before = record {
     current = λ t q e.
         let k = before.current t q e in
-        (k.0, subst (λ (x : View P S E L). IsCurrent M x q) (sym same) k.1, λ z. (let n : ⊥ = cc in n));
+        (k.0, subst (λ (x : CoreView P S E L). IsCurrent M x q) (sym same) k.1, λ z. (let n : ⊥ = cc in n));
     tasks = λ t k at none not_parked. absurd (
-        let own : Some p.task ≡ Some t = before.tasks t k (subst (λ (x : View P S E L). local_of ((state M x).tasks t) ≡ Some k) same at) none (was_parked t not_parked) in
+        let own : Some p.task ≡ Some t = before.tasks t k (subst (λ (x : CoreView P S E L). local_of ((state M x).tasks t) ≡ Some k) same at) none (was_parked t not_parked) in
         beside t not_parked (let e : p.task ≡ t = cc in e)
         );
-    hands = λ h z none. before.hands h (subst (λ (x : View P S E L). HasNext M x h) same z) none;
+    hands = λ h z none. before.hands h (subst (λ (x : CoreView P S E L). HasNext M x h) same z) none;
   }
     where
       beside : (t : Name E) → (IsAmong t (tasks_of r.parked) → ⊥) → p.task ≡ t → ⊥
-      beside t not_parked e = not_parked (subst (λ u. IsAmong u (tasks_of r.parked)) e (task_of_place p r.parked ((parks.each p).1 (inl refl))))
+      beside t not_parked e = not_parked (subst (λ u. IsAmong u (tasks_of r.parked)) e (mapped_into (λ (x : TaskPlace E L). x.task) p r.parked ((parks.each p).1 (inl refl))))
 
       was_parked : (t : Name E) → (IsAmong t (tasks_of r.parked) → ⊥) → IsAmong t (tasks_of s.parked) → ⊥
       was_parked t not_parked i =
-          let q = place_of t s.parked i in
+          let q = of_task t s.parked i in
           let other : q.0.task ≡ p.task → ⊥ = λ e. beside t not_parked (sym e ∙ q.2) in
-          not_parked (subst (λ u. IsAmong u (tasks_of r.parked)) q.2 (task_of_place q.0 r.parked ((parks.each q.0).1 (inr (q.1, other)))))
+          not_parked (subst (λ u. IsAmong u (tasks_of r.parked)) q.2 (mapped_into (λ (x : TaskPlace E L). x.task) q.0 r.parked ((parks.each q.0).1 (inr (q.1, other)))))

@@ -8,7 +8,8 @@ use Rattle.lvish_calculus.specs.declared.label.Label.{Label}
 use Rattle.lvish_calculus.specs.declared.request.ErrorKind.{ErrorKind}
 use Rattle.lvish_calculus.specs.Machine.{Machine}
 use Rattle.lvish_calculus.specs.Program.{Functions, machine_of}
-use Rattle.lvish_calculus.specs.Calculus.{Name, State, Configuration, Running, Error, IsEnabled, IsRun, IsEnd, start}
+use Rattle.lvish_calculus.specs.Calculus.{State, Configuration, Running, Error, IsEnabled, IsRun, IsEnd, start}
+use Rattle.lvish_names.specs.Names.{Name}
 use Rattle.lvish_calculus.specs.Laws.{Reaches, NoLateError}
 use Rattle.lvish_calculus.specs.SameRuns.{HaveSameRuns}
 use Rattle.lvish_calculus.proofs.SameThere.{Base, over, flip_runs, reached, never_there, end_there}
@@ -16,13 +17,14 @@ use Rattle.lvish_compound.specs.declared.any.Any.{Any}
 use Rattle.lvish_compound.specs.declared.any_read.AnyRead.{AnyRead}
 use Rattle.lvish_compound.specs.declared.event.Event.{Event}
 use Rattle.lvish_syntax.specs.declared.script.Script.{Script}
-use Rattle.lvish_task.specs.Meaning.{State as Left}
+use Rattle.lvish_task.specs.Meaning.{LocalState as Left}
 use Rattle.lvish_task.specs.Freezing.{AsksNoFreeze, has_freeze}
-use Rattle.lvish_board.specs.declared.entry.Entry.{Entry}
+use Rattle.lvish_board.specs.declared.trace_entry.TraceEntry.{TraceEntry}
 use Rattle.lvish_board.specs.declared.outcome.Outcome.{Outcome}
 use Rattle.lvish_board.specs.declared.outcome.Outcome.TheVariants.{Ended, Error as ErrorOutcome, Budget}
 use Rattle.lvish_run.specs.declared.report.Report.{Report}
-use Rattle.lvish_run.specs.Honest.{labels_of, Comes, IsOutcome, IsHonest}
+use Rattle.lvish_run.specs.Honest.{Comes, IsOutcome, IsHonest}
+use Rattle.lvish_board.specs.Standing.{labels_of}
 use Rattle.lvish_run.specs.Picked.{IsPicked}
 use Rattle.lvish_run.specs.Scripts.{IsPickedRun}
 use Rattle.lvish_run.specs.Ends.{EndsAfter, AlwaysEnds, IsBound}
@@ -34,7 +36,7 @@ module _ {S E R A L : Type 0} (M : Machine S E R A L) where
   ends_there a [] f end run = (refl, run)
   ends_there a (l ∷ rest) f end run = absurd (end l run.0)
 
-  -- nor from an error
+  -- and none from an error
   errs_there : (kind : ErrorKind) (v : Option ℕ) (t : Name E) (rest : List (Label E)) (a : State S E L) → IsRun M (Error kind v t) rest (Running a) → ⊥
   errs_there kind v t [] a run = let n : ⊥ = cc in n
   errs_there kind v t (l ∷ rest) a run = run
@@ -45,7 +47,7 @@ module _ {S E R A L : Type 0} (cmp : E → E → Ordering) (o : IsTotalOrder cmp
   trace = labels_of r.trace
 
   long : length trace ≡ r.steps
-  long = length-map r.trace (λ (e : Entry E). e.label) ∙ sym honest.steps
+  long = length-map r.trace (λ (e : TraceEntry E). e.label) ∙ sym honest.steps
 
   -- a run that ends, and the report's, where that is no shorter
   before : (n : ℕ) (h : EndsAfter cmp M n) (f : Configuration S E L) → IsRun M (Running (start M)) trace f → length h.labels ≤ length trace → (length trace ≡ n) × (Running h.last ≡ f)
@@ -86,16 +88,12 @@ module _ {S E R A L : Type 0} (cmp : E → E → Ordering) (o : IsTotalOrder cmp
       h.end l (subst (λ c. IsEnabled M c l) (sym at) enabled)
 
   -- the run without picks ends after as many steps as the report has, and after no other number
-  ended_by : (q : Outcome E) → IsOutcome M variables budget r q → q ≡ Ended → (n : ℕ) → (r.steps ≡ n) ↔ (EndsAfter cmp M n × (n ≤ budget))
-  ended_by Ended h is n = (
-    λ e. (record { labels = trace; last = h.0.last; first = picked; reached = h.0.reached; end = h.1; steps = long ∙ e }, subst (λ k. k ≤ budget) e honest.within),
-    λ k. one_end n k.0 h.0.last h.0.reached h.1,
-  )
-  ended_by (ErrorOutcome kind v t) h is n = absurd (let no : ⊥ = cc in no)
-  ended_by Budget h is n = absurd (let no : ⊥ = cc in no)
-
   pub ended_exactly : r.outcome ≡ Ended → (n : ℕ) → (r.steps ≡ n) ↔ (EndsAfter cmp M n × (n ≤ budget))
-  ended_exactly is = ended_by r.outcome honest.outcome is
+  ended_exactly is n =
+      let h : (h : Comes M variables r) × IsEnd M h.last = subst (λ q. IsOutcome M variables budget r q) is honest.outcome in (
+        λ e. (record { labels = trace; last = h.0.last; first = picked; reached = h.0.reached; end = h.1; steps = long ∙ e }, subst (λ k. k ≤ budget) e honest.within),
+        λ k. one_end n k.0 h.0.last h.0.reached h.1,
+      )
 
   -- a report of no end
   other_by : (q : Outcome E) → IsOutcome M variables budget r q → (q ≡ Ended → ⊥) → (n : ℕ) → EndsAfter cmp M n → n ≤ budget → ⊥
@@ -139,20 +137,17 @@ module _ (cmp : Event → Event → Ordering) (M : Machine Any Event AnyRead ℤ
   none_is_some : {X : Type 0} (n : ℕ) → None ≡ Some n → X
   none_is_some n e = let no : ⊥ = cc in absurd no
 
+  unbound : ((n : ℕ) → has_freeze script ≡ false → EndsAfter cmp M n → n ≤ budget → ⊥) → IsBound cmp M script budget None
+  unbound never = record { exact = λ n. (λ e. none_is_some n e, λ k. absurd (never n k.0 k.1 k.2)); always = λ n e. none_is_some n e }
+
   -- a script with the line `freeze`
   pub with_freeze : has_freeze script ≡ true → IsBound cmp M script budget None
-  with_freeze has = record {
-    exact = λ n. (λ e. none_is_some n e, λ k. absurd (false≢true (sym k.0 ∙ has)));
-    always = λ n e. none_is_some n e;
-  }
+  with_freeze has = unbound (λ n none end within. false≢true (sym none ∙ has))
 
   module _ (o : IsTotalOrder cmp) (r : Report Any Event) (run : IsPickedRun cmp M script [] budget r) where
     -- a script whose run doesn't end, or errs
     pub without_end : (r.outcome ≡ Ended → ⊥) → IsBound cmp M script budget None
-    without_end unended = record {
-      exact = λ n. (λ e. none_is_some n e, λ k. absurd (never_ended cmp o M _ budget r run.honest run.picked unended n k.1 k.2));
-      always = λ n e. none_is_some n e;
-    }
+    without_end unended = unbound (λ n none end within. never_ended cmp o M _ budget r run.honest run.picked unended n end within)
 
     -- and one whose run ends
     pub with_end : r.outcome ≡ Ended → has_freeze script ≡ false → ((n : ℕ) → EndsAfter cmp M n → AlwaysEnds M n) → IsBound cmp M script budget (Some r.steps)

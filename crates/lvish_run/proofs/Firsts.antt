@@ -1,26 +1,27 @@
--- What leaves an agenda first is what can be done first.
-use Rattle.std.proofs.Common.{◌≡◌, ◌⊎◌, ◌↔◌, inl, inr, ℕ, true, false, cond, Option, Some, None, is_some, IsSome, Ordering, refl, sym, ap, ◌∙◌, subst}
+-- What leaves an agenda first can be done first.
+use Rattle.std.proofs.Common.{◌≡◌, ◌⊎◌, ◌↔◌, inl, inr, ℕ, false, Option, Some, None, is_some, IsSome, Ordering, refl, sym, ap, ◌∙◌, subst}
 use Rattle.std.proofs.lemmas.Bool.{cases_Bool, both_ways}
 use Rattle.std.specs.declared.cmp.Ordering.TheVariants.{Less, Equal, Greater}
-use Rattle.std.specs.Ordering.{is_eq, is_gt, ordering_then}
+use Rattle.std.specs.Ordering.{is_gt, ordering_then}
 use Rattle.lvish_names.specs.NameOrder.{name_cmp, handler_cmp}
 use Rattle.lvish_calculus.specs.declared.label.Label.{Label}
-use Rattle.lvish_calculus.specs.declared.label.Label.TheVariants.{Task as Act, Hand}
+use Rattle.lvish_calculus.specs.declared.label.Label.TheVariants.{Act, Hand}
 use Rattle.lvish_calculus.specs.Machine.{Machine}
-use Rattle.lvish_calculus.specs.Calculus.{Name, Handler, Task, Absent, Live, Ended, CanStep, IsReadyTask, IsToHand}
+use Rattle.lvish_calculus.specs.Calculus.{Task, Absent, Live, Ended, CanStep, IsReadyTask, IsToHand}
+use Rattle.lvish_names.specs.Names.{Name, Handler}
 use Rattle.lvish_calculus.specs.Handing.{IsAmong}
-use Rattle.lvish_core.specs.declared.fault.Fault.{Fault}
-use Rattle.lvish_core.specs.Core.{View, CanTake, IsNext, state, at_fault}
+use Rattle.lvish_core.specs.declared.fault.RunError.{RunError}
+use Rattle.lvish_core.specs.Core.{CoreView, CanTake, IsNext, state, at_fault}
 use Rattle.lvish_core.specs.CoreLaws.{HandsWhatComes}
 use Rattle.lvish_core.specs.Labels.{label_cmp}
 use Rattle.lvish_core.specs.Changes.{local_of}
-use Rattle.lvish_board.specs.declared.outcome.Outcome.{Outcome as Out}
-use Rattle.lvish_board.specs.Place.{Place}
-use Rattle.lvish_board.specs.Standing.{Standing, tasks_of, labels_of, IsCurrent, IsBlocked, IsSound, OverIs}
+use Rattle.lvish_board.specs.Place.{TaskPlace}
+use Rattle.lvish_board.specs.Standing.{Standing, tasks_of, labels_of, IsBlocked, IsBoardSound}
 use Rattle.lvish_board.specs.Listed.{HasNext}
-use Rattle.lvish_run.specs.Agenda.{Open, HasAt, HasHandler, IsTaskGone, IsHandlerGone, IsBeside}
-use Rattle.lvish_run.specs.Walk.{IsLowest, IsStuck}
-use Rattle.lvish_run.proofs.Placed.{place_of}
+use Rattle.lvish_run.specs.Agenda.{Open, SetsOpenTask, HasHandler, IsTaskGone, IsHandlerGone, IsBeside}
+use Rattle.lvish_run.specs.Walk.{IsFirstEnabled, IsStuck}
+use Rattle.lvish_board.proofs.Steps.{of_task, no_fault}
+use Rattle.lvish_run.proofs.Agendas.{written}
 
 pub none_is_some : {X Y : Type 0} (x : X) → None ≡ Some x → Y
 none_is_some x e = absurd (let z : ⊥ = cc in z)
@@ -28,7 +29,7 @@ none_is_some x e = absurd (let z : ⊥ = cc in z)
 -- ---- who can go on
 
 -- a task that can go on has a local state
-live_at : {P S E R A L : Type 0} (M : Machine S E R A L) (c : View P S E L) (t : Name E) → CanTake M c (Act t) → (l : L) × (local_of ((state M c).tasks t) ≡ Some l)
+live_at : {P S E R A L : Type 0} (M : Machine S E R A L) (c : CoreView P S E L) (t : Name E) → CanTake M c (Act t) → (l : L) × (local_of ((state M c).tasks t) ≡ Some l)
 live_at {S = S} {E = E} {L = L} M c t can = by c.fault refl
   where
     ready : (k : Task L) → (state M c).tasks t ≡ k → IsReadyTask M (state M c) k → (l : L) × (local_of ((state M c).tasks t) ≡ Some l)
@@ -36,11 +37,11 @@ live_at {S = S} {E = E} {L = L} M c t can = by c.fault refl
     ready (Live l f a p) e z = (l, ap local_of e)
     ready Ended e z = absurd z
 
-    by : (f : Option (Fault E)) → c.fault ≡ f → (l : L) × (local_of ((state M c).tasks t) ≡ Some l)
+    by : (f : Option (RunError E)) → c.fault ≡ f → (l : L) × (local_of ((state M c).tasks t) ≡ Some l)
     by None e = ready ((state M c).tasks t) refl (subst (λ g. CanStep M (at_fault (state M c) g) (Act t)) e can.0)
     by (Some f) e = absurd (subst (λ g. CanStep M (at_fault (state M c) g) (Act t)) e can.0)
 
-module _ {P S E R A L : Type 0} (M : Machine S E R A L) (s : Standing P S E L) (a : Open E L) (blocked : (p : Place E L) → IsAmong p s.parked → IsBlocked M s.core p) (beside : IsBeside M s None None a) where
+module _ {P S E R A L : Type 0} (M : Machine S E R A L) (s : Standing P S E L) (a : Open E L) (blocked : (p : TaskPlace E L) → IsAmong p s.parked → IsBlocked M s.core p) (beside : IsBeside M s None None a) where
   -- a task that can go on is open
   pub open_task : (t : Name E) → CanTake M s.core (Act t) → a.at t ≡ None → ⊥
   open_task t can none = none_is_some t (beside.tasks t l.0 l.1 none not_parked)
@@ -49,7 +50,7 @@ module _ {P S E R A L : Type 0} (M : Machine S E R A L) (s : Standing P S E L) (
       l = live_at M s.core t can
 
       not_parked : IsAmong t (tasks_of s.parked) → ⊥
-      not_parked i = let p = place_of t s.parked i in (blocked p.0 p.1).blocked (subst (λ u. CanTake M s.core (Act u)) (sym p.2) can)
+      not_parked i = let p = of_task t s.parked i in (blocked p.0 p.1).blocked (subst (λ u. CanTake M s.core (Act u)) (sym p.2) can)
 
   open_handler : (h : Handler E) (e : E) → CanTake M s.core (Hand h e) → a.has h ≡ false → ⊥
   open_handler h e can none = none_is_some h (beside.hands h (e, can.1) none)
@@ -61,7 +62,7 @@ module _ {P S E R A L : Type 0} (M : Machine S E R A L) (s : Standing P S E L) (
 
   module _ (cmp : E → E → Ordering) where
     -- the first open task is the first that can go on, if it can
-    pub lowest_task : ((t u : Name E) → (name_cmp cmp t u ≡ Equal) ↔ (t ≡ u)) → (p : Place E L) (b : Open E L) → IsTaskGone cmp a p b → CanTake M s.core (Act p.task) → IsLowest cmp M s.core (Act p.task)
+    pub lowest_task : ((t u : Name E) → (name_cmp cmp t u ≡ Equal) ↔ (t ≡ u)) → (p : TaskPlace E L) (b : Open E L) → IsTaskGone cmp a p b → CanTake M s.core (Act p.task) → IsFirstEnabled cmp M s.core (Act p.task)
     lowest_task exact p b gone can = record { can = can; before = before }
       where
         key : p.task ≡ gone.task
@@ -70,7 +71,7 @@ module _ {P S E R A L : Type 0} (M : Machine S E R A L) (s : Standing P S E L) (
         none_before : (u : Name E) → CanTake M s.core (Act u) → name_cmp cmp p.task u ≡ Greater → ⊥
         none_before u can_u e = by (a.at u) refl
           where
-            by : (o : Option (Place E L)) → a.at u ≡ o → ⊥
+            by : (o : Option (TaskPlace E L)) → a.at u ≡ o → ⊥
             by None none = open_task u can_u none
             by (Some q) is = both_ways _ (gone.first u (ap (λ o. is_some o) is)) (ap is_gt (ap (λ t. name_cmp cmp t u) (sym key) ∙ e))
 
@@ -85,7 +86,7 @@ module _ {P S E R A L : Type 0} (M : Machine S E R A L) (s : Standing P S E L) (
 
     -- the first open handler is the first that can be handed something, where no task is open
     pub lowest_handler : ((h k : Handler E) → (handler_cmp cmp h k ≡ Equal) ↔ (h ≡ k)) → ((t : Name E) → a.at t ≡ None) → (h : Handler E) (b : Open E L) → IsHandlerGone cmp a h b → (e : E) → CanTake M s.core (Hand h e)
-        → ((f : E) → CanTake M s.core (Hand h f) → f ≡ e) → IsLowest cmp M s.core (Hand h e)
+        → ((f : E) → CanTake M s.core (Hand h f) → f ≡ e) → IsFirstEnabled cmp M s.core (Hand h e)
     lowest_handler exact tasks h b gone e can one = record { can = can; before = before }
       where
         none_before : (k : Handler E) (f : E) → CanTake M s.core (Hand k f) → handler_cmp cmp h k ≡ Greater → ⊥
@@ -108,9 +109,9 @@ module _ {P S E R A L : Type 0} (M : Machine S E R A L) (s : Standing P S E L) (
 
 -- ---- handlers with something left
 
-module _ {P S E R A L : Type 0} (M : Machine S E R A L) (program : P) (budget : ℕ) (s : Standing P S E L) (sound : IsSound M program budget s) (over : s.over ≡ None) (comes : HandsWhatComes P M) where
+module _ {P S E R A L : Type 0} (M : Machine S E R A L) (program : P) (budget : ℕ) (s : Standing P S E L) (sound : IsBoardSound M program budget s) (over : s.over ≡ None) (comes : HandsWhatComes P M) where
   fine : s.core.fault ≡ None
-  fine = subst (λ (o : Option (Out E)). OverIs M budget s o) over sound.over_is
+  fine = no_fault M program budget s sound over
 
   -- what comes next can be handed
   pub can_hand : (h : Handler E) (e : E) → IsNext M.event_same s.core.table h e → CanTake M s.core (Hand h e)
@@ -122,60 +123,42 @@ module _ {P S E R A L : Type 0} (M : Machine S E R A L) (program : P) (budget : 
       let en : IsToHand M (state M s.core) h z.0 = subst (λ f. CanStep M (at_fault (state M s.core) f) (Hand h z.0)) fine (can_hand h z.0 z.1).0 in
       ap is_some en.on.is
 
--- ---- what left the agenda is being seen to
+-- ---- the task or the handler that left the agenda has its turn
 
 module _ {P S E R A L : Type 0} (M : Machine S E R A L) (s : Standing P S E L) (cmp : E → E → Ordering) (a b : Open E L) (beside : IsBeside M s None None a) where
-  pub without_task : ((t u : Name E) → (name_cmp cmp t u ≡ Equal) ↔ (t ≡ u)) → (k : Name E) (p : Place E L) → a.at k ≡ Some p → HasAt cmp a k None b → IsBeside M s (Some p.task) None b
-  without_task exact k p was without = record { current = current; tasks = tasks; hands = λ h z none. beside.hands h z (ap (λ f. f h) (sym without.has) ∙ none) }
+  pub without_task : ((t u : Name E) → (name_cmp cmp t u ≡ Equal) ↔ (t ≡ u)) → (k : Name E) (p : TaskPlace E L) → a.at k ≡ Some p → SetsOpenTask cmp a k None b → IsBeside M s (Some p.task) None b
+  without_task exact k p was without = record {
+    current = λ t q e. elim (at t) [
+      | inl z ↦ none_is_some q (sym z.1 ∙ e)
+      | inr z ↦
+          let y = beside.current t q (sym z.1 ∙ e) in
+          (y.0, y.1, λ own. z.0 (sym key ∙ (let same : p.task ≡ t = cc in same)))
+    ];
+    tasks = λ t l live none not_parked. elim (at t) [
+      | inl z ↦ ap (λ u. Some u) (key ∙ z.0)
+      | inr z ↦ none_is_some t (beside.tasks t l live (sym z.1 ∙ none) not_parked)
+    ];
+    hands = λ h z none. beside.hands h z (ap (λ f. f h) (sym without.has) ∙ none);
+  }
     where
       key : p.task ≡ k
       key = (beside.current k p was).0
 
-      here : (t : Name E) → is_eq (name_cmp cmp k t) ≡ true → b.at t ≡ None
-      here t is = without.at t ∙ ap (λ c. cond c None (a.at t)) is
-
-      there : (t : Name E) → is_eq (name_cmp cmp k t) ≡ false → b.at t ≡ a.at t
-      there t is = without.at t ∙ ap (λ c. cond c None (a.at t)) is
-
-      equal : (q : Ordering) → is_eq q ≡ true → q ≡ Equal
-      equal Less e = absurd (let z : ⊥ = cc in z)
-      equal Equal e = refl
-      equal Greater e = absurd (let z : ⊥ = cc in z)
-
-      current : (t : Name E) (q : Place E L) → b.at t ≡ Some q → (q.task ≡ t) × IsCurrent M s.core q × (Some p.task ≡ Some t → ⊥)
-      current t q e = elim (cases_Bool (is_eq (name_cmp cmp k t))) [
-        | inl is ↦ none_is_some q (sym (here t is) ∙ e)
-        | inr is ↦
-            let z = beside.current t q (sym (there t is) ∙ e) in
-            (z.0, z.1, λ own. both_ways _ is (ap is_eq ((exact k t).1 (sym key ∙ (let same : p.task ≡ t = cc in same)))))
-      ]
-
-      tasks : (t : Name E) (l : L) → local_of ((state M s.core).tasks t) ≡ Some l → b.at t ≡ None → (IsAmong t (tasks_of s.parked) → ⊥) → Some p.task ≡ Some t
-      tasks t l live none not_parked = elim (cases_Bool (is_eq (name_cmp cmp k t))) [
-        | inl is ↦ ap (λ u. Some u) (key ∙ (exact k t).0 (equal (name_cmp cmp k t) is))
-        | inr is ↦ none_is_some t (beside.tasks t l live (sym (there t is) ∙ none) not_parked)
-      ]
+      at : (t : Name E) → ((k ≡ t) × (b.at t ≡ None)) ⊎ ((k ≡ t → ⊥) × (b.at t ≡ a.at t))
+      at t = written (name_cmp cmp) exact a.at b.at k None without.at t
 
   pub without_handler : ((h k : Handler E) → (handler_cmp cmp h k ≡ Equal) ↔ (h ≡ k)) → (h : Handler E) → HasHandler cmp a h false b → IsBeside M s None (Some h) b
   without_handler exact h without = record {
     current = λ t p e. let z = beside.current t p (ap (λ f. f t) (sym without.at) ∙ e) in (z.0, z.1, λ n. none_is_some t n);
     tasks = λ t l live none not_parked. beside.tasks t l live (ap (λ f. f t) (sym without.at) ∙ none) not_parked;
-    hands = hands;
+    hands = λ k z none. elim (written (handler_cmp cmp) exact a.has b.has h false without.has k) [
+      | inl y ↦ ap (λ g. Some g) y.0
+      | inr y ↦ none_is_some k (beside.hands k z (sym y.1 ∙ none))
+    ];
   }
-    where
-      equal : (q : Ordering) → is_eq q ≡ true → q ≡ Equal
-      equal Less e = absurd (let z : ⊥ = cc in z)
-      equal Equal e = refl
-      equal Greater e = absurd (let z : ⊥ = cc in z)
-
-      hands : (k : Handler E) → HasNext M s.core k → b.has k ≡ false → Some h ≡ Some k
-      hands k z none = elim (cases_Bool (is_eq (handler_cmp cmp h k))) [
-        | inl is ↦ ap (λ g. Some g) ((exact h k).0 (equal (handler_cmp cmp h k) is))
-        | inr is ↦ none_is_some k (beside.hands k z (sym (without.has k ∙ ap (λ c. cond c false (a.has k)) is) ∙ none))
-      ]
 
 module _ {P S E R A L : Type 0} (M : Machine S E R A L) (s : Standing P S E L) (a : Open E L) (h : Handler E) where
-  -- a handler that nothing comes next for isn't missed
+  -- nobody misses a handler for which nothing comes next
   pub drained : (HasNext M s.core h → ⊥) → IsBeside M s None (Some h) a → IsBeside M s None None a
   drained nothing beside = record {
     current = beside.current;
@@ -185,6 +168,6 @@ module _ {P S E R A L : Type 0} (M : Machine S E R A L) (s : Standing P S E L) (
         absurd (nothing (subst (λ g. HasNext M s.core g) (let same : k ≡ h = cc in same) z));
   }
 
-  -- an open handler may be seen to as well
+  -- an open handler may have its turn as well
   pub still_open : IsBeside M s None None a → IsBeside M s None (Some h) a
   still_open beside = record { current = beside.current; tasks = beside.tasks; hands = λ k z none. none_is_some k (beside.hands k z none) }

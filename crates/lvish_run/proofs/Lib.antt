@@ -3,7 +3,6 @@ mod Upcoming
 mod Beside
 mod Firsts
 mod Agendas
-mod Tries
 mod Openings
 mod Turns
 mod Walks
@@ -11,9 +10,8 @@ mod Reports
 mod Texts
 pub mod Braces
 mod Alikes
-mod Tallies
+mod Counted
 mod Parts
-mod Faults
 pub mod OfScript
 pub mod Once
 pub mod Ending

@@ -5,7 +5,8 @@ use Rattle.lvish_calculus.specs.declared.label.Label.{Label}
 use Rattle.lvish_calculus.specs.declared.request.ErrorKind.{ErrorKind}
 use Rattle.lvish_calculus.specs.Machine.{Machine}
 use Rattle.lvish_calculus.specs.Program.{Functions, machine_of}
-use Rattle.lvish_calculus.specs.Calculus.{Name, State, Configuration, Running, Error, IsRun, IsEnd, start, step}
+use Rattle.lvish_calculus.specs.Calculus.{State, Configuration, Running, Error, IsRun, start, step}
+use Rattle.lvish_names.specs.Names.{Name}
 use Rattle.lvish_calculus.specs.Laws.{Reaches, IsCrossed, FreezesAllBy, NeverErrs}
 use Rattle.lvish_calculus.specs.Handing.{IsHandedWell}
 use Rattle.lvish_calculus.specs.SameRuns.{SameState, SameConfiguration, HaveSameRuns}
@@ -14,7 +15,8 @@ use Rattle.lvish_run.specs.declared.report.FinalState.{FinalState}
 use Rattle.lvish_run.specs.declared.report.Report.{Report}
 use Rattle.lvish_board.specs.declared.outcome.Outcome.{Outcome}
 use Rattle.lvish_board.specs.declared.outcome.Outcome.TheVariants.{Ended, Error as ErrorOutcome, Budget}
-use Rattle.lvish_run.specs.Honest.{labels_of, AreStates, Comes, IsOutcome, IsHonest}
+use Rattle.lvish_run.specs.Honest.{AreFinalStates, Comes, IsOutcome, IsHonest}
+use Rattle.lvish_board.specs.Standing.{labels_of}
 use Rattle.lvish_run.specs.Picked.{ComesNext, IsNamed, IsPicked}
 use Rattle.lvish_run.specs.Alike.{EndsAlikeIf, IsAlike}
 
@@ -26,7 +28,7 @@ abbrev final : {S : Type 0} → S → Bool → FinalState S
 final s frozen = record { content = s; frozen = frozen }
 
 module _ {S E R A L K : Type 0} (B : Base S E R A) (f : Functions S E R A L) (g : Functions S E R A K) (H : HaveSameRuns (over B f) (over B g)) where
-  states_there : (variables : ℕ) (c : State S E L) (d : State S E K) (states : List (FinalState S)) → SameState (over B f) (over B g) c d → AreStates variables c states → AreStates variables d states
+  states_there : (variables : ℕ) (c : State S E L) (d : State S E K) (states : List (FinalState S)) → SameState (over B f) (over B g) c d → AreFinalStates variables c states → AreFinalStates variables d states
   states_there variables c d states s a = record {
     count = a.count;
     each = λ v small. a.each v small ∙ ap (λ (q : FinalState S). Some q) (alike v (s.content v) (s.frozen v));
@@ -120,12 +122,6 @@ module _ {S E R A L K : Type 0} (B : Base S E R A) (f : Functions S E R A L) (g 
   abbrev trace : List (Label E)
   trace = labels_of r.trace
 
-  -- the run of a report that ended
-  ended_run : r.outcome ≡ Ended → (a : State S E L) × Reaches (over B f) trace a
-  ended_run ended =
-      let o : (h : Comes (over B f) variables r) × IsEnd (over B f) h.last = subst (λ x. IsOutcome (over B f) variables budget r x) ended honest.outcome in
-      (o.0.last, o.0.reached)
-
   alike_if : (P Q : List (Label E) → List (Label E) → Type 0) → EndsAlikeIf (over B f) variables r P
       → ((ys : List (Label E)) (a : State S E L) → Reaches (over B f) ys a → Q trace ys → P trace ys) → EndsAlikeIf (over B g) variables r Q
   alike_if P Q alike from ys b run end q =
@@ -149,24 +145,15 @@ module _ {S E R A L K : Type 0} (B : Base S E R A) (f : Functions S E R A L) (g 
       let k = H.there xs last one in
       all_by_there B g f (back B f g H) t [] xs (Running (start (over B g))) (Running (start (over B f))) k.0 (both_start B g f (back B f g H)) k.1 z
 
-  apart_back : (a : State S E L) → Reaches (over B f) trace a → (ys : List (Label E)) (b : State S E L) → Reaches (over B f) ys b → Apart (over B g) trace ys → Apart (over B f) trace ys
-  apart_back a run ys b reach apart crossed = apart (crossed_there B f g H trace ys (Running a) (Running b) run reach crossed)
-
-  one_back : (a : State S E L) → Reaches (over B f) trace a → (ys : List (Label E)) (b : State S E L) → Reaches (over B f) ys b → OneAsks (over B g) trace ys → OneAsks (over B f) trace ys
-  one_back a run ys b reach q = (q.0, freezes_back trace (Running a) run q.0 q.1, freezes_back ys (Running b) reach q.0 q.2)
-
-  never_back : (ys : List (Label E)) (b : State S E L) → Reaches (over B f) ys b → NoError (over B g) trace ys → NoError (over B f) trace ys
-  never_back ys b reach never = never_there (over B g) (over B f) (back B f g H) never
-
   -- where an end of the one is like all others, so is it of the other
   pub alike_there : IsAlike (over B f) variables r → IsAlike (over B g) variables r
   alike_there alike ended =
-      let run = ended_run ended in
+      let run = run_of B f g H variables budget r r.outcome honest.outcome in
       let a = alike ended in
       record {
-        uncrossed = alike_if (Apart (over B f)) (Apart (over B g)) a.uncrossed (apart_back run.0 run.1);
-        one_asks = alike_if (OneAsks (over B f)) (OneAsks (over B g)) a.one_asks (one_back run.0 run.1);
-        no_error = alike_if (NoError (over B f)) (NoError (over B g)) a.no_error never_back;
+        uncrossed = alike_if (Apart (over B f)) (Apart (over B g)) a.uncrossed (λ ys b reach apart crossed. apart (crossed_there B f g H trace ys run.0 (Running b) run.1 reach crossed));
+        one_asks = alike_if (OneAsks (over B f)) (OneAsks (over B g)) a.one_asks (λ ys b reach q. (q.0, freezes_back trace run.0 run.1 q.0 q.1, freezes_back ys (Running b) reach q.0 q.2));
+        no_error = alike_if (NoError (over B f)) (NoError (over B g)) a.no_error (λ ys b reach never. never_there (over B g) (over B f) (back B f g H) never);
       }
 
 -- what is said of the flat code's report is said of the script's

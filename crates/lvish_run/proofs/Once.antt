@@ -7,11 +7,12 @@ use Rattle.std.specs.declared.cmp.Ordering.{Ordering}
 use Rattle.std.specs.declared.cmp.Ordering.TheVariants.{Less}
 use Rattle.std.specs.Ordering.{ordering_reverse, is_lt}
 use Rattle.std.specs.Cmp.{IsTotalOrder, on_total, then_total}
-use Rattle.lvish_names.specs.OrderLaws.{name_total, handler_total}
+use Rattle.lvish_names.specs.laws.OrderLaws.{name_total, handler_total}
 use Rattle.lvish_calculus.specs.declared.label.Label.{Label}
-use Rattle.lvish_calculus.specs.declared.label.Label.TheVariants.{Task as Act, Hand}
+use Rattle.lvish_calculus.specs.declared.label.Label.TheVariants.{Act, Hand}
 use Rattle.lvish_calculus.specs.Machine.{Machine}
-use Rattle.lvish_calculus.specs.Calculus.{Handler, Configuration, Running, Error, IsRun, step}
+use Rattle.lvish_calculus.specs.Calculus.{Configuration, Running, Error, IsRun, step}
+use Rattle.lvish_names.specs.Names.{Handler}
 use Rattle.lvish_calculus.specs.Handing.{IsAmong}
 use Rattle.lvish_core.specs.Labels.{label_cmp}
 use Rattle.lvish_run.specs.Picked.{IsChoice, IsFirst, IsNamed, IsPicked}
@@ -19,7 +20,7 @@ use Rattle.lvish_run.specs.Picked.{IsChoice, IsFirst, IsNamed, IsPicked}
 -- ---- ascending lists
 
 module _ {K : Type 0} (c : K → K → Ordering) (apart : (x y : K) → c x y ≡ Less → c y x ≡ Less → ⊥) where
-  -- what all elements are above
+  -- an element of a list that x is below
   above : (x y : K) (ys : List K) → AllByRecursion (λ z. c x z ≡ Less) ys → IsAmong y ys → c x y ≡ Less
   above x y [] a i = absurd i
   above x y (z ∷ zs) a (inl e) = subst (λ w. c x w ≡ Less) (sym e) a.0
@@ -31,7 +32,7 @@ module _ {K : Type 0} (c : K → K → Ordering) (apart : (x y : K) → c x y �
   heads x y xs ys s t (inr i) (inl e) = sym e
   heads x y xs ys s t (inr i) (inr j) = absurd (apart x y (above x y xs s j) (above y x ys t i))
 
-  -- the others of them
+  -- the other elements of two such lists
   others : (x y z : K) (xs ys : List K) → x ≡ y → AllByRecursion (λ w. c x w ≡ Less) xs → IsAmong z xs → IsAmong z (y ∷ ys) → IsAmong z ys
   others x y z xs ys e s i (inl h) =
       let own : c x x ≡ Less = subst (λ w. c x w ≡ Less) (h ∙ sym e) (above x z xs s i) in

@@ -1,43 +1,36 @@
 -- The agenda beside a board before any step.
-use Rattle.std.proofs.Common.{◌≡◌, inl, inr, ℕ, false, [], ◌∷◌, Option, Some, None, IsSome, refl, sym, ap, ◌∙◌, subst}
+use Rattle.std.proofs.Common.{◌≡◌, inl, inr, ℕ, false, [], ◌∷◌, Some, None, IsSome, refl, sym, ap, ◌∙◌, subst}
 use Rattle.std.specs.Prelude.{if◌then◌else◌}
 use Rattle.std.proofs.lemmas.Bool.{cases_Bool, false≢true}
 use Rattle.lvish_calculus.specs.Machine.{Machine, IsLawful}
-use Rattle.lvish_calculus.specs.Calculus.{Name, Handler, main, Absent, Live, State, start, same_name}
+use Rattle.lvish_calculus.specs.Calculus.{Absent, Live, State, start}
+use Rattle.lvish_names.specs.Names.{Name, Handler, main, same_name}
 use Rattle.lvish_calculus.specs.Handing.{IsAmong}
 use Rattle.lvish_calculus.proofs.Names.{same_name-true}
 use Rattle.lvish_core.specs.Core.{state}
 use Rattle.lvish_core.specs.CoreLaws.{HandsWhatComes}
 use Rattle.lvish_core.specs.Changes.{local_of}
-use Rattle.lvish_core.proofs.Goes.{running_same, at_state}
-use Rattle.lvish_board.specs.declared.outcome.Outcome.{Outcome}
+use Rattle.lvish_core.specs.laws.Runs.{running_same, at_state}
 use Rattle.lvish_board.specs.declared.work.Work.{Work}
 use Rattle.lvish_board.specs.declared.work.Work.TheVariants.{Stretch}
-use Rattle.lvish_board.specs.Place.{Place}
-use Rattle.lvish_board.specs.Standing.{Standing, tasks_of, IsCurrent, IsSound, IsOpened, OverIs}
+use Rattle.lvish_board.specs.Place.{TaskPlace}
+use Rattle.lvish_board.specs.Standing.{Standing, tasks_of, IsCurrent, IsBoardSound, IsOpened}
 use Rattle.lvish_board.specs.Listed.{HasNext}
 use Rattle.lvish_run.specs.Agenda.{Open, IsEmpty, IsTaskOf, Adds, IsBeside}
+use Rattle.lvish_board.proofs.Steps.{no_fault}
+use Rattle.lvish_run.proofs.Agendas.{place_in, task_of_one}
 use Rattle.lvish_run.proofs.Firsts.{none_is_some, handler_there}
 
-module _ {P' P J S L R A W E Ans : Type 0} (M : Machine S E R Ans L) (ok : IsLawful M) (program : P') (budget : ℕ) (s : Standing P' S E L) (sound : IsSound M program budget s) (opened : IsOpened M program s) (comes : HandsWhatComes P' M)
+module _ {P' P J S L R A W E Ans : Type 0} (M : Machine S E R Ans L) (ok : IsLawful M) (program : P') (budget : ℕ) (s : Standing P' S E L) (sound : IsBoardSound M program budget s) (opened : IsOpened M program s) (comes : HandsWhatComes P' M)
     (a b : Open E L) (empty : IsEmpty a) (w : Work P J S L R A W E) (is : w ≡ Stretch (record { task = main; from = M.start })) (adds : Adds (w ∷ []) a b) where
-  abbrev first : Place E L
+  abbrev first : TaskPlace E L
   first = record { task = main; from = M.start }
 
-  fine : s.core.fault ≡ None
-  fine = subst (λ (o : Option (Outcome E)). OverIs M budget s o) opened.over sound.over_is
-
   at_start : state M s.core ≡ start M
-  at_start = running_same (sym (at_state M s.core fine) ∙ opened.core.at_start)
+  at_start = running_same (sym (at_state M s.core (no_fault M program budget s sound opened.over)) ∙ opened.core.at_start)
 
-  only : (p : Place E L) → IsTaskOf {P = P} {J = J} {S = S} {R = R} {A = A} {W = W} (Stretch first ∷ []) p → p ≡ first
-  only p (inl (inl e)) = (let z : p ≡ first = cc in z)
-  only p (inl (inr z)) = absurd z
-  only p (inr (inl e)) = absurd (let z : ⊥ = cc in z)
-  only p (inr (inr z)) = absurd z
-
-  is_first : (p : Place E L) → IsTaskOf (w ∷ []) p → p ≡ first
-  is_first p i = only p (subst (λ v. IsTaskOf (v ∷ []) p) is i)
+  is_first : (p : TaskPlace E L) → IsTaskOf (w ∷ []) p → p ≡ first
+  is_first p i = let both : Some p ≡ Some first = sym (task_of_one w p i) ∙ ap place_in is in let same : p ≡ first = cc in same
 
   listed : IsTaskOf (w ∷ []) first
   listed = inl (inl (sym is))
@@ -45,7 +38,7 @@ module _ {P' P J S L R A W E Ans : Type 0} (M : Machine S E R Ans L) (ok : IsLaw
   first_current : IsCurrent M s.core first
   first_current = subst (λ (c : State S E L). local_of (c.tasks main) ≡ Some M.start) (sym at_start) refl
 
-  current : (t : Name E) (p : Place E L) → b.at t ≡ Some p → (p.task ≡ t) × IsCurrent M s.core p × (None ≡ Some t → ⊥)
+  current : (t : Name E) (p : TaskPlace E L) → b.at t ≡ Some p → (p.task ≡ t) × IsCurrent M s.core p × (None ≡ Some t → ⊥)
   current t p e = elim (adds.from t p e) [
     | inl was ↦ none_is_some p (sym (empty.at t) ∙ was)
     | inr z ↦ (z.0, subst (λ q. IsCurrent M s.core q) (sym (is_first p z.1)) first_current, λ n. none_is_some t n)

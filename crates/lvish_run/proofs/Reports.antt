@@ -1,57 +1,52 @@
 -- The report of a walk is honest.
-use Rattle.std.proofs.Common.{◌≡◌, ◌⊎◌, inl, inr, ℕ, suc, zero, ◌+◌, ◌<◌, ◌≤◌, ◌==◌, List, [], ◌∷◌, length, Option, Some, None, slice_get, sum, cond, Bool, Result, Ok, Err, IfOk, IsSome, refl, sym, ap, ◌∙◌, subst, arith}
-use Rattle.std.proofs.lemmas.Option.{slice_get-map}
-use Rattle.std.proofs.lemmas.List.{length-map}
+use Rattle.std.proofs.Common.{◌≡◌, ◌⊎◌, inl, inr, ℕ, suc, zero, ◌+◌, ◌<◌, ◌≤◌, ◌==◌, List, [], ◌∷◌, length, Option, Some, None, slice_get, cond, Result, Ok, Err, IfOk, IsSome, refl, sym, ap, ◌∙◌, subst, arith}
 use Rattle.std.specs.List.{AllByRecursion, count_by, fold}
-use Rattle.std.specs.Option.{option_map}
 use Rattle.std.specs.declared.cmp.Ordering.{Ordering}
 use Rattle.lvish_calculus.specs.declared.label.Label.{Label}
 use Rattle.lvish_calculus.specs.Machine.{Machine}
 use Rattle.lvish_calculus.specs.Calculus.{Running, CanStep, IsRun, IsEnded, start}
-use Rattle.lvish_core.specs.declared.fault.Fault.{Fault}
+use Rattle.lvish_core.specs.declared.fault.RunError.{RunError}
 use Rattle.lvish_calculus.specs.Handing.{IsAmong}
-use Rattle.lvish_variable.specs.Variable.{View as Variable}
-use Rattle.lvish_core.specs.Core.{View, picture, state, at_fault, CanTake, IsRunTo}
+use Rattle.lvish_core.specs.Core.{CoreView, picture, state, at_fault, CanTake, IsRunTo}
 use Rattle.lvish_core.specs.CoreLaws.{TakesSomething}
-use Rattle.lvish_core.specs.Reads.{AreStates as AreVariables}
 use Rattle.lvish_core.specs.Labels.{AreLabels}
 use Rattle.lvish_run.specs.declared.report.FinalState.{FinalState}
-use Rattle.lvish_board.specs.declared.entry.Entry.{Entry}
+use Rattle.lvish_board.specs.declared.trace_entry.TraceEntry.{TraceEntry}
 use Rattle.lvish_run.specs.declared.report.Report.{Report}
 use Rattle.lvish_board.specs.declared.outcome.Outcome.{Outcome}
 use Rattle.lvish_board.specs.declared.outcome.Outcome.TheVariants.{Ended, Error as ErrorOutcome, Budget}
-use Rattle.lvish_run.specs.Honest.{labels_of, AreStates, Comes, IsOutcome, IsTally, IsHonest}
+use Rattle.lvish_run.specs.Honest.{AreFinalStates, Comes, IsOutcome, IsCountByWorker, IsHonest}
+use Rattle.lvish_board.specs.Standing.{labels_of, Standing, OverIs, IsBoardSound}
 use Rattle.lvish_run.specs.Picked.{IsPicked}
 use Rattle.lvish_calculus.specs.Live.{HasLive}
-use Rattle.lvish_board.specs.Standing.{Standing, OverIs, IsSound}
-use Rattle.lvish_run.specs.Walk.{IsStuck, IsWalked, IsAccount, AreCopies, IsHow}
+use Rattle.lvish_run.specs.Walk.{IsStuck, IsWalked, IsAccount, IsHow}
 
--- as many as come before, and all of these
-fold_all : {E : Type 0} (n : ℕ) (xs : List (Entry E)) → AllByRecursion (λ e. e.worker ≡ 0) xs → fold (λ a x. a + cond (x.worker == 0) 1 0) n xs ≡ n + length xs
+-- a count goes up by the length of a list whose entries are all of worker 0
+fold_all : {E : Type 0} (n : ℕ) (xs : List (TraceEntry E)) → AllByRecursion (λ e. e.worker ≡ 0) xs → fold (λ a x. a + cond (x.worker == 0) 1 0) n xs ≡ n + length xs
 fold_all n [] h = omega arith
 fold_all n (x ∷ xs) h =
     ap (λ k. fold (λ a y. a + cond (y.worker == 0) 1 0) (n + cond (k == 0) 1 0) xs) h.0 ∙ fold_all (n + 1) xs h.1 ∙ omega arith
 
 -- one worker made all steps
-all_by_one : {E : Type 0} (xs : List (Entry E)) → AllByRecursion (λ e. e.worker ≡ 0) xs → count_by (λ e. e.worker == 0) xs ≡ length xs
+all_by_one : {E : Type 0} (xs : List (TraceEntry E)) → AllByRecursion (λ e. e.worker ≡ 0) xs → count_by (λ e. e.worker == 0) xs ≡ length xs
 all_by_one xs h = fold_all 0 xs h ∙ omega arith
 
-module _ {P S E R A L : Type 0} (M : Machine S E R A L) (variables : ℕ) (c : View P S E L) (trace : List (Entry E)) (budget : ℕ) (r : Report S E) (trace_is : r.trace ≡ trace) (steps : r.steps ≡ length trace) (something : TakesSomething P M) (leads : IsRunTo M c (labels_of trace)) where
+module _ {P S E R A L : Type 0} (M : Machine S E R A L) (variables : ℕ) (c : CoreView P S E L) (trace : List (TraceEntry E)) (budget : ℕ) (r : Report S E) (trace_is : r.trace ≡ trace) (steps : r.steps ≡ length trace) (something : TakesSomething P M) (leads : IsRunTo M c (labels_of trace)) where
   -- the run of the report's trace
-  at : (f : Option (Fault E)) → c.fault ≡ f → IsRun M (Running (start M)) (labels_of r.trace) (at_fault (state M c) f)
+  at : (f : Option (RunError E)) → c.fault ≡ f → IsRun M (Running (start M)) (labels_of r.trace) (at_fault (state M c) f)
   at f is = subst (λ t. IsRun M (Running (start M)) (labels_of t) (at_fault (state M c) f)) (sym trace_is) (subst (λ g. IsRun M (Running (start M)) (labels_of trace) (at_fault (state M c) g)) is leads.reached)
 
-  can_at : (f : Option (Fault E)) → c.fault ≡ f → (l : Label E) → CanStep M (picture M c) l → CanStep M (at_fault (state M c) f) l
+  can_at : (f : Option (RunError E)) → c.fault ≡ f → (l : Label E) → CanStep M (picture M c) l → CanStep M (at_fault (state M c) f) l
   can_at f is l can = subst (λ g. CanStep M (at_fault (state M c) g) l) is can
 
-  can_back : (f : Option (Fault E)) → c.fault ≡ f → (l : Label E) → CanStep M (at_fault (state M c) f) l → CanStep M (picture M c) l
+  can_back : (f : Option (RunError E)) → c.fault ≡ f → (l : Label E) → CanStep M (at_fault (state M c) f) l → CanStep M (picture M c) l
   can_back f is l can = subst (λ g. CanStep M (at_fault (state M c) g) l) (sym is) can
 
   -- where no label can be taken, none is enabled
   stuck_then : IsStuck M c → (l : Label E) → CanStep M (picture M c) l → ⊥
   stuck_then stuck l can = let k = something c (labels_of trace) leads l can in stuck (k.0) k.1
 
-  abbrev comes : c.fault ≡ None → AreStates variables (state M c) r.states × HasLive (state M c) r.blocked → Comes M variables r
+  abbrev comes : c.fault ≡ None → AreFinalStates variables (state M c) r.states × HasLive (state M c) r.blocked → Comes M variables r
   comes is h = record { last = state M c; reached = at None is; states = h.0; blocked = h.1 }
 
   outcome_is : (o : Outcome E) → IsHow M c o → (o ≡ Budget → length trace ≡ budget) → IsAccount M variables c o r.states r.blocked → IsOutcome M variables budget r o
@@ -60,27 +55,24 @@ module _ {P S E R A L : Type 0} (M : Machine S E R A L) (variables : ℕ) (c : V
   outcome_is (ErrorOutcome kind v t) h used a = (at (Some (record { kind = kind; variable = v; task = t })) h, a.0, a.1)
 
 -- where a core's steps are used up, there are as many as the budget
-pub used_up : {P S E R A L : Type 0} (M : Machine S E R A L) (c : View P S E L) (o : Outcome E) (many budget : ℕ) → IsHow M c o → (many ≡ budget) ⊎ IsStuck M c → o ≡ Budget → many ≡ budget
+pub used_up : {P S E R A L : Type 0} (M : Machine S E R A L) (c : CoreView P S E L) (o : Outcome E) (many budget : ℕ) → IsHow M c o → (many ≡ budget) ⊎ IsStuck M c → o ≡ Budget → many ≡ budget
 used_up M c o many budget h (inl e) is = e
 used_up M c o many budget h (inr stuck) is =
     let k : (c.fault ≡ None) × ((l : Label _) × CanTake M c l) = subst (λ (q : Outcome _). IsHow M c q) is h in
     absurd (stuck k.1.0 k.1.1)
 
 -- the steps of one worker
-pub tally_of_one : {E : Type 0} (steps : ℕ) (trace : List (Entry E)) → steps ≡ length trace → AllByRecursion (λ e. e.worker ≡ 0) trace → IsTally 1 trace (steps ∷ [])
-tally_of_one {E} steps trace long one = record { count = refl; each = each; adds_up = sum_one steps ∙ long }
+counted_of_one : {E : Type 0} (steps : ℕ) (trace : List (TraceEntry E)) → steps ≡ length trace → AllByRecursion (λ e. e.worker ≡ 0) trace → IsCountByWorker 1 trace (steps ∷ [])
+counted_of_one {E} steps trace long one = record { count = refl; each = each; adds_up = omega (arith, long) }
   where
-    sum_one : (n : ℕ) → sum (n ∷ []) ≡ n
-    sum_one n = omega arith
-
-    each : (k : ℕ) → k < 1 → slice_get (steps ∷ []) k ≡ Some (count_by (λ (e : Entry E). e.worker == k) trace)
+    each : (k : ℕ) → k < 1 → slice_get (steps ∷ []) k ≡ Some (count_by (λ (e : TraceEntry E). e.worker == k) trace)
     each zero small = ap (λ (n : ℕ). Some n) (long ∙ sym (all_by_one trace one))
     each (suc k) small = absurd (omega arith)
 
 -- the report of steps that led to a core of the program p, in words of the machine of p
-pub honest_at : {P S E R A L : Type 0} (machine : P → Machine S E R A L) (variables : P → ℕ) (p : P) (c : View P S E L) (trace : List (Entry E)) (workers budget : ℕ) (o q : Outcome E) (states : List (FinalState S)) (steps blocked : ℕ) (by_worker : List ℕ) (r : Report S E)
+pub honest_at : {P S E R A L : Type 0} (machine : P → Machine S E R A L) (variables : P → ℕ) (p : P) (c : CoreView P S E L) (trace : List (TraceEntry E)) (workers budget : ℕ) (o q : Outcome E) (states : List (FinalState S)) (steps blocked : ℕ) (by_worker : List ℕ) (r : Report S E)
     → TakesSomething P (machine p) → c.program ≡ p → IsRunTo (machine p) c (labels_of trace) → length trace ≤ budget → (o ≡ Budget → length trace ≡ budget) → IsHow (machine p) c o → q ≡ o
-    → IsAccount (machine c.program) (variables c.program) c q states blocked → steps ≡ length trace → IsTally workers trace by_worker
+    → IsAccount (machine c.program) (variables c.program) c q states blocked → steps ≡ length trace → IsCountByWorker workers trace by_worker
     → r ≡ record { outcome = q; states = states; steps = steps; blocked = blocked; trace = trace; by_worker = by_worker }
     → IsHonest (machine p) (variables p) workers budget r
 honest_at {S = S} {E = E} machine variables p c trace workers budget o q states steps blocked by_worker r something is leads within used how same account long tally made =
@@ -95,11 +87,11 @@ honest_at {S = S} {E = E} machine variables p c trace workers budget o q states 
     report : Report S E
     report = record { outcome = q; states = states; steps = steps; blocked = blocked; trace = trace; by_worker = by_worker }
 
--- a walk, in words of what shows it
-pub walked_at : {P S E R A L : Type 0} (cmp : E → E → Ordering) (M : Machine S E R A L) (p : P) (picks : List ℕ) (budget : ℕ) (c core : View P S E L) (t trace : List (Entry E)) → core ≡ c → trace ≡ t → IsWalked cmp M p picks budget c t → IsWalked cmp M p picks budget core trace
+-- a walk of the same core and trace
+pub walked_at : {P S E R A L : Type 0} (cmp : E → E → Ordering) (M : Machine S E R A L) (p : P) (picks : List ℕ) (budget : ℕ) (c core : CoreView P S E L) (t trace : List (TraceEntry E)) → core ≡ c → trace ≡ t → IsWalked cmp M p picks budget c t → IsWalked cmp M p picks budget core trace
 walked_at cmp M p picks budget c core t trace core_is trace_is w = subst (λ k. IsWalked cmp M p picks budget k trace) (sym core_is) (subst (λ es. IsWalked cmp M p picks budget c es) (sym trace_is) w)
 
-module _ {P S E R A L : Type 0} (machine : P → Machine S E R A L) (variables : P → ℕ) (cmp : E → E → Ordering) (p : P) (picks : List ℕ) (budget : ℕ) (c : View P S E L) (trace : List (Entry E)) (r : Report S E)
+module _ {P S E R A L : Type 0} (machine : P → Machine S E R A L) (variables : P → ℕ) (cmp : E → E → Ordering) (p : P) (picks : List ℕ) (budget : ℕ) (c : CoreView P S E L) (trace : List (TraceEntry E)) (r : Report S E)
     (walked : IsWalked cmp (machine p) p picks budget c trace) where
   -- the report of a walk
   pub walk_is_honest : (o q : Outcome E) (states : List (FinalState S)) (steps blocked : ℕ) (by_worker : List ℕ) → TakesSomething P (machine p) → IsHow (machine c.program) c o → q ≡ o
@@ -110,24 +102,24 @@ module _ {P S E R A L : Type 0} (machine : P → Machine S E R A L) (variables :
       let how_there : IsHow (machine p) c o = subst (λ x. IsHow (machine x) c o) walked.walk.program how in
       honest_at machine variables p c trace 1 budget o q states steps blocked by_worker r something walked.walk.program walked.walk.leads walked.within
       (used_up (machine p) c o (length trace) budget how_there walked.stopped) how_there same account (long ∙ walked.walk.steps)
-      (subst (λ ns. IsTally 1 trace ns) (sym counts) (tally_of_one c.steps trace walked.walk.steps walked.walk.workers)) made
+      (subst (λ ns. IsCountByWorker 1 trace ns) (sym counts) (counted_of_one c.steps trace walked.walk.steps walked.walk.workers)) made
 
   pub walk_is_picked : r.trace ≡ trace → IsPicked cmp (machine p) picks [] (Running (start (machine p))) (labels_of r.trace)
   walk_is_picked trace_is = subst (λ t. IsPicked cmp (machine p) picks [] (Running (start (machine p))) (labels_of t)) (sym trace_is) walked.walk.picked
 
 -- a core that can take a label has no error
-pub able : {P S E R A L : Type 0} (M : Machine S E R A L) (c : View P S E L) (l : Label E) → CanTake M c l → c.fault ≡ None
+pub able : {P S E R A L : Type 0} (M : Machine S E R A L) (c : CoreView P S E L) (l : Label E) → CanTake M c l → c.fault ≡ None
 able M c l can = by c.fault (λ i. c.fault)
   where
-    by : (f : Option (Fault _)) → c.fault ≡ f → c.fault ≡ None
+    by : (f : Option (RunError _)) → c.fault ≡ f → c.fault ≡ None
     by None e = e
     by (Some f) e = absurd (subst (λ g. CanStep M (at_fault (state M c) g) l) e can.0)
 
--- nor has one at an end, which can take none
-pub ended_then : {P S E R A L : Type 0} (M : Machine S E R A L) (c : View P S E L) → IsEnded M (picture M c) → (c.fault ≡ None) × IsStuck M c
+-- a core at an end has no error, and can take no label
+pub ended_then : {P S E R A L : Type 0} (M : Machine S E R A L) (c : CoreView P S E L) → IsEnded M (picture M c) → (c.fault ≡ None) × IsStuck M c
 ended_then M c end = (by c.fault (λ i. c.fault), stuck)
   where
-    by : (f : Option (Fault _)) → c.fault ≡ f → c.fault ≡ None
+    by : (f : Option (RunError _)) → c.fault ≡ f → c.fault ≡ None
     by None e = e
     by (Some f) e = absurd (subst (λ g. IsEnded M (at_fault (state M c) g)) e end)
 
@@ -139,8 +131,8 @@ ended_then M c end = (by c.fault (λ i. c.fault), stuck)
         let at_end : IsEnded M (Running (state M c)) = subst (λ g. IsEnded M (at_fault (state M c) g)) none end in
         at_end l (subst (λ g. CanStep M (at_fault (state M c) g) l) none can.0)
 
--- nor can one with an error
-failed_then : {P S E R A L : Type 0} (M : Machine S E R A L) (c : View P S E L) (f : Fault E) → c.fault ≡ Some f → IsStuck M c
+-- a core with an error can take no label
+failed_then : {P S E R A L : Type 0} (M : Machine S E R A L) (c : CoreView P S E L) (f : RunError E) → c.fault ≡ Some f → IsStuck M c
 failed_then M c f is l can = (let none : Some f ≡ None = sym is ∙ able M c l can in let no : ⊥ = cc in no)
 
 -- where a board is over, its run has stopped
@@ -162,9 +154,9 @@ over_used M budget s o h is =
     k.0
 
 -- the report of a board that is over
-pub board_is_honest : {P S E R A L : Type 0} (machine : P → Machine S E R A L) (variables : P → ℕ) (p : P) (s : Standing P S E L) (core : View P S E L) (trace : List (Entry E)) (workers budget : ℕ) (o q : Outcome E) (states : List (FinalState S)) (steps blocked : ℕ) (by_worker : List ℕ) (r : Report S E)
-    → TakesSomething P (machine p) → IsSound (machine p) p budget s → core ≡ s.core → trace ≡ s.trace → s.over ≡ Some o → q ≡ o
-    → IsAccount (machine core.program) (variables core.program) core q states blocked → steps ≡ length trace → IsTally workers trace by_worker
+pub board_is_honest : {P S E R A L : Type 0} (machine : P → Machine S E R A L) (variables : P → ℕ) (p : P) (s : Standing P S E L) (core : CoreView P S E L) (trace : List (TraceEntry E)) (workers budget : ℕ) (o q : Outcome E) (states : List (FinalState S)) (steps blocked : ℕ) (by_worker : List ℕ) (r : Report S E)
+    → TakesSomething P (machine p) → IsBoardSound (machine p) p budget s → core ≡ s.core → trace ≡ s.trace → s.over ≡ Some o → q ≡ o
+    → IsAccount (machine core.program) (variables core.program) core q states blocked → steps ≡ length trace → IsCountByWorker workers trace by_worker
     → r ≡ record { outcome = q; states = states; steps = steps; blocked = blocked; trace = trace; by_worker = by_worker }
     → IsHonest (machine p) (variables p) workers budget r
 board_is_honest {S = S} {E = E} machine variables p s core trace workers budget o q states steps blocked by_worker r something sound core_is trace_is over same account long tally made =
@@ -174,23 +166,6 @@ board_is_honest {S = S} {E = E} machine variables p s core trace workers budget 
     (subst (λ t. IsRunTo (machine p) s.core (labels_of t)) (sym trace_is) sound.leads) within (λ e. ap length trace_is ∙ over_used (machine p) budget s o over_is e) (over_how (machine p) budget s o over_is) same
     (subst (λ x. IsAccount (machine x.program) (variables x.program) x q states blocked) core_is account) long tally made
 
--- a variable's state and mark
-abbrev copy_of : {S E : Type 0} → Variable S E → FinalState S
-copy_of x = record { content = x.state; frozen = x.frozen }
-
-copies_alike : {S E : Type 0} (x : Variable S E) (content : S) (frozen : Bool) → x.state ≡ content → x.frozen ≡ frozen → copy_of x ≡ record { content = content; frozen = frozen }
-copies_alike x content frozen a b = λ i. record { content = a i; frozen = b i }
-
--- the states of a core that met no error
-pub states_are : {P S E R A L : Type 0} (M : Machine S E R A L) (variables : ℕ) (c : View P S E L) (xs : List (Variable S E)) (states : List (FinalState S)) → AreVariables M variables c xs → AreCopies xs states → AreStates variables (state M c) states
-states_are {S = S} {E = E} M variables c xs states a copies = record {
-  count = ap length copies ∙ length-map xs (λ (x : Variable S E). copy_of x) ∙ a.count;
-  each = λ v small.
-      let there = a.each v small in
-      ap (λ ys. slice_get ys v) copies ∙ slice_get-map (λ (x : Variable S E). copy_of x) xs v ∙ ap (option_map (λ (x : Variable S E). copy_of x)) there.1
-      ∙ ap (λ (q : FinalState S). Some q) (copies_alike (there.0) ((state M c).content v) ((state M c).frozen v) there.2 there.3);
-}
-
 -- among the elements is the one at a place
 among_at : {X : Type 0} (xs : List X) (k : ℕ) (x : X) → slice_get xs k ≡ Some x → IsAmong x xs
 among_at [] zero x e = absurd cc
@@ -199,24 +174,15 @@ among_at (y ∷ ys) zero x e = let s : y ≡ x = cc in inl (sym s)
 among_at (y ∷ ys) (suc k) x e = inr (among_at ys k x e)
 
 -- the label that was chosen can be taken
-pub chosen_can : {P S E R A L : Type 0} (cmp : E → E → Ordering) (M : Machine S E R A L) (c : View P S E L) (ls : List (Label E)) (k : ℕ) (l : Label E) → AreLabels cmp M c ls → slice_get ls k ≡ Some l → CanTake M c l
+pub chosen_can : {P S E R A L : Type 0} (cmp : E → E → Ordering) (M : Machine S E R A L) (c : CoreView P S E L) (ls : List (Label E)) (k : ℕ) (l : Label E) → AreLabels cmp M c ls → slice_get ls k ≡ Some l → CanTake M c l
 chosen_can cmp M c ls k l a e = (a.just l).0 (among_at ls k l e)
 
--- how a core without an error came out, by its labels
-pub no_label : {P S E R A L : Type 0} (cmp : E → E → Ordering) (M : Machine S E R A L) (c : View P S E L) (ls : List (Label E)) → c.fault ≡ None → AreLabels cmp M c ls → length ls ≡ 0 → IsHow M c Ended
-no_label cmp M c [] none a e = (none, λ l can. (a.just l).1 can)
-no_label cmp M c (x ∷ xs) none a e = absurd (omega (arith, e))
-
-pub some_label : {P S E R A L : Type 0} (cmp : E → E → Ordering) (M : Machine S E R A L) (c : View P S E L) (ls : List (Label E)) → c.fault ≡ None → AreLabels cmp M c ls → (length ls ≡ 0 → ⊥) → IsHow M c Budget
+-- a core without an error that has a label can go on
+pub some_label : {P S E R A L : Type 0} (cmp : E → E → Ordering) (M : Machine S E R A L) (c : CoreView P S E L) (ls : List (Label E)) → c.fault ≡ None → AreLabels cmp M c ls → (length ls ≡ 0 → ⊥) → IsHow M c Budget
 some_label cmp M c [] none a some = absurd (some refl)
 some_label cmp M c (x ∷ xs) none a some = (none, (x, (a.just x).0 (inl refl)))
 
--- what four clauses say of a good answer
-pub four_ok : {T X : Type 0} {P Q R S U : T → Type 0} (r : Result T X) → ((x : T) → P x → Q x → R x → S x → U x) → IfOk r P → IfOk r Q → IfOk r R → IfOk r S → IfOk r U
-four_ok (Ok x) f p q s t = f x p q s t
-four_ok (Err e) f p q s t = tt
-
--- what three clauses say of a good answer
-pub three_ok : {T X : Type 0} {P Q R U : T → Type 0} (r : Result T X) → ((x : T) → P x → Q x → R x → U x) → IfOk r P → IfOk r Q → IfOk r R → IfOk r U
-three_ok (Ok x) f p q s = f x p q s
-three_ok (Err e) f p q s = tt
+-- what two clauses say of a good answer
+pub both_ok : {T X : Type 0} (P Q : T → Type 0) (r : Result T X) → IfOk r P → IfOk r Q → IfOk r (λ x. P x × Q x)
+both_ok P Q (Ok x) p q = (p, q)
+both_ok P Q (Err e) p q = tt

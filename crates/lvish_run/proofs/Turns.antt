@@ -1,27 +1,27 @@
 -- The turns of a run.
-use Rattle.std.proofs.Common.{◌≡◌, ◌↔◌, inl, inr, ◌%◌, ℕ, Bool, true, false, List, [], ◌∷◌, ◌++◌, length, slice_get, Option, Some, None, MatchOption, Result, Ok, Err, IfOk, Ordering, sym, ap, ◌∙◌, subst}
+use Rattle.std.proofs.Common.{◌≡◌, ◌↔◌, inl, inr, ◌%◌, ℕ, Bool, true, false, List, [], ◌∷◌, ◌++◌, length, slice_get, Option, Some, None, MatchOption, Ordering, sym, ap, ◌∙◌, subst}
 use Rattle.std.specs.declared.cmp.Ordering.TheVariants.{Equal}
 use Rattle.lvish_names.specs.NameOrder.{name_cmp, handler_cmp}
 use Rattle.lvish_calculus.specs.declared.label.Label.{Label}
-use Rattle.lvish_calculus.specs.declared.label.Label.TheVariants.{Task as Act, Hand}
+use Rattle.lvish_calculus.specs.declared.label.Label.TheVariants.{Act, Hand}
 use Rattle.lvish_calculus.specs.Machine.{Machine}
-use Rattle.lvish_calculus.specs.Calculus.{Name, Handler}
+use Rattle.lvish_names.specs.Names.{Name, Handler}
 use Rattle.lvish_calculus.specs.Handing.{IsAmong}
-use Rattle.lvish_core.specs.Core.{View, CanTake, IsNext}
+use Rattle.lvish_core.specs.Core.{CoreView, CanTake, IsNext}
 use Rattle.lvish_core.specs.CoreLaws.{HandsOneEvent, HandsWhatComes}
 use Rattle.lvish_core.specs.Labels.{AreLabels}
 use Rattle.lvish_board.specs.Acts.{entry_of}
-use Rattle.lvish_board.specs.Standing.{Standing, IsSound, IsBlocked, labels_of}
-use Rattle.lvish_board.specs.Place.{Place}
+use Rattle.lvish_board.specs.Standing.{Standing, IsBoardSound, IsBlocked, labels_of}
+use Rattle.lvish_board.specs.Place.{TaskPlace}
 use Rattle.lvish_run.specs.Agenda.{Agenda, open_in, NoTask, IsTaskGone, IsHandlerGone, IsBeside}
-use Rattle.lvish_run.specs.Walk.{IsStuck, IsDrawn, IsLowest, IsIdle, IsActed, IsHanded, IsFirstHandler, IsTurn}
+use Rattle.lvish_run.specs.Walk.{IsStuck, IsDrawn, IsFirstEnabled, IsIdle, IsActed, IsHandTurn, IsFirstHandler, IsTurn}
 use Rattle.lvish_run.proofs.Reports.{chosen_can}
 use Rattle.lvish_run.proofs.Firsts.{can_hand, lowest_task, lowest_handler, without_handler, drained}
 
 -- ---- labels that picks name
 
 -- the label that a pick names, of all labels
-pub drawn_by : {P S E R A L : Type 0} (cmp : E → E → Ordering) (machine : P → Machine S E R A L) (p : P) (c core : View P S E L) (n : ℕ) (ls : List (Label E)) (o : Option (Label E)) → core ≡ c → c.program ≡ p → AreLabels cmp (machine core.program) core ls
+pub drawn_by : {P S E R A L : Type 0} (cmp : E → E → Ordering) (machine : P → Machine S E R A L) (p : P) (c core : CoreView P S E L) (n : ℕ) (ls : List (Label E)) (o : Option (Label E)) → core ≡ c → c.program ≡ p → AreLabels cmp (machine core.program) core ls
     → MatchOption o (ls ≡ []) (λ l. slice_get ls (n % length ls) ≡ Some l) → MatchOption o (IsStuck (machine p) c) (λ l. IsDrawn cmp (machine p) c n l)
 drawn_by {E = E} cmp machine p c core n ls o same is are h = by o h
   where
@@ -33,14 +33,8 @@ drawn_by {E = E} cmp machine p c core n ls o same is are h = by o h
     by None e = λ l can. subst (λ ks. IsAmong l ks) e ((labels.just l).1 can)
 
 module _ {P S E R A L : Type 0} (cmp : E → E → Ordering) (M : Machine S E R A L) where
-  pub drawn_some : (c : View P S E L) (n : ℕ) (o : Option (Label E)) (l m : Label E) → o ≡ Some m → m ≡ l → MatchOption o (IsStuck M c) (λ k. IsDrawn cmp M c n k) → IsDrawn cmp M c n l
-  drawn_some c n o l m is same h = subst (λ k. IsDrawn cmp M c n k) same (subst (λ q. MatchOption q (IsStuck M c) (λ k. IsDrawn cmp M c n k)) is h)
-
-  pub drawn_none : (c : View P S E L) (n : ℕ) (o : Option (Label E)) → o ≡ None → MatchOption o (IsStuck M c) (λ k. IsDrawn cmp M c n k) → IsStuck M c
-  drawn_none c n o is h = subst (λ q. MatchOption q (IsStuck M c) (λ k. IsDrawn cmp M c n k)) is h
-
   -- what is drawn can be taken
-  pub drawn_can : (c : View P S E L) (n : ℕ) (l : Label E) → IsDrawn cmp M c n l → CanTake M c l
+  pub drawn_can : (c : CoreView P S E L) (n : ℕ) (l : Label E) → IsDrawn cmp M c n l → CanTake M c l
   drawn_can c n l d = chosen_can cmp M c d.all (n % length d.all) l d.labels d.chosen
 
   pub drawn_act : (s r : Standing P S E L) (n : ℕ) (t u : Name E) → IsDrawn cmp M s.core n (Act t) → u ≡ t → (made : Bool) → IsActed M s u made r → IsTurn cmp M (Some n) s made r
@@ -53,23 +47,15 @@ module _ {P S E R A L : Type 0} (cmp : E → E → Ordering) (M : Machine S E R 
     ],
   )
 
-  pub drawn_hand : (s r : Standing P S E L) (n : ℕ) (h : Handler E) (e : E) → IsDrawn cmp M s.core n (Hand h e) → (made : Bool) → IsHanded s (Hand h e) made r → IsTurn cmp M (Some n) s made r
+  pub drawn_hand : (s r : Standing P S E L) (n : ℕ) (h : Handler E) (e : E) → IsDrawn cmp M s.core n (Hand h e) → (made : Bool) → IsHandTurn s (Hand h e) made r → IsTurn cmp M (Some n) s made r
   drawn_hand s r n h e d true z = (Hand h e, d, z)
   drawn_hand s r n h e d false z = (z.0, inl z.1)
-
-  pub drawn_acted : {X : Type 0} (s r : Standing P S E L) (n : ℕ) (t u : Name E) (q : Result Bool X) → IsDrawn cmp M s.core n (Act t) → u ≡ t → IfOk q (λ made. IsActed M s u made r) → IfOk q (λ made. IsTurn cmp M (Some n) s made r)
-  drawn_acted s r n t u (Ok made) d same z = drawn_act s r n t u d same made z
-  drawn_acted s r n t u (Err e) d same z = tt
-
-  pub drawn_handed : {X : Type 0} (s r : Standing P S E L) (n : ℕ) (h : Handler E) (e : E) (q : Result Bool X) → IsDrawn cmp M s.core n (Hand h e) → IfOk q (λ made. (f : E) → IsNext M.event_same s.core.table h f → IsHanded s (Hand h f) made r) → IfOk q (λ made. IsTurn cmp M (Some n) s made r)
-  drawn_handed s r n h e (Ok made) d z = drawn_hand s r n h e d made (z e (drawn_can s.core n (Hand h e) d).1)
-  drawn_handed s r n h e (Err x) d z = tt
 
   -- ---- the first labels
 
   -- a turn after tasks were parked
   pub turn_after : (s q r : Standing P S E L) → IsIdle s q → (made : Bool) → IsTurn cmp M None q made r → IsTurn cmp M None s made r
-  turn_after s q r idle true z = (z.0, subst (λ c. IsLowest cmp M c z.0) idle.core z.1, z.2 ∙ ap (λ t. t ++ entry_of 0 z.0 ∷ []) idle.trace)
+  turn_after s q r idle true z = (z.0, subst (λ c. IsFirstEnabled cmp M c z.0) idle.core z.1, z.2 ∙ ap (λ t. t ++ entry_of 0 z.0 ∷ []) idle.trace)
   turn_after s q r idle false z = (
     record { trace = z.0.trace ∙ idle.trace; core = z.0.core ∙ idle.core },
     elim z.1 [
@@ -78,20 +64,14 @@ module _ {P S E R A L : Type 0} (cmp : E → E → Ordering) (M : Machine S E R 
     ],
   )
 
-  pub turn_then : {X : Type 0} (s q r : Standing P S E L) → IsIdle s q → (o : Result Bool X) → IfOk o (λ made. IsTurn cmp M None q made r) → IfOk o (λ made. IsTurn cmp M None s made r)
-  turn_then s q r idle (Ok made) z = turn_after s q r idle made z
-  turn_then s q r idle (Err x) z = tt
-
   -- the step of the first task that can go on
-  pub first_acted : ((t u : Name E) → (name_cmp cmp t u ≡ Equal) ↔ (t ≡ u)) → (s q r : Standing P S E L) → IsIdle s q → (a b : Agenda E L) → ((p : Place E L) → IsAmong p q.parked → IsBlocked M q.core p) → IsBeside M q None None (open_in cmp a)
-      → (p : Place E L) → IsTaskGone cmp (open_in cmp a) p (open_in cmp b) → (made : Bool) → made ≡ true → IsActed M q p.task made r → IsTurn cmp M None s true r
-  first_acted exact s q r idle a b blocked beside p gone made is acted =
-      let z : IsActed M q p.task true r = subst (λ k. IsActed M q p.task k r) is acted in
-      turn_after s q r idle true (Act p.task, lowest_task M q (open_in cmp a) blocked beside cmp exact p (open_in cmp b) gone z.0, z.1)
+  pub first_acted : ((t u : Name E) → (name_cmp cmp t u ≡ Equal) ↔ (t ≡ u)) → (s q r : Standing P S E L) → IsIdle s q → (a b : Agenda E L) → ((p : TaskPlace E L) → IsAmong p q.parked → IsBlocked M q.core p) → IsBeside M q None None (open_in cmp a)
+      → (p : TaskPlace E L) → IsTaskGone cmp (open_in cmp a) p (open_in cmp b) → IsActed M q p.task true r → IsTurn cmp M None s true r
+  first_acted exact s q r idle a b blocked beside p gone z = turn_after s q r idle true (Act p.task, lowest_task M q (open_in cmp a) blocked beside cmp exact p (open_in cmp b) gone z.0, z.1)
 
   -- ---- the first handler
 
-  module _ (program : P) (budget : ℕ) (s : Standing P S E L) (sound : IsSound M program budget s) (over : s.over ≡ None) (a b : Agenda E L) (beside : IsBeside M s None None (open_in cmp a)) (tasks : NoTask (open_in cmp a)) (comes : HandsWhatComes P M) (one : HandsOneEvent P M)
+  module _ (program : P) (budget : ℕ) (s : Standing P S E L) (sound : IsBoardSound M program budget s) (over : s.over ≡ None) (a b : Agenda E L) (beside : IsBeside M s None None (open_in cmp a)) (tasks : NoTask (open_in cmp a)) (comes : HandsWhatComes P M) (one : HandsOneEvent P M)
       (exact : (h k : Handler E) → (handler_cmp cmp h k ≡ Equal) ↔ (h ≡ k)) (h : Handler E) (gone : IsHandlerGone cmp (open_in cmp a) h (open_in cmp b)) where
     pub first_handler : (e : E) → IsNext M.event_same s.core.table h e → IsFirstHandler cmp M s h b
     first_handler e next = record {

@@ -9,23 +9,24 @@ use Rattle.lvish_lattice.specs.Lattice.{fresh_of, events_beyond}
 use Rattle.lvish_calculus.specs.declared.label.Label.{Label}
 use Rattle.lvish_calculus.specs.declared.label.Label.TheVariants.{Hand}
 use Rattle.lvish_calculus.specs.Machine.{Machine, IsLawful, IsBelow}
-use Rattle.lvish_calculus.specs.Calculus.{Handler, State, Change, Changes, IsOn, IsEnabled, IsToHand, changed, outcome, with_join}
+use Rattle.lvish_calculus.specs.Calculus.{State, Change, Changes, IsOn, IsEnabled, IsToHand, changed, effect, with_join}
+use Rattle.lvish_names.specs.Names.{Handler}
 use Rattle.lvish_calculus.proofs.Names.{nat_eq-true}
 use Rattle.lvish_calculus.proofs.Order.{with_join-same, with_join-other}
 use Rattle.lvish_calculus.proofs.Steps.{Makes, puts, gets, forks, adds, freezes, pauses, ends, hands, view}
 use Rattle.lvish_calculus.proofs.Sound.{IsSound}
 use Rattle.lvish_calculus.proofs.Keeps.{handlers_after, handled_stays}
-use Rattle.lvish_variable.specs.Variable.{View as Variable, entries, logged}
+use Rattle.lvish_variable.specs.Variable.{VariableView as Variable, entries, logged}
 use Rattle.lvish_handlers.specs.declared.held.Held.{Held}
-use Rattle.lvish_handlers.specs.Handlers.{View as Handlers, next_of}
+use Rattle.lvish_handlers.specs.Handlers.{HandlersView as Handlers, next_of}
 use Rattle.lvish_picture.specs.Picture.{IsPictured}
-use Rattle.lvish_picture.specs.Laws.{IsSeated, HandsBelowTheEnd, HandsTheHeld}
+use Rattle.lvish_picture.specs.Laws.{IsHandlerSeated, HandsBelowTheEnd, HandsTheHeld}
 use Rattle.lvish_picture.proofs.Slots.{among, get_there}
 use Rattle.lvish_picture.proofs.Tables.{logged_len}
 use Rattle.lvish_picture.proofs.Hands.{next_is}
-use Rattle.lvish_core.specs.Core.{View, IsRunTo, state}
+use Rattle.lvish_core.specs.Core.{CoreView, IsRunTo, state}
 use Rattle.lvish_core.specs.Changes.{moved_in, brings, put_brings}
-use Rattle.lvish_core.proofs.Goes.{pictured_by}
+use Rattle.lvish_core.specs.laws.Runs.{pictured_by}
 use Rattle.lvish_board.specs.Listed.{Concerns, by_adding, by_putting, HasNext}
 
 -- ---- what a put brings
@@ -77,7 +78,7 @@ module _ {S E R A L : Type 0} (M : Machine S E R A L) (ok : IsLawful M) where
   below_before c l ch (hands g x post o) v e below = inl below
 
   -- what can be handed to a handler that the step doesn't concern, could be before
-  module _ {P : Type 0} (s : View P S E L) (l : Label E) (ch : Change S E L) (does : outcome M (state M s) l ≡ Changes ch) (en : IsEnabled M (state M s) l) (sound : IsSound (state M s)) (h : Handler E) (apart : Concerns M s l h → ⊥) where
+  module _ {P : Type 0} (s : CoreView P S E L) (l : Label E) (ch : Change S E L) (does : effect M (state M s) l ≡ Changes ch) (en : IsEnabled M (state M s) l) (sound : IsSound (state M s)) (h : Handler E) (apart : Concerns M s l h → ⊥) where
     abbrev c : State S E L
     c = state M s
 
@@ -105,7 +106,7 @@ module _ {S E R A L : Type 0} (M : Machine S E R A L) (ok : IsLawful M) where
         ]
 
   -- something comes next for a handler that something can be handed to
-  module _ {P : Type 0} (s : View P S E L) (xs : List (Label E)) (leads : IsRunTo M s xs) (fine : s.fault ≡ None) (below : HandsBelowTheEnd M) (held : HandsTheHeld M) where
+  module _ {P : Type 0} (s : CoreView P S E L) (xs : List (Label E)) (leads : IsRunTo M s xs) (fine : s.fault ≡ None) (below : HandsBelowTheEnd M) (held : HandsTheHeld M) where
     pictured : IsPictured M s.table xs
     pictured = pictured_by M s xs fine leads
 
@@ -114,7 +115,7 @@ module _ {S E R A L : Type 0} (M : Machine S E R A L) (ok : IsLawful M) where
         let g = held xs s.table name e pictured en in
         seated g.0 g.1 g.2 g.3 g.4 g.5
       where
-        seated : (v : ℕ) (x : Variable S E) (hs : Handlers E) (h : Held E) → IsSeated s.table v x hs h → h.name ≡ name → HasNext M s name
+        seated : (v : ℕ) (x : Variable S E) (hs : Handlers E) (h : Held E) → IsHandlerSeated s.table v x hs h → h.name ≡ name → HasNext M s name
         seated v x hs h seat is = found (next_of M.event_same x.log hs.held h.name) refl
           where
             found : (o : Option E) → next_of M.event_same x.log hs.held h.name ≡ o → HasNext M s name

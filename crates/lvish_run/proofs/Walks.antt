@@ -1,15 +1,14 @@
 -- Runs that a board makes step by step, over any machine.
-use Rattle.std.proofs.Common.{◌≡◌, ◌⊎◌, ◌↔◌, inl, inr, ℕ, suc, ◌+◌, Bool, true, false, List, [], ◌∷◌, ◌++◌, length, slice_get, Option, Some, None, IsSome, Ordering, refl, sym, ap, ◌∙◌, subst, arith, length-append, append_assoc}
-use Rattle.std.proofs.lemmas.List.{map-append, append-nil}
+use Rattle.std.proofs.Common.{◌≡◌, ◌⊎◌, ◌↔◌, inl, inr, ℕ, ◌+◌, Bool, true, false, List, [], ◌∷◌, ◌++◌, length, slice_get, Option, Some, None, IsSome, Ordering, refl, sym, ap, ◌∙◌, subst, arith, length-append, append_assoc}
+use Rattle.std.proofs.lemmas.List.{length-map, map_push, append-nil}
 use Rattle.std.specs.List.{AllByRecursion}
 use Rattle.lvish_calculus.specs.declared.label.Label.{Label}
 use Rattle.lvish_calculus.specs.Machine.{Machine}
 use Rattle.lvish_calculus.specs.Calculus.{Configuration, Running, Error, IsRun, step, start}
-use Rattle.lvish_core.specs.Core.{View, picture, IsRunTo}
+use Rattle.lvish_core.specs.Core.{CoreView, picture, IsRunTo}
 use Rattle.lvish_core.specs.CoreLaws.{TakesCoreRuns}
-use Rattle.lvish_board.specs.declared.entry.Entry.{Entry}
-use Rattle.lvish_board.specs.Standing.{Standing, IsSound, IsOpened}
-use Rattle.lvish_run.specs.Honest.{labels_of}
+use Rattle.lvish_board.specs.declared.trace_entry.TraceEntry.{TraceEntry}
+use Rattle.lvish_board.specs.Standing.{Standing, IsBoardSound, labels_of}
 use Rattle.lvish_run.specs.Picked.{IsNamed, IsPicked}
 use Rattle.lvish_run.specs.Walk.{IsTaken, IsTurn, IsStuck, IsWalk, IsWalked}
 use Rattle.lvish_run.proofs.Reports.{over_stops}
@@ -36,7 +35,7 @@ module _ {S E R A L : Type 0} (M : Machine S E R A L) (cmp : E → E → Orderin
   picked_more n xs (Error kind v t) (j ∷ ls) e l h run at named = absurd run
 
   -- the label that the core takes is the one that the pick names
-  named_of : {P : Type 0} (c : View P S E L) (xs : List (Label E)) (n : Option ℕ) (l : Label E) → TakesCoreRuns P M → IsRunTo M c xs → IsTaken cmp M c n l → IsNamed cmp M xs (picture M c) n l
+  named_of : {P : Type 0} (c : CoreView P S E L) (xs : List (Label E)) (n : Option ℕ) (l : Label E) → TakesCoreRuns P M → IsRunTo M c xs → IsTaken cmp M c n l → IsNamed cmp M xs (picture M c) n l
   named_of c xs (Some n) l takes k t = record {
     all = t.all;
     enabled = record { ascending = t.labels.ascending; just = λ j. both_if (t.labels.just j) (takes c xs k j) };
@@ -45,16 +44,7 @@ module _ {S E R A L : Type 0} (M : Machine S E R A L) (cmp : E → E → Orderin
   named_of c xs None l takes k t = record { comes = (takes c xs k l).0 t.can; before = λ m z. t.before m ((takes c xs k m).1 z) }
 
   module _ {P : Type 0} (p : P) (budget : ℕ) (takes : TakesCoreRuns P M) where
-    pub walk_begun : (s : Standing P S E L) → IsSound M p budget s → IsOpened M p s → IsWalk cmp M p picks s.core s.trace
-    walk_begun s sound opened = record {
-      program = sound.program_is;
-      steps = sound.counted;
-      leads = sound.leads;
-      picked = subst (λ t. IsPicked cmp M picks [] (Running (start M)) (labels_of t)) (sym opened.trace) tt;
-      workers = subst (λ t. AllByRecursion (λ (e : Entry E). e.worker ≡ 0) t) (sym opened.trace) tt;
-    }
-
-    module _ (s r : Standing P S E L) (w : IsWalk cmp M p picks s.core s.trace) (sound : IsSound M p budget r) where
+    module _ (s r : Standing P S E L) (w : IsWalk cmp M p picks s.core s.trace) (sound : IsBoardSound M p budget r) where
       -- a walk, and one step more
       goes : (k : ℕ) → length s.trace ≡ k → IsTurn cmp M (slice_get picks k) s true r → IsWalk cmp M p picks r.core r.trace × (length r.trace ≡ k + 1)
       goes k at t = (
@@ -64,7 +54,7 @@ module _ {S E R A L : Type 0} (M : Machine S E R A L) (cmp : E → E → Orderin
           leads = sound.leads;
           picked = subst (λ xs. IsPicked cmp M picks [] (Running (start M)) xs) (sym grown) (picked_more k [] (Running (start M)) (labels_of s.trace) (picture M s.core) l w.picked w.leads.reached as_long
               (named_of s.core (labels_of s.trace) (slice_get picks k) l takes w.leads t.1));
-          workers = subst (λ xs. AllByRecursion (λ (e : Entry E). e.worker ≡ 0) xs) (sym t.2) (all_more (λ (e : Entry E). e.worker ≡ 0) s.trace (record { worker = 0; label = l }) w.workers refl);
+          workers = subst (λ xs. AllByRecursion (λ (e : TraceEntry E). e.worker ≡ 0) xs) (sym t.2) (all_more (λ (e : TraceEntry E). e.worker ≡ 0) s.trace (record { worker = 0; label = l }) w.workers refl);
         },
         ap length t.2 ∙ length-append s.trace (record { worker = 0; label = l } ∷ []) ∙ ap (λ j. j + 1) at,
       )
@@ -73,14 +63,10 @@ module _ {S E R A L : Type 0} (M : Machine S E R A L) (cmp : E → E → Orderin
           l = t.0
 
           grown : labels_of r.trace ≡ labels_of s.trace ++ t.0 ∷ []
-          grown = ap labels_of t.2 ∙ map-append (λ (e : Entry E). e.label) s.trace (record { worker = 0; label = t.0 } ∷ [])
-
-          long : (xs : List (Entry E)) → length xs ≡ length (labels_of xs)
-          long [] = refl
-          long (x ∷ xs) = ap suc (long xs)
+          grown = ap labels_of t.2 ∙ map_push (λ (e : TraceEntry E). e.label) s.trace (record { worker = 0; label = t.0 })
 
           as_long : k ≡ 0 + length (labels_of s.trace)
-          as_long = omega (arith, long s.trace, at)
+          as_long = omega (arith, length-map s.trace (λ (e : TraceEntry E). e.label), at)
 
       pub walk_goes : (k : ℕ) (n : Option ℕ) (made : Bool) → length s.trace ≡ k → n ≡ slice_get picks k → made ≡ true → IsTurn cmp M n s made r → IsWalk cmp M p picks r.core r.trace × (length r.trace ≡ k + 1)
       walk_goes k n made at is was t = goes k at (subst (λ q. IsTurn cmp M q s true r) is (subst (λ b. IsTurn cmp M n s b r) was t))

@@ -6,27 +6,25 @@ use Rattle.std.specs.List.{list_any}
 use Rattle.std.specs.Map.{lookup}
 use Rattle.std.specs.BTreeMap.{is_at}
 use Rattle.lvish_names.specs.NameOrder.{name_cmp, handler_cmp}
-use Rattle.lvish_calculus.specs.declared.label.Label.{Label}
-use Rattle.lvish_calculus.specs.declared.label.Label.TheVariants.{Task as Act, Hand}
 use Rattle.lvish_calculus.specs.Machine.{Machine}
-use Rattle.lvish_calculus.specs.Calculus.{Name, Handler}
+use Rattle.lvish_names.specs.Names.{Name, Handler}
 use Rattle.lvish_calculus.specs.Handing.{IsAmong}
 use Rattle.lvish_core.specs.Core.{state}
 use Rattle.lvish_core.specs.Changes.{local_of}
 use Rattle.lvish_board.specs.declared.work.Work.{Work}
 use Rattle.lvish_board.specs.declared.work.Work.TheVariants.{Stretch, Act as ActOn, Hand as HandTo}
-use Rattle.lvish_board.specs.Place.{Place}
+use Rattle.lvish_board.specs.Place.{TaskPlace}
 use Rattle.lvish_board.specs.Standing.{Standing, tasks_of, IsCurrent}
 use Rattle.lvish_board.specs.Listed.{HasNext}
 
 -- what contracts see of an agenda: the open tasks under their names, and the open handlers
 pub record Agenda (E L : Type 0) : Type 0 where
-  pub tasks : List (Name E × Place E L)
+  pub tasks : List (Name E × TaskPlace E L)
   pub handlers : List (Handler E)
 
 -- where each open task stands, whether a handler is open, and how many tasks and handlers are
 pub record Open (E L : Type 0) : Type 0 where
-  pub at : Name E → Option (Place E L)
+  pub at : Name E → Option (TaskPlace E L)
   pub has : Handler E → Bool
   pub tasks : ℕ
   pub handlers : ℕ
@@ -46,7 +44,7 @@ pub record IsEmpty {E L : Type 0} (a : Open E L) : Type 0 where
   pub has : (h : Handler E) → a.has h ≡ false
 
 -- the same, with this at the task
-pub record HasAt {E L : Type 0} (cmp : E → E → Ordering) (old : Open E L) (t : Name E) (p : Option (Place E L)) (new : Open E L) : Type 0 where
+pub record SetsOpenTask {E L : Type 0} (cmp : E → E → Ordering) (old : Open E L) (t : Name E) (p : Option (TaskPlace E L)) (new : Open E L) : Type 0 where
   pub at : (u : Name E) → new.at u ≡ cond (is_eq (name_cmp cmp t u)) p (old.at u)
   pub has : new.has ≡ old.has
 
@@ -64,11 +62,11 @@ abbrev pub NoHandler : {E L : Type 0} → Open E L → Type 0
 NoHandler {E} a = (h : Handler E) → a.has h ≡ false
 
 -- the first open task left the agenda
-pub record IsTaskGone {E L : Type 0} (cmp : E → E → Ordering) (old : Open E L) (p : Place E L) (new : Open E L) : Type 0 where
+pub record IsTaskGone {E L : Type 0} (cmp : E → E → Ordering) (old : Open E L) (p : TaskPlace E L) (new : Open E L) : Type 0 where
   pub task : Name E
   pub was : old.at task ≡ Some p
   pub first : (u : Name E) → IsSome (old.at u) → is_gt (name_cmp cmp task u) ≡ false
-  pub without : HasAt cmp old task None new
+  pub without : SetsOpenTask cmp old task None new
   pub fewer : new.tasks + 1 ≡ old.tasks
 
 -- the first open handler left the agenda
@@ -78,25 +76,20 @@ pub record IsHandlerGone {E L : Type 0} (cmp : E → E → Ordering) (old : Open
   pub fewer : new.handlers + 1 ≡ old.handlers
 
 -- the work is the task's
-abbrev pub IsTaskOf : {P J S L R A W E : Type 0} → List (Work P J S L R A W E) → Place E L → Type 0
+abbrev pub IsTaskOf : {P J S L R A W E : Type 0} → List (Work P J S L R A W E) → TaskPlace E L → Type 0
 IsTaskOf ws p = IsAmong (Stretch p) ws ⊎ IsAmong (ActOn p) ws
 
 -- the work was added
 pub record Adds {P J S L R A W E : Type 0} (ws : List (Work P J S L R A W E)) (old new : Open E L) : Type 0 where
-  pub from : (t : Name E) (p : Place E L) → new.at t ≡ Some p → (old.at t ≡ Some p) ⊎ ((p.task ≡ t) × IsTaskOf ws p)
-  pub kept : (t : Name E) → new.at t ≡ None → (old.at t ≡ None) × ((p : Place E L) → IsTaskOf ws p → p.task ≡ t → ⊥)
+  pub from : (t : Name E) (p : TaskPlace E L) → new.at t ≡ Some p → (old.at t ≡ Some p) ⊎ ((p.task ≡ t) × IsTaskOf ws p)
+  pub kept : (t : Name E) → new.at t ≡ None → (old.at t ≡ None) × ((p : TaskPlace E L) → IsTaskOf ws p → p.task ≡ t → ⊥)
   pub hands : (h : Handler E) → new.has h ≡ false → (old.has h ≡ false) × (IsAmong (HandTo h) ws → ⊥)
 
--- each open task is where it stands; each task that hasn't ended is open or parked, and each handler for which something comes next is open, but for the task and the handler that are being seen to
+-- each open task stands where the agenda has it; each task that hasn't ended is open or parked, and each handler for which something comes next is open, except for the task and the handler whose turn it is
 pub record IsBeside {P S E R A L : Type 0} (M : Machine S E R A L) (s : Standing P S E L) (task : Option (Name E)) (handler : Option (Handler E)) (a : Open E L) : Type 0 where
-  pub current : (t : Name E) (p : Place E L) → a.at t ≡ Some p → (p.task ≡ t) × IsCurrent M s.core p × (task ≡ Some t → ⊥)
+  pub current : (t : Name E) (p : TaskPlace E L) → a.at t ≡ Some p → (p.task ≡ t) × IsCurrent M s.core p × (task ≡ Some t → ⊥)
   pub tasks : (t : Name E) (l : L) → local_of ((state M s.core).tasks t) ≡ Some l → a.at t ≡ None → (IsAmong t (tasks_of s.parked) → ⊥) → task ≡ Some t
   pub hands : (h : Handler E) → HasNext M s.core h → a.has h ≡ false → handler ≡ Some h
-
--- all but the work of this label
-abbrev pub IsBesideAllBut : {P S E R A L : Type 0} → Machine S E R A L → Standing P S E L → Label E → Open E L → Type 0
-IsBesideAllBut M s (Act t) a = IsBeside M s (Some t) None a
-IsBesideAllBut M s (Hand h e) a = IsBeside M s None (Some h) a
 
 -- the agenda has all that may be done, unless the board is over
 abbrev pub IsFor : {P S E R A L : Type 0} → (E → E → Ordering) → Machine S E R A L → Standing P S E L → Agenda E L → Type 0

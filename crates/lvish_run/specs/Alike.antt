@@ -2,22 +2,24 @@
 use Rattle.std.specs.Prelude.{◌≡◌, ℕ, List, length}
 use Rattle.lvish_calculus.specs.declared.label.Label.{Label}
 use Rattle.lvish_calculus.specs.Machine.{Machine}
-use Rattle.lvish_calculus.specs.Calculus.{Name, State, Running, IsEnd, start}
+use Rattle.lvish_calculus.specs.Calculus.{State, Running, IsEnd, start}
+use Rattle.lvish_names.specs.Names.{Name}
 use Rattle.lvish_calculus.specs.Laws.{Reaches, IsCrossed, FreezesAllBy, NeverErrs}
 use Rattle.lvish_calculus.specs.Live.{HasLive}
 use Rattle.lvish_run.specs.declared.report.Report.{Report}
 use Rattle.lvish_board.specs.declared.outcome.Outcome.TheVariants.{Ended}
-use Rattle.lvish_run.specs.Honest.{labels_of, AreStates}
+use Rattle.lvish_run.specs.Honest.{AreFinalStates}
+use Rattle.lvish_board.specs.Standing.{labels_of}
 
--- each run that ends without an error, and for which this holds of the report's trace and it, has the report's states, steps and blocked tasks
+-- each run that ends without an error has the report's states, steps and blocked tasks, if this holds of the report's trace and that run
 abbrev pub EndsAlikeIf : {S E R A L : Type 0} → Machine S E R A L → ℕ → Report S E → (List (Label E) → List (Label E) → Type 0) → Type 0
 EndsAlikeIf {S} {E} {R} {A} {L} M variables r P = (ys : List (Label E)) (b : State S E L) → Reaches M ys b → IsEnd M b → P (labels_of r.trace) ys
-    → AreStates variables b r.states × HasLive b r.blocked × (length ys ≡ r.steps)
+    → AreFinalStates variables b r.states × HasLive b r.blocked × (length ys ≡ r.steps)
 
 pub record EndsAlike {S E R A L : Type 0} (M : Machine S E R A L) (variables : ℕ) (r : Report S E) : Type 0 where
   -- the runs don't cross
   pub uncrossed : EndsAlikeIf M variables r (λ xs ys. IsCrossed M xs ys → ⊥)
-  -- one task asks all freezes of both
+  -- one task asks for all freezes of both
   pub one_asks : EndsAlikeIf M variables r (λ xs ys. (t : Name E) × FreezesAllBy M t (Running (start M)) xs × FreezesAllBy M t (Running (start M)) ys)
   -- no run of the program is in error
   pub no_error : EndsAlikeIf M variables r (λ xs ys. NeverErrs M)

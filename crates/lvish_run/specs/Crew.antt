@@ -2,28 +2,28 @@
 use Rattle.std.specs.Prelude.{◌≡◌, ◌==◌, ℕ, Bool, true, false, List, map, Option, None, Some, All}
 use Rattle.std.specs.List.{filter, list_any}
 use Rattle.lvish_calculus.specs.declared.label.Label.{Label}
-use Rattle.lvish_calculus.specs.declared.label.Label.TheVariants.{Task, Hand}
+use Rattle.lvish_calculus.specs.declared.label.Label.TheVariants.{Act, Hand}
 use Rattle.lvish_compound.specs.declared.event.Event.{Event}
-use Rattle.lvish_board.specs.declared.entry.Entry.{Entry}
+use Rattle.lvish_board.specs.declared.trace_entry.TraceEntry.{TraceEntry}
 use Rattle.lvish_run.specs.declared.fault.RunFault.{RunFault}
 use Rattle.lvish_run.specs.declared.fault.RunFault.TheVariants.{NoThread, Memory, Stopped, Mixed}
-use Rattle.lvish_run.specs.declared.own.Own.{Own}
-use Rattle.lvish_run.specs.declared.own.Step.{Step}
-use Rattle.lvish_run.specs.declared.own.Step.TheVariants.{Act, Hand as HandTo}
-use Rattle.lvish_run.specs.declared.own.Why.{Why}
-use Rattle.lvish_run.specs.declared.own.Why.TheVariants.{Over, Others, Memory as ForMemory, Stopped as AsStopped}
+use Rattle.lvish_run.specs.declared.own_steps.OwnSteps.{OwnSteps}
+use Rattle.lvish_run.specs.declared.own_steps.Step.{Step}
+use Rattle.lvish_run.specs.declared.own_steps.Step.TheVariants.{Act as ActOn, Hand as HandTo}
+use Rattle.lvish_run.specs.declared.own_steps.Why.{Why}
+use Rattle.lvish_run.specs.declared.own_steps.Why.TheVariants.{Over, Others, Memory as ForMemory, Stopped as AsStopped}
 
 -- whose step a label is
 abbrev pub step_of : Label Event → Step
-step_of (Task t) = Act t
+step_of (Act t) = ActOn t
 step_of (Hand h e) = HandTo h
 
 -- the worker's steps in a trace
-abbrev pub steps_of : ℕ → List (Entry Event) → List Step
+abbrev pub steps_of : ℕ → List (TraceEntry Event) → List Step
 steps_of worker trace = map (λ e. step_of e.label) (filter (λ e. e.worker == worker) trace)
 
 -- the worker's own list is just its steps in the trace
-abbrev pub IsPart : List (Entry Event) → Own → Type 0
+abbrev pub IsPart : List (TraceEntry Event) → OwnSteps → Type 0
 IsPart trace own = own.steps.items ≡ steps_of own.worker trace
 
 abbrev pub lacks : Why → Bool
@@ -39,17 +39,17 @@ stops ForMemory = false
 stops AsStopped = true
 
 -- the worker left for want of memory
-abbrev pub lacked_memory : Own → Bool
+abbrev pub lacked_memory : OwnSteps → Bool
 lacked_memory own = lacks own.why
 
 -- its gate stopped the worker
-abbrev pub was_stopped : Own → Bool
+abbrev pub was_stopped : OwnSteps → Bool
 was_stopped own = stops own.why
 
 -- why there is no report of this trace, the first that holds; None where nothing stands against one
-pub data IsFault (missing : Bool) (owns : List Own) (trace : List (Entry Event)) : Option RunFault → Type 0 where
-  by_thread : missing ≡ true → IsFault missing owns trace (Some NoThread)
-  by_memory : missing ≡ false → list_any lacked_memory owns ≡ true → IsFault missing owns trace (Some Memory)
-  by_gate : missing ≡ false → list_any lacked_memory owns ≡ false → list_any was_stopped owns ≡ true → IsFault missing owns trace (Some Stopped)
-  by_lists : missing ≡ false → list_any lacked_memory owns ≡ false → list_any was_stopped owns ≡ false → (All (IsPart trace) owns → ⊥) → IsFault missing owns trace (Some Mixed)
-  by_none : missing ≡ false → list_any lacked_memory owns ≡ false → list_any was_stopped owns ≡ false → All (IsPart trace) owns → IsFault missing owns trace None
+abbrev pub IsFault : Bool → List OwnSteps → List (TraceEntry Event) → Option RunFault → Type 0
+IsFault missing owns trace (Some NoThread) = missing ≡ true
+IsFault missing owns trace (Some Memory) = (missing ≡ false) × (list_any lacked_memory owns ≡ true)
+IsFault missing owns trace (Some Stopped) = (missing ≡ false) × (list_any lacked_memory owns ≡ false) × (list_any was_stopped owns ≡ true)
+IsFault missing owns trace (Some Mixed) = (missing ≡ false) × (list_any lacked_memory owns ≡ false) × (list_any was_stopped owns ≡ false) × (All (IsPart trace) owns → ⊥)
+IsFault missing owns trace None = (missing ≡ false) × (list_any lacked_memory owns ≡ false) × (list_any was_stopped owns ≡ false) × All (IsPart trace) owns

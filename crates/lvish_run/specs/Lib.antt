@@ -7,6 +7,5 @@ pub mod Scripts
 pub mod StateText
 pub mod Alike
 pub mod TraceText
-pub mod NoCode
 pub mod Crew
 pub mod Ends

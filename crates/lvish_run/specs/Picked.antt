@@ -6,12 +6,12 @@ use Rattle.std.specs.List.Sorted.{IsStrictlySortedBy}
 use Rattle.lvish_calculus.specs.declared.label.Label.{Label}
 use Rattle.lvish_calculus.specs.Machine.{Machine}
 use Rattle.lvish_calculus.specs.Calculus.{Configuration, CanStep, next}
-use Rattle.lvish_calculus.specs.Handing.{IsAmong, IsCoreRun}
+use Rattle.lvish_calculus.specs.Handing.{IsAmong, HandsOldestFirst}
 use Rattle.lvish_core.specs.Labels.{label_cmp}
 
 -- the label is enabled in d, to which the run xs leads, and with it the run hands each handler the events in the order of their introduction
 abbrev pub ComesNext : {S E R A L : Type 0} → Machine S E R A L → List (Label E) → Configuration S E L → Label E → Type 0
-ComesNext M xs d l = CanStep M d l × IsCoreRun M (xs ++ l ∷ [])
+ComesNext M xs d l = CanStep M d l × HandsOldestFirst M (xs ++ l ∷ [])
 
 -- just the labels that come next; tasks by name, then handlers by name
 pub record AreNext {S E R A L : Type 0} (cmp : E → E → Ordering) (M : Machine S E R A L) (xs : List (Label E)) (d : Configuration S E L) (ls : List (Label E)) : Type 0 where

@@ -3,7 +3,7 @@ use Rattle.std.specs.Prelude.{ℕ, ℤ, codes, List, [], ◌∷◌, ◌++◌, fl
 use Rattle.lvish_names.specs.Names.{handed}
 use Rattle.lvish_names.specs.NameText.{name_text}
 use Rattle.lvish_calculus.specs.declared.label.Label.{Label}
-use Rattle.lvish_calculus.specs.declared.label.Label.TheVariants.{Task as Act, Hand}
+use Rattle.lvish_calculus.specs.declared.label.Label.TheVariants.{Act, Hand}
 
 module _ {E : Type 0} (key number : E → ℤ) where
   -- the task that acts, or the one that a handing starts

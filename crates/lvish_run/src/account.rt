@@ -5,7 +5,7 @@ use crate::counts::Counts;
 use crate::report::{FinalState, Report};
 use crate::states::States;
 use crate::trace::Trace;
-use lvish_board::{Entry, Outcome};
+use lvish_board::{Outcome, TraceEntry};
 use lvish_calculus::{Meaning, Program};
 use lvish_core::Core;
 use lvish_lattice::Lattice;
@@ -22,7 +22,7 @@ pub struct Account<S, E> {
 
 impl<S, E> Account<S, E> {
     /// The report of these steps.
-    pub fn report(self, steps: u64, trace: Vec<Entry<E>>, by_worker: Counts) -> Report<S, E>
+    pub fn report(self, steps: u64, trace: Vec<TraceEntry<E>>, by_worker: Counts) -> Report<S, E>
         ensures { result ≡ record { outcome = self.outcome; states = self.states; steps = steps; blocked = self.blocked; trace = trace.items; by_worker = by_worker } }
     {
         let Account {

@@ -1,7 +1,7 @@
 //! The tasks that may go on, and the handlers that may have something left for them.
 
 ghost use Rattle.std.specs.Prelude.{◌≡◌, ◌∷◌, [], true, None, Some, IfOk, MatchOption};
-ghost use Rattle.lvish_run.specs.Agenda.{open_in, IsEmpty, HasAt, HasHandler, NoTask, NoHandler, IsTaskGone, IsHandlerGone, Adds};
+ghost use Rattle.lvish_run.specs.Agenda.{open_in, IsEmpty, SetsOpenTask, HasHandler, NoTask, NoHandler, IsTaskGone, IsHandlerGone, Adds};
 
 use lvish_board::{Asked, Named, Work, stretch};
 use lvish_calculus::Program;
@@ -53,7 +53,7 @@ impl<P: Program, J: Named<P>> Agenda<P, J> {
         name: &TaskName<<P::Lat as Lattice>::Event>,
     ) -> Option<Asked<P, J>>
         ensures was { result ≡ (open_in P.Lat.Event.cmp self.old).at name.now }
-        ensures without { HasAt P.Lat.Event.cmp (open_in P.Lat.Event.cmp self.old) name.now None (open_in P.Lat.Event.cmp self.new) }
+        ensures without { SetsOpenTask P.Lat.Event.cmp (open_in P.Lat.Event.cmp self.old) name.now None (open_in P.Lat.Event.cmp self.new) }
     {
         self.tasks.remove(name)
     }
@@ -67,7 +67,7 @@ impl<P: Program, J: Named<P>> Agenda<P, J> {
 
     /// Opens the task, in place of any of its name.
     fn open_task(&mut self, asked: Asked<P, J>) -> Result<(), AllocError>
-        ensures { IfOk result (λ _. HasAt P.Lat.Event.cmp (open_in P.Lat.Event.cmp self.old) asked.task (Some asked) (open_in P.Lat.Event.cmp self.new)) }
+        ensures { IfOk result (λ _. SetsOpenTask P.Lat.Event.cmp (open_in P.Lat.Event.cmp self.old) asked.task (Some asked) (open_in P.Lat.Event.cmp self.new)) }
     {
         let name = asked.task().copy()?;
         match self.tasks.insert(name, asked) {

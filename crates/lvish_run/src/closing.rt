@@ -2,13 +2,14 @@
 
 ghost use Rattle.std.specs.Prelude.{◌≡◌, ◌≢◌, IfOk};
 ghost use Rattle.lvish_calculus.specs.Handing.{IsHandedWell};
-ghost use Rattle.lvish_run.specs.Honest.{IsHonest, labels_of};
+ghost use Rattle.lvish_run.specs.Honest.{IsHonest};
+ghost use Rattle.lvish_board.specs.Standing.{labels_of};
 ghost use Rattle.lvish_run.specs.Alike.{IsAlike};
 
 use crate::account::account_of;
+use crate::count_by_worker::count_by_worker;
 use crate::fault::RunFault;
 use crate::report::Report;
-use crate::tally::tally;
 use lvish_board::{Board, Named, Outcome};
 use lvish_calculus::laws::{handing_kept, same_end};
 use lvish_calculus::{Meaning, Program};
@@ -35,7 +36,7 @@ fn copy_of<E: Plain>(outcome: &Outcome<E>) -> Result<Outcome<E>, AllocError>
     }
 }
 
-/// The report of a board that is over, by so many workers.
+/// The report of a board that is over, by this many workers.
 ///
 /// # Errors
 ///
@@ -61,7 +62,7 @@ pub fn report_of<P: Program, J: Named<P>>(
         return Err(RunFault::Mixed);
     };
     let outcome = copy_of(over)?;
-    let by_worker = tally(alloc, board.trace(), workers)?;
+    let by_worker = count_by_worker(alloc, board.trace(), workers)?;
     let account = account_of(alloc, board.core(), outcome)?;
     let trace = board.into_trace();
     Ok(account.report(trace.len() as u64, trace, by_worker))

@@ -1,10 +1,11 @@
 ghost use Rattle.std.specs.Prelude.{◌≤◌, IfOk};
 
-use crate::scripts::{Runs, run_picks};
+use crate::limits::MOST_STEPS;
+use crate::scripts::{RunMeaning, run_picks};
 use lvish_board::Outcome;
 use lvish_calculus::laws::no_late_error;
 use lvish_syntax::Script;
-use lvish_task::Code;
+use lvish_task::ScriptCode;
 use lvish_task::laws::{asks_no_freeze, same_runs};
 use std::alloc::{AllocError, Global};
 
@@ -17,13 +18,13 @@ use std::alloc::{AllocError, Global};
 ///
 /// `AllocError` where a growth was refused.
 pub fn always_ends(alloc: Global, script: &Script, budget: u64) -> Result<Option<u64>, AllocError>
-    requires { budget ≤ 1000000 }
-    ensures { IfOk result (λ bound. ⟦<Script as Runs>⟧.is_bound script.now budget bound) }
+    requires { budget ≤ MOST_STEPS }
+    ensures { IfOk result (λ bound. ⟦<Script as RunMeaning>⟧.is_bound script.now budget bound) }
 {
     same_runs();
     asks_no_freeze();
-    no_late_error::<Code>();
-    let code = Code::new(alloc, script)?;
+    no_late_error::<ScriptCode>();
+    let code = ScriptCode::new(alloc, script)?;
     if code.freezes() {
         return Ok(None);
     }

@@ -3,16 +3,16 @@
 ghost use Rattle.std.specs.Prelude.{◌≡◌, ◌≢◌, ◌↔◌, ◌+◌, IfOk, IsTrue, All, true, false, [], length, suc};
 ghost use Rattle.std.specs.List.{list_any};
 ghost use Rattle.lvish_run.specs.Crew.{IsFault, IsPart, lacked_memory, was_stopped};
-ghost use Rattle.lvish_run.specs.declared.own.Why.TheVariants.{Stopped};
+ghost use Rattle.lvish_run.specs.declared.own_steps.Why.TheVariants.{Stopped};
 
 use crate::fault::RunFault;
 use crate::gate::Gate;
-use crate::own::Own;
+use crate::own_steps::OwnSteps;
 use crate::worker::work;
-use lvish_board::{Board, Entry, Named, Work};
+use lvish_board::{Board, Named, TraceEntry, Work};
 use lvish_compound::Event;
 use lvish_deal::Seat;
-use lvish_task::Code;
+use lvish_task::ScriptCode;
 use std::alloc::{AllocError, Global};
 use std::marker::PhantomData;
 use std::sync::atomic::{AtomicBool, Ordering};
@@ -26,23 +26,23 @@ pub struct Patience<G: Gate> {
     of: PhantomData<G>,
 }
 
-impl<G: Gate> Promise<Own> for Patience<G> {
+impl<G: Gate> Promise<OwnSteps> for Patience<G> {
     ghost use Rattle.std.specs.Prelude.{◌≡◌, ◌≢◌, true};
-    ghost use Rattle.lvish_run.specs.declared.own.Why.TheVariants.{Stopped};
+    ghost use Rattle.lvish_run.specs.declared.own_steps.Why.TheVariants.{Stopped};
 
     ghost kept_by = { λ p r. G.patient ≡ true → r.why ≢ Stopped };
 }
 
-/// What all workers hand back, and whether a thread couldn't be started.
+/// What all workers give back, and whether a thread couldn't be started.
 #[derive(Drop)]
 pub struct Crew {
-    pub owns: Vec<Own>,
+    pub owns: Vec<OwnSteps>,
     pub missing: bool,
 }
 
 impl Crew {
     /// Why there is no report of this trace.
-    pub fn fault(&self, trace: &[Entry<Event>]) -> Option<RunFault>
+    pub fn fault(&self, trace: &[TraceEntry<Event>]) -> Option<RunFault>
         ensures { IsFault self.now.missing self.now.owns.items trace.now result }
     {
         if self.missing {
@@ -63,21 +63,21 @@ impl Crew {
 }
 
 /// Whether some worker left for want of memory.
-fn some_lacked_memory(owns: &[Own]) -> bool
+fn some_lacked_memory(owns: &[OwnSteps]) -> bool
     ensures { result ≡ list_any lacked_memory owns.now }
 {
     owns.iter().any(|own| own.lacked_memory())
 }
 
 /// Whether some worker was stopped.
-fn some_was_stopped(owns: &[Own]) -> bool
+fn some_was_stopped(owns: &[OwnSteps]) -> bool
     ensures { result ≡ list_any was_stopped owns.now }
 {
     owns.iter().any(|own| own.was_stopped())
 }
 
 /// Whether each worker's own list is just its steps in the trace.
-fn are_parts(owns: &[Own], trace: &[Entry<Event>]) -> bool
+fn are_parts(owns: &[OwnSteps], trace: &[TraceEntry<Event>]) -> bool
     ensures { IsTrue result ↔ All (IsPart trace.now) owns.now }
 {
     owns.iter().all(|own| own.is_part(trace))
@@ -85,13 +85,13 @@ fn are_parts(owns: &[Own], trace: &[Entry<Event>]) -> bool
 
 /// Runs the worker of the first seat on this thread and those of the others on threads of their own,
 /// and joins them.
-pub fn together<J: Named<Code> + Send + Sync, R: Threads + Wait + Sync, G: Gate>(
+pub fn together<J: Named<ScriptCode> + Send + Sync, R: Threads + Wait + Sync, G: Gate>(
     rt: &R,
     alloc: Global,
-    mine: Seat<Work<Code, J>>,
-    others: Vec<Seat<Work<Code, J>>>,
-    code: &Code,
-    board: &Mutex<Board<'_, Code, J>>,
+    mine: Seat<Work<ScriptCode, J>>,
+    others: Vec<Seat<Work<ScriptCode, J>>>,
+    code: &ScriptCode,
+    board: &Mutex<Board<'_, ScriptCode, J>>,
     left: &AtomicBool,
     gate: &G,
 ) -> Result<Crew, AllocError>
@@ -116,7 +116,7 @@ pub fn together<J: Named<Code> + Send + Sync, R: Threads + Wait + Sync, G: Gate>
         {
             let mut missing = false;
             while let Some(seat) = others.pop() {
-                let theirs = move || -> Own
+                let theirs = move || -> OwnSteps
                     requires { code.now ≡ J.program }
                     ensures { G.patient ≡ true → result.why ≢ Stopped }
                 { work(rt, alloc, seat, code, board, left, gate) };
@@ -135,12 +135,12 @@ pub fn together<J: Named<Code> + Send + Sync, R: Threads + Wait + Sync, G: Gate>
     )
 }
 
-/// Joins the threads, and adds what they hand back.
+/// Joins the threads, and adds what they give back.
 fn join_all<R: Threads, G: Gate>(
     rt: &R,
-    handles: Vec<PromisedHandle<Own, Patience<G>>>,
-    mut owns: Vec<Own>,
-) -> Result<Vec<Own>, AllocError>
+    handles: Vec<PromisedHandle<OwnSteps, Patience<G>>>,
+    mut owns: Vec<OwnSteps>,
+) -> Result<Vec<OwnSteps>, AllocError>
     requires { G.patient ≡ true → All (λ own. own.why ≢ Stopped) owns.items }
     ensures patient { IfOk result (λ v. G.patient ≡ true → All (λ own. own.why ≢ Stopped) v.items) }
     ensures all { IfOk result (λ v. length v.items ≡ length owns.items + length handles.items) }

@@ -9,23 +9,23 @@
 //!
 //! ```text
 //! let report = run(&rt, alloc, &script, 2, 100_000, &Open)?;
-//! match report.outcome {
-//!     Outcome::Ended => print(report_text(alloc, &script, &report, true)?),
-//!     ..
-//! }
+//! print(report_text(alloc, &script, &report, true)?);
 //! ```
 #![tactic(auto)]
 
 mod account;
 mod agenda;
 mod closing;
+mod count_by_worker;
 mod counts;
 mod ends;
+mod error_line;
 mod fault;
 mod gate;
 mod hall;
+mod limits;
 mod naming;
-mod own;
+mod own_steps;
 mod pause;
 mod picks;
 mod report;
@@ -33,7 +33,6 @@ mod runner;
 mod scripts;
 mod state_text;
 mod states;
-mod tally;
 mod text;
 mod trace;
 mod trace_lines;
@@ -46,11 +45,12 @@ pub use counts::Counts;
 pub use ends::always_ends;
 pub use fault::RunFault;
 pub use gate::{Gate, Open};
-pub use lvish_board::{Entry, Outcome};
+pub use limits::{MOST_STEPS, MOST_WORKERS};
+pub use lvish_board::{Outcome, TraceEntry};
 pub use picks::pick_at;
 pub use report::{FinalState, Report};
 pub use runner::run_program;
-pub use scripts::{Runs, run_picks};
+pub use scripts::{RunMeaning, run_picks};
 pub use states::States;
 pub use text::report_text;
 pub use trace::Trace;

@@ -1,19 +1,19 @@
 use lvish_board::Named;
-use lvish_task::Code;
+use lvish_task::ScriptCode;
 use std::marker::{Brand, PhantomData};
 
 /// Which code is run, and in how many steps at most. A call picks them.
 pub trait Naming {
     ghost use Rattle.std.specs.Prelude.{ℕ};
-    ghost use Rattle.lvish_task.specs.declared.code.Code.{Code};
+    ghost use Rattle.lvish_task.specs.declared.script_code.ScriptCode.{ScriptCode};
 
-    ghost code: { Code };
+    ghost code: { ScriptCode };
 
     ghost budget: { ℕ };
 }
 
 impl Naming for Brand {
-    ghost use Rattle.lvish_run.specs.NoCode.{no_code};
+    ghost use Rattle.lvish_task.specs.NoCode.{no_code};
 
     ghost code = { no_code };
 
@@ -26,7 +26,7 @@ pub struct Of<N: Naming> {
     of: PhantomData<N>,
 }
 
-impl<N: Naming> Named<Code> for Of<N> {
+impl<N: Naming> Named<ScriptCode> for Of<N> {
     ghost program = { N.code };
 
     ghost budget = { N.budget };

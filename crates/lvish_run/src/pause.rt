@@ -11,10 +11,10 @@ const SLEEP: u64 = 100;
 /// How often a worker tries to take the board before it waits for its turn.
 const TRIES: usize = 100;
 
-/// How many times more often than not the board was taken when a worker gives up spinning for it.
+/// A worker gives up spinning for the board once it was taken this many times more often than not.
 const CROWDED: u32 = 4;
 
-/// The most that a worker counts of these.
+/// The most of these that a worker counts.
 const MOST_CROWDED: u32 = 2 * CROWDED;
 
 /// The pauses of a worker. Nobody wakes it.
@@ -40,7 +40,7 @@ impl Pause {
         }
     }
 
-    /// Has the next pause be as short as the first, since there was work.
+    /// Makes the next pause as short as the first, since there was work.
     pub fn reset(&self) {
         self.backoff.reset();
     }
@@ -59,7 +59,7 @@ impl Pause {
         }
     }
 
-    /// Takes what the lock holds, with pauses as long as another has it.
+    /// Takes what the lock holds, and pauses as long as another has it.
     pub fn take<'l, T, R: Wait>(&mut self, rt: &R, lock: &'l Mutex<T>) -> MutexGuard<'l, T> {
         if let Some(guard) = lock.try_lock() {
             self.crowded = self.crowded.saturating_sub(1);

@@ -3,9 +3,9 @@
 ghost use Rattle.std.specs.Prelude.{◌≡◌, ◌≤◌, ◌%◌, IfOk, MatchOption, length, [], slice_get, true, None, Some};
 ghost use Rattle.lvish_calculus.specs.Calculus.{Running, start};
 ghost use Rattle.lvish_calculus.specs.Handing.{IsHandedWell};
-ghost use Rattle.lvish_board.specs.Standing.{IsOpened};
+ghost use Rattle.lvish_board.specs.Standing.{IsOpened, labels_of};
 ghost use Rattle.lvish_run.specs.Agenda.{open_in, NoTask, IsBeside, IsFor};
-ghost use Rattle.lvish_run.specs.Honest.{IsHonest, labels_of};
+ghost use Rattle.lvish_run.specs.Honest.{IsHonest};
 ghost use Rattle.lvish_run.specs.Picked.{IsPicked};
 ghost use Rattle.lvish_run.specs.Alike.{IsAlike};
 ghost use Rattle.lvish_run.specs.Walk.{IsStuck, IsDrawn, IsFirstHandler, IsTurn, IsWalked};
@@ -13,6 +13,7 @@ ghost use Rattle.lvish_run.specs.Walk.{IsStuck, IsDrawn, IsFirstHandler, IsTurn,
 use crate::account::{account_of, outcome_of};
 use crate::agenda::Agenda;
 use crate::counts::Counts;
+use crate::limits::MOST_STEPS;
 use crate::picks::pick_at;
 use crate::report::Report;
 use crate::turn::{act, hand, is_sound};
@@ -24,7 +25,7 @@ use lvish_lattice::Lattice;
 use lvish_names::HandlerName;
 use std::alloc::{AllocError, Global};
 
-/// The label whose number is the pick modulo their count, `None` of no labels.
+/// The label whose number is the pick modulo their count, `None` where there are no labels.
 fn choose<E: Drop>(mut labels: Vec<Label<E>>, pick: u64) -> Option<Label<E>>
     ensures { MatchOption result (labels.items ≡ []) (λ l. slice_get labels.items (pick % length labels.items) ≡ Some l) }
 {
@@ -64,7 +65,7 @@ fn take_named<P: Program, J: Named<P>>(
 {
     is_sound(board);
     match named(alloc, board, pick)? {
-        Some(Label::Task(name)) => {
+        Some(Label::Act(name)) => {
             let Some(asked) = agenda.take_task(&name) else {
                 unreachable!()
             };
@@ -77,7 +78,7 @@ fn take_named<P: Program, J: Named<P>>(
 
 /// Makes the first step that can be made. Answers whether there was one.
 ///
-/// Open tasks that can't go on are parked on the way, and are open again once they can.
+/// Open tasks that are blocked are parked on the way, and are open again once a step wakes them.
 fn take_first<P: Program, J: Named<P>>(
     alloc: Global,
     program: &P,
@@ -200,7 +201,7 @@ fn opened<'p, P: Program, J: Named<P>>(
 ) -> Result<(Board<'p, P, J>, Agenda<P, J>), AllocError>
     requires program { program.now ≡ J.program }
     requires budget { budget ≡ J.budget }
-    requires small { budget ≤ 1000000 }
+    requires small { budget ≤ MOST_STEPS }
     ensures board { IfOk result (λ r. IsOpened (⟦<P as Meaning>⟧.machine J.program) J.program r.0) }
     ensures agenda { IfOk result (λ r. IsFor P.Lat.Event.cmp (⟦<P as Meaning>⟧.machine J.program) r.0 r.1) }
 {
@@ -222,7 +223,7 @@ fn walked<'p, P: Program, J: Named<P>>(
 ) -> Result<Board<'p, P, J>, AllocError>
     requires program { program.now ≡ J.program }
     requires budget { budget ≡ J.budget }
-    requires small { budget ≤ 1000000 }
+    requires small { budget ≤ MOST_STEPS }
     ensures { IfOk result (λ b. IsWalked P.Lat.Event.cmp (⟦<P as Meaning>⟧.machine J.program) J.program picks.now J.budget b.core b.trace) }
 {
     let (mut board, mut agenda) = opened::<P, J>(alloc, program, budget)?;
@@ -244,7 +245,7 @@ pub fn run_program<P: Program, J: Named<P>>(
 ) -> Result<Report<P::Lat, <P::Lat as Lattice>::Event>, AllocError>
     requires program { program.now ≡ J.program }
     requires budget { budget ≡ J.budget }
-    requires small { budget ≤ 1000000 }
+    requires small { budget ≤ MOST_STEPS }
     ensures honest { IfOk result (λ r. IsHonest (⟦<P as Meaning>⟧.machine J.program) (P.functions J.program).variables 1 J.budget r) }
     ensures picked { IfOk result (λ r. IsPicked P.Lat.Event.cmp (⟦<P as Meaning>⟧.machine J.program) picks.now [] (Running (start (⟦<P as Meaning>⟧.machine J.program))) (labels_of r.trace)) }
     // What handlers are handed in it.

@@ -2,9 +2,11 @@ ghost use Rattle.std.specs.Prelude.{◌≡◌, ◌≤◌, [], IfOk};
 ghost use Rattle.lvish_calculus.specs.Calculus.{Running, start};
 ghost use Rattle.lvish_calculus.specs.Handing.{IsHandedWell};
 ghost use Rattle.lvish_run.specs.Alike.{IsAlike};
-ghost use Rattle.lvish_run.specs.Honest.{IsHonest, labels_of};
+ghost use Rattle.lvish_run.specs.Honest.{IsHonest};
+ghost use Rattle.lvish_board.specs.Standing.{labels_of};
 ghost use Rattle.lvish_run.specs.Picked.{IsPicked};
 
+use crate::limits::MOST_STEPS;
 use crate::naming::{Naming, Of};
 use crate::report::Report;
 use crate::runner::run_program;
@@ -12,18 +14,18 @@ use lvish_calculus::{Meaning, Program};
 use lvish_compound::{Any, Event};
 use lvish_syntax::Script;
 use lvish_task::laws::same_runs;
-use lvish_task::{Code, ScriptMeaning};
+use lvish_task::{ScriptCode, ScriptMeaning};
 use std::alloc::{AllocError, Global};
 use std::marker::Brand;
 
 /// What contracts say of a script's runs.
-pub trait Runs {
+pub trait RunMeaning {
     ghost use Rattle.std.specs.Prelude.{ℕ, List, Option};
     ghost use Rattle.lvish_compound.specs.declared.any.Any.{Any};
     ghost use Rattle.lvish_compound.specs.declared.event.Event.{Event};
     ghost use Rattle.lvish_run.specs.declared.report.Report.{Report};
 
-    /// An honest report of a run of the script's nested statements by so many workers, within the
+    /// An honest report of a run of the script's nested statements by this many workers, within the
     /// budget; of an end, that all ends that don't cross it are alike.
     ghost is_run: { Self → ℕ → ℕ → Report Any Event → Type 0 };
 
@@ -37,7 +39,7 @@ pub trait Runs {
     ghost is_bound: { Self → ℕ → Option ℕ → Type 0 };
 }
 
-impl Runs for Script {
+impl RunMeaning for Script {
     ghost use Rattle.lvish_run.specs.Ends.{IsBound};
     ghost use Rattle.lvish_run.specs.Scripts.{IsRunBy, IsPickedRun};
 
@@ -60,28 +62,28 @@ pub fn run_picks(
     picks: &[u64],
     budget: u64,
 ) -> Result<Report<Any, Event>, AllocError>
-    requires { budget ≤ 1000000 }
-    ensures { IfOk result (λ r. ⟦<Script as Runs>⟧.is_picked_run script.now picks.now budget r) }
+    requires { budget ≤ MOST_STEPS }
+    ensures { IfOk result (λ r. ⟦<Script as RunMeaning>⟧.is_picked_run script.now picks.now budget r) }
 {
     same_runs();
-    let code = Code::new(alloc, script)?;
+    let code = ScriptCode::new(alloc, script)?;
     run_named::<Brand>(alloc, &code, picks, budget)
 }
 
 /// Runs the code that the name is for.
 fn run_named<N: Naming>(
     alloc: Global,
-    code: &Code,
+    code: &ScriptCode,
     picks: &[u64],
     budget: u64,
 ) -> Result<Report<Any, Event>, AllocError>
-    requires bounded { budget ≤ 1000000 }
+    requires bounded { budget ≤ MOST_STEPS }
     requires code { code.now ≡ N.code }
     requires budget { budget ≡ N.budget }
-    ensures honest { IfOk result (λ r. IsHonest (⟦<Code as Meaning>⟧.machine N.code) (⟦<Code as Program>⟧.functions N.code).variables 1 N.budget r) }
-    ensures picked { IfOk result (λ r. IsPicked ⟦<Event as Ord>⟧.cmp (⟦<Code as Meaning>⟧.machine N.code) picks.now [] (Running (start (⟦<Code as Meaning>⟧.machine N.code))) (labels_of r.trace)) }
-    ensures handed { IfOk result (λ r. IsHandedWell (⟦<Code as Meaning>⟧.machine N.code) (labels_of r.trace)) }
-    ensures alike { IfOk result (λ r. IsAlike (⟦<Code as Meaning>⟧.machine N.code) (⟦<Code as Program>⟧.functions N.code).variables r) }
+    ensures honest { IfOk result (λ r. IsHonest (⟦<ScriptCode as Meaning>⟧.machine N.code) (⟦<ScriptCode as Program>⟧.functions N.code).variables 1 N.budget r) }
+    ensures picked { IfOk result (λ r. IsPicked ⟦<Event as Ord>⟧.cmp (⟦<ScriptCode as Meaning>⟧.machine N.code) picks.now [] (Running (start (⟦<ScriptCode as Meaning>⟧.machine N.code))) (labels_of r.trace)) }
+    ensures handed { IfOk result (λ r. IsHandedWell (⟦<ScriptCode as Meaning>⟧.machine N.code) (labels_of r.trace)) }
+    ensures alike { IfOk result (λ r. IsAlike (⟦<ScriptCode as Meaning>⟧.machine N.code) (⟦<ScriptCode as Program>⟧.functions N.code).variables r) }
 {
-    run_program::<Code, Of<N>>(alloc, code, picks, budget)
+    run_program::<ScriptCode, Of<N>>(alloc, code, picks, budget)
 }

@@ -1,6 +1,6 @@
 //! The texts of states, by the kinds of their variables.
 
-ghost use Rattle.std.specs.Prelude.{◌≡◌, IfOk, string_bytes};
+ghost use Rattle.std.specs.Prelude.{◌≡◌, IfOk, map, string_bytes};
 ghost use Rattle.lvish_compound.specs.MapOf.{entries_of};
 ghost use Rattle.lvish_compound.specs.Tally.{entries_of as amounts_of};
 ghost use Rattle.lvish_run.specs.StateText.{braced, set_text, entry_text, map_text, amount_text, tally_text, simple_text, pair_text, state_text};
@@ -11,8 +11,9 @@ use lvish_syntax::{SimpleKind, VariableKind};
 use std::alloc::{AllocError, Global};
 
 /// The pieces in braces, with one space between any two.
+#[tactic(auto, using(crate::proofs::Braces::join_by_map))]
 fn braced(alloc: Global, pieces: &[String]) -> Result<String, AllocError>
-    ensures { IfOk result (λ t. string_bytes t ≡ braced string_bytes pieces.now) }
+    ensures { IfOk result (λ t. string_bytes t ≡ braced (map string_bytes pieces.now)) }
 {
     let joined = pieces.join(alloc, " ")?;
     format!(in alloc; "{{{joined}}}")
@@ -31,7 +32,7 @@ fn set_text(alloc: Global, elements: &[i64]) -> Result<String, AllocError>
 
 /// A key and what it holds.
 fn entry_text(alloc: Global, key: i64, value: &Flat<i64>) -> Result<String, AllocError>
-    ensures { IfOk result (λ t. string_bytes t ≡ entry_text key value.now) }
+    ensures { IfOk result (λ t. string_bytes t ≡ entry_text (key, value.now)) }
 {
     match value {
         Flat::Bottom => format!(in alloc; "{key}:empty"),
@@ -52,7 +53,7 @@ fn map_text(alloc: Global, map: &MapOf<i64, Flat<i64>>) -> Result<String, AllocE
 
 /// A key and its amount.
 fn amount_text(alloc: Global, key: i64, amount: MaxCounter) -> Result<String, AllocError>
-    ensures { IfOk result (λ t. string_bytes t ≡ amount_text key amount) }
+    ensures { IfOk result (λ t. string_bytes t ≡ amount_text (key, amount)) }
 {
     let level = amount.get();
     format!(in alloc; "{key}:{level}")

@@ -1,10 +1,14 @@
-ghost use Rattle.std.specs.Prelude.{◌≡◌, IfOk, string_bytes, length};
-ghost use Rattle.lvish_run.specs.Text.{variable_line, shown_line, variables_of, variable_lines, count_lines, report_lines, HasText};
+ghost use Rattle.std.specs.Prelude.{◌≡◌, ◌++◌, IfOk, string_bytes, length};
+ghost use Rattle.lvish_board.specs.declared.outcome.Outcome.TheVariants.{Ended};
+ghost use Rattle.lvish_run.specs.Text.{variable_line, shown_line, variables_of, variable_lines, count_lines, budget_line, report_text};
 
+use crate::error_line::error_line;
 use crate::report::{FinalState, Report};
 use crate::state_text::state_text;
+use lvish_board::Outcome;
 use lvish_compound::Any;
-use lvish_syntax::{Declaration, Name, Script, VariableKind};
+use lvish_lattice::{Numbered, Plain};
+use lvish_syntax::{Declaration, Identifier, Script, VariableKind};
 use std::alloc::{AllocError, Global};
 
 /// A variable's line.
@@ -23,7 +27,7 @@ fn variable_line(
 /// The line of a variable that is frozen, or of any with `all`; else nothing.
 fn shown_line(
     alloc: Global,
-    name: &Name,
+    name: &Identifier,
     kind: VariableKind,
     state: &FinalState<Any>,
     all: bool,
@@ -68,24 +72,51 @@ fn count_lines(alloc: Global, steps: u64, blocked: u64) -> Result<String, AllocE
     format!(in alloc; "steps {steps}\nblocked {blocked}\n")
 }
 
-/// The text of a report without an error: a line for each frozen variable, or for each with
-/// `all`, then the numbers of steps and of blocked tasks.
-///
-/// # Errors
-///
-/// `AllocError` where a growth was refused.
-pub fn report_text<E>(
+/// The lines of an end.
+fn end_lines<E>(
     alloc: Global,
     script: &Script,
     report: &Report<Any, E>,
     all: bool,
 ) -> Result<String, AllocError>
-    requires outcome { HasText report.now.outcome }
-    requires states { length report.now.states ≡ length (variables_of script.now.declarations) }
-    ensures { IfOk result (λ t. string_bytes t ≡ report_lines (variables_of script.now.declarations) report.now all) }
+    requires { length report.now.states ≡ length (variables_of script.now.declarations) }
+    ensures { IfOk result (λ t. string_bytes t ≡ variable_lines all (variables_of script.now.declarations) report.now.states ++ count_lines report.now.steps report.now.blocked) }
 {
     let mut text = variable_lines(alloc, script.declarations(), report.states.as_slice(), all)?;
     let counts = count_lines(alloc, report.steps, report.blocked)?;
     text.push_str(counts.as_str())?;
     Ok(text)
+}
+
+/// The line of a run that was stopped after this many steps, its budget.
+fn budget_line(alloc: Global, steps: u64) -> Result<String, AllocError>
+    ensures { IfOk result (λ t. string_bytes t ≡ budget_line steps) }
+{
+    format!(in alloc; "budget {steps}\n")
+}
+
+/// The text of a report: of an end a line for each frozen variable, or for each with `all`, then the
+/// numbers of steps and of blocked tasks; of an error, or of a budget that is used up, one line.
+///
+/// # Errors
+///
+/// `AllocError` where a growth was refused.
+pub fn report_text<E: Plain + Numbered>(
+    alloc: Global,
+    script: &Script,
+    report: &Report<Any, E>,
+    all: bool,
+) -> Result<String, AllocError>
+    requires { report.now.outcome ≡ Ended → length report.now.states ≡ length (variables_of script.now.declarations) }
+    ensures { IfOk result (λ t. string_bytes t ≡ report_text E.key_of E.number_of (variables_of script.now.declarations) report.now all) }
+{
+    match &report.outcome {
+        Outcome::Ended => end_lines(alloc, script, report, all),
+        Outcome::Error {
+            kind,
+            variable,
+            task,
+        } => error_line(alloc, script.declarations(), *kind, *variable, task),
+        Outcome::Budget => budget_line(alloc, report.steps),
+    }
 }

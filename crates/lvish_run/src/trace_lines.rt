@@ -1,5 +1,5 @@
 ghost use Rattle.std.specs.Prelude.{◌≡◌, IfOk, string_bytes};
-ghost use Rattle.lvish_run.specs.Honest.{labels_of};
+ghost use Rattle.lvish_board.specs.Standing.{labels_of};
 ghost use Rattle.lvish_run.specs.TraceText.{label_line, trace_lines};
 
 use crate::report::Report;
@@ -13,7 +13,7 @@ fn label_line<E: Plain + Numbered>(alloc: Global, label: &Label<E>) -> Result<St
     ensures { IfOk result (λ t. string_bytes t ≡ label_line E.key_of E.number_of label.now) }
 {
     match label {
-        Label::Task(task) => format!(in alloc; "run {task}\n"),
+        Label::Act(task) => format!(in alloc; "run {task}\n"),
         Label::Hand(handler, event) => {
             let started = TaskName::handled(alloc, handler, event)?;
             format!(in alloc; "hand {started}\n")

@@ -2,16 +2,16 @@
 
 ghost use Rattle.std.specs.Prelude.{◌≡◌, false, None, Some, IfOk};
 ghost use Rattle.lvish_calculus.specs.declared.label.Label.TheVariants.{Hand};
-ghost use Rattle.lvish_board.specs.Standing.{IsSound, IsCurrent};
+ghost use Rattle.lvish_board.specs.Standing.{IsBoardSound, IsCurrent};
 ghost use Rattle.lvish_board.specs.Listed.{HasNext};
 ghost use Rattle.lvish_run.specs.Agenda.{open_in, IsBeside, IsFor};
-ghost use Rattle.lvish_run.specs.Walk.{IsTried, IsTriedHand, IsActed, IsHanded};
+ghost use Rattle.lvish_run.specs.Walk.{IsTried, IsTriedHand, IsActed, IsHandTurn};
 
 use crate::agenda::Agenda;
-use lvish_board::{Act, Asked, Board, Named, Work};
+use lvish_board::{Acted, Asked, Board, Named, Work};
 use lvish_calculus::laws::lawful;
 use lvish_calculus::{Meaning, Program};
-use lvish_core::Runs;
+use lvish_core::CoreMeaning;
 use lvish_core::laws::hands_one_event;
 use lvish_lattice::Lattice;
 use lvish_names::HandlerName;
@@ -20,7 +20,7 @@ use std::alloc::{AllocError, Global};
 
 /// What every board keeps.
 pub(crate) fn is_sound<P: Program, J: Named<P>>(board: &Board<'_, P, J>)
-    ensures { IsSound (⟦<P as Meaning>⟧.machine J.program) J.program J.budget board.now }
+    ensures { IsBoardSound (⟦<P as Meaning>⟧.machine J.program) J.program J.budget board.now }
 {
     board.over();
 }
@@ -68,12 +68,12 @@ fn take_act<P: Program, J: Named<P>>(
 {
     is_sound(board);
     match board.act(alloc, 0, asked) {
-        Act::Next(works) => Ok(Some(works)),
-        Act::Gone(works) => Ok(Some(works)),
-        Act::Parked => Ok(None),
-        Act::Over => Ok(None),
-        Act::Stale => unreachable!(),
-        Act::Memory(_work) => Err(AllocError),
+        Acted::Next(works) => Ok(Some(works)),
+        Acted::Gone(works) => Ok(Some(works)),
+        Acted::Parked => Ok(None),
+        Acted::Over => Ok(None),
+        Acted::Stale => unreachable!(),
+        Acted::Memory(_work) => Err(AllocError),
     }
 }
 
@@ -90,7 +90,7 @@ pub(crate) fn hand<P: Program, J: Named<P>>(
     requires running { board.old.over ≡ None }
     requires next { HasNext (⟦<P as Meaning>⟧.machine J.program) board.old.core handler }
     requires beside { IsBeside (⟦<P as Meaning>⟧.machine J.program) board.old None (Some handler) (open_in P.Lat.Event.cmp agenda.old) }
-    ensures handed { IfOk result (λ made. (e : P.Lat.Event) → ⟦<P as Runs>⟧.is_next board.old.core handler e → IsHanded board.old (Hand handler e) made board.new) }
+    ensures handed { IfOk result (λ made. (e : P.Lat.Event) → ⟦<P as CoreMeaning>⟧.is_next board.old.core handler e → IsHandTurn board.old (Hand handler e) made board.new) }
     ensures agenda { IfOk result (λ _. IsFor P.Lat.Event.cmp (⟦<P as Meaning>⟧.machine J.program) board.new agenda.new) }
 {
     lawful::<P>();
@@ -121,11 +121,11 @@ fn take_hand<P: Program, J: Named<P>>(
     hands_one_event::<P>();
     is_sound(board);
     match board.hand(alloc, 0, handler) {
-        Act::Next(works) => Ok(Some(works)),
-        Act::Over => Ok(None),
-        Act::Memory(_work) => Err(AllocError),
-        Act::Gone(_works) => unreachable!(),
-        Act::Parked => unreachable!(),
-        Act::Stale => unreachable!(),
+        Acted::Next(works) => Ok(Some(works)),
+        Acted::Over => Ok(None),
+        Acted::Memory(_work) => Err(AllocError),
+        Acted::Gone(_works) => unreachable!(),
+        Acted::Parked => unreachable!(),
+        Acted::Stale => unreachable!(),
     }
 }

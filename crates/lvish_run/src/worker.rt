@@ -2,25 +2,25 @@
 
 ghost use Rattle.std.specs.Prelude.{◌≡◌, ◌≢◌, ◌≤◌, ◌<◌, ◌⊎◌, length, true, Some, vec_len, vec_capacity};
 ghost use Rattle.lvish_deal.specs.Place.{IsSameSeat};
-ghost use Rattle.lvish_run.specs.declared.own.Why.TheVariants.{Stopped};
+ghost use Rattle.lvish_run.specs.declared.own_steps.Why.TheVariants.{Stopped};
 
 use crate::gate::Gate;
-use crate::own::{Own, Step, Why};
+use crate::own_steps::{OwnSteps, Step, Why};
 use crate::pause::Pause;
-use lvish_board::{Act, Asked, Board, Named, Work, stretch};
+use lvish_board::{Acted, Asked, Board, Named, Work, stretch};
 use lvish_compound::Event;
 use lvish_deal::{Seat, Steal};
 use lvish_names::HandlerName;
-use lvish_task::Code;
+use lvish_task::ScriptCode;
 use std::alloc::Global;
 use std::sync::atomic::{AtomicBool, Ordering};
 use std::sync::{Mutex, Wait};
 
 /// What came of a piece of work.
 #[derive(Drop)]
-enum Turn<J: Named<Code>> {
+enum AfterWork<J: Named<ScriptCode>> {
     /// The worker goes on: with this, or with what it finds.
-    On(Option<Work<Code, J>>),
+    On(Option<Work<ScriptCode, J>>),
     /// The board is over.
     Over,
     /// A growth was refused, or a push on its deque.
@@ -28,15 +28,15 @@ enum Turn<J: Named<Code>> {
 }
 
 /// Works until the board is over, another worker has left, or this one must leave.
-pub fn work<J: Named<Code>, R: Wait, G: Gate>(
+pub fn work<J: Named<ScriptCode>, R: Wait, G: Gate>(
     rt: &R,
     alloc: Global,
-    seat: Seat<Work<Code, J>>,
-    code: &Code,
-    board: &Mutex<Board<'_, Code, J>>,
+    seat: Seat<Work<ScriptCode, J>>,
+    code: &ScriptCode,
+    board: &Mutex<Board<'_, ScriptCode, J>>,
     left: &AtomicBool,
     gate: &G,
-) -> Own
+) -> OwnSteps
     requires { code.now ≡ J.program }
     ensures { G.patient ≡ true → result.why ≢ Stopped }
 {
@@ -44,7 +44,7 @@ pub fn work<J: Named<Code>, R: Wait, G: Gate>(
     let mut steps = Vec::new(alloc);
     let why = turns(rt, alloc, code, board, left, gate, &mut seat, &mut steps);
     left.store(true, Ordering::SeqCst);
-    Own {
+    OwnSteps {
         worker: seat.number(),
         steps,
         why,
@@ -52,14 +52,14 @@ pub fn work<J: Named<Code>, R: Wait, G: Gate>(
 }
 
 /// Turn after turn, until one says why the worker leaves.
-fn turns<J: Named<Code>, R: Wait, G: Gate>(
+fn turns<J: Named<ScriptCode>, R: Wait, G: Gate>(
     rt: &R,
     alloc: Global,
-    code: &Code,
-    board: &Mutex<Board<'_, Code, J>>,
+    code: &ScriptCode,
+    board: &Mutex<Board<'_, ScriptCode, J>>,
     left: &AtomicBool,
     gate: &G,
-    seat: &mut Seat<Work<Code, J>>,
+    seat: &mut Seat<Work<ScriptCode, J>>,
     steps: &mut Vec<Step>,
 ) -> Why
     requires { code.now ≡ J.program }
@@ -81,17 +81,17 @@ fn turns<J: Named<Code>, R: Wait, G: Gate>(
 
 /// One turn: its task's next ticket, or what it finds, or an idle turn. It answers the task's next
 /// ticket, or why the worker leaves.
-fn take_turn<J: Named<Code>, R: Wait, G: Gate>(
+fn take_turn<J: Named<ScriptCode>, R: Wait, G: Gate>(
     rt: &R,
     alloc: Global,
-    code: &Code,
-    board: &Mutex<Board<'_, Code, J>>,
+    code: &ScriptCode,
+    board: &Mutex<Board<'_, ScriptCode, J>>,
     gate: &G,
-    seat: &mut Seat<Work<Code, J>>,
+    seat: &mut Seat<Work<ScriptCode, J>>,
     steps: &mut Vec<Step>,
     pause: &mut Pause,
-    own: Option<Work<Code, J>>,
-) -> Result<Option<Work<Code, J>>, Why>
+    own: Option<Work<ScriptCode, J>>,
+) -> Result<Option<Work<ScriptCode, J>>, Why>
     requires { code.now ≡ J.program }
     ensures { G.patient ≡ true → result ≢ Err Stopped }
 {
@@ -103,18 +103,18 @@ fn take_turn<J: Named<Code>, R: Wait, G: Gate>(
     };
     pause.reset();
     match take_up(rt, alloc, code, board, gate, seat, steps, pause, work) {
-        Turn::On(next) => Ok(next),
-        Turn::Over => Err(Why::Over),
-        Turn::Memory => Err(Why::Memory),
+        AfterWork::On(next) => Ok(next),
+        AfterWork::Over => Err(Why::Over),
+        AfterWork::Memory => Err(Why::Memory),
     }
 }
 
 /// An idle turn: it says why the worker leaves, if it does. Whoever makes the last step looks whether
 /// the board is over, so an idle worker looks only before it sleeps, and where nobody else has the
 /// board.
-fn idle<J: Named<Code>, R: Wait, G: Gate>(
+fn idle<J: Named<ScriptCode>, R: Wait, G: Gate>(
     rt: &R,
-    board: &Mutex<Board<'_, Code, J>>,
+    board: &Mutex<Board<'_, ScriptCode, J>>,
     gate: &G,
     pause: &Pause,
     worker: usize,
@@ -170,7 +170,7 @@ fn steal<T>(seat: &mut Seat<T>, first: usize, end: usize) -> Option<T>
 }
 
 /// Whether the board is over, as far as that can be seen without a wait for it.
-fn is_seen_over<J: Named<Code>>(board: &Mutex<Board<'_, Code, J>>) -> bool {
+fn is_seen_over<J: Named<ScriptCode>>(board: &Mutex<Board<'_, ScriptCode, J>>) -> bool {
     match board.try_lock() {
         Some(board) => board.over().is_some(),
         None => false,
@@ -178,17 +178,17 @@ fn is_seen_over<J: Named<Code>>(board: &Mutex<Board<'_, Code, J>>) -> bool {
 }
 
 /// Does one piece of work.
-fn take_up<J: Named<Code>, R: Wait, G: Gate>(
+fn take_up<J: Named<ScriptCode>, R: Wait, G: Gate>(
     rt: &R,
     alloc: Global,
-    code: &Code,
-    board: &Mutex<Board<'_, Code, J>>,
+    code: &ScriptCode,
+    board: &Mutex<Board<'_, ScriptCode, J>>,
     gate: &G,
-    seat: &mut Seat<Work<Code, J>>,
+    seat: &mut Seat<Work<ScriptCode, J>>,
     steps: &mut Vec<Step>,
     pause: &mut Pause,
-    work: Work<Code, J>,
-) -> Turn<J>
+    work: Work<ScriptCode, J>,
+) -> AfterWork<J>
     requires { code.now ≡ J.program }
 {
     match work {
@@ -196,7 +196,7 @@ fn take_up<J: Named<Code>, R: Wait, G: Gate>(
             gate.enter(seat.number(), ticket.task());
             match stretch(alloc, code, ticket) {
                 Ok(asked) => act(rt, alloc, board, seat, steps, pause, asked),
-                Err(_ticket) => Turn::Memory,
+                Err(_ticket) => AfterWork::Memory,
             }
         }
         Work::Act(asked) => act(rt, alloc, board, seat, steps, pause, asked),
@@ -205,40 +205,40 @@ fn take_up<J: Named<Code>, R: Wait, G: Gate>(
 }
 
 /// Takes what a task asks for to the board.
-fn act<J: Named<Code>, R: Wait>(
+fn act<J: Named<ScriptCode>, R: Wait>(
     rt: &R,
     alloc: Global,
-    board: &Mutex<Board<'_, Code, J>>,
-    seat: &mut Seat<Work<Code, J>>,
+    board: &Mutex<Board<'_, ScriptCode, J>>,
+    seat: &mut Seat<Work<ScriptCode, J>>,
     steps: &mut Vec<Step>,
     pause: &mut Pause,
-    asked: Asked<Code, J>,
-) -> Turn<J> {
+    asked: Asked<ScriptCode, J>,
+) -> AfterWork<J> {
     let Ok(task) = asked.task().copy() else {
-        return Turn::Memory;
+        return AfterWork::Memory;
     };
     if steps.reserve(1).is_err() {
-        return Turn::Memory;
+        return AfterWork::Memory;
     }
     let answer = pause.take(rt, board).act(alloc, seat.number(), asked);
     go_by(rt, board, seat, steps, pause, Step::Act(task), answer)
 }
 
 /// Takes a handler to the board.
-fn hand<J: Named<Code>, R: Wait>(
+fn hand<J: Named<ScriptCode>, R: Wait>(
     rt: &R,
     alloc: Global,
-    board: &Mutex<Board<'_, Code, J>>,
-    seat: &mut Seat<Work<Code, J>>,
+    board: &Mutex<Board<'_, ScriptCode, J>>,
+    seat: &mut Seat<Work<ScriptCode, J>>,
     steps: &mut Vec<Step>,
     pause: &mut Pause,
     handler: HandlerName<Event>,
-) -> Turn<J> {
+) -> AfterWork<J> {
     let Ok(name) = handler.copy() else {
-        return Turn::Memory;
+        return AfterWork::Memory;
     };
     if steps.reserve(1).is_err() {
-        return Turn::Memory;
+        return AfterWork::Memory;
     }
     let answer = pause.take(rt, board).hand(alloc, seat.number(), handler);
     go_by(rt, board, seat, steps, pause, Step::Hand(name), answer)
@@ -246,23 +246,23 @@ fn hand<J: Named<Code>, R: Wait>(
 
 /// Goes on by what the board answered. Where the step's task goes on, its next ticket is the first of
 /// the work.
-fn go_by<J: Named<Code>, R: Wait>(
+fn go_by<J: Named<ScriptCode>, R: Wait>(
     rt: &R,
-    board: &Mutex<Board<'_, Code, J>>,
-    seat: &mut Seat<Work<Code, J>>,
+    board: &Mutex<Board<'_, ScriptCode, J>>,
+    seat: &mut Seat<Work<ScriptCode, J>>,
     steps: &mut Vec<Step>,
     pause: &mut Pause,
     step: Step,
-    answer: Act<Code, J>,
-) -> Turn<J>
+    answer: Acted<ScriptCode, J>,
+) -> AfterWork<J>
     requires room { vec_len steps.old < vec_capacity steps.old }
 {
     match answer {
-        Act::Over => Turn::Over,
-        Act::Stale => Turn::On(None),
-        Act::Parked => look(rt, board, pause),
-        Act::Memory(_work) => Turn::Memory,
-        Act::Next(works) => {
+        Acted::Over => AfterWork::Over,
+        Acted::Stale => AfterWork::On(None),
+        Acted::Parked => look(rt, board, pause),
+        Acted::Memory(_work) => AfterWork::Memory,
+        Acted::Next(works) => {
             let goes_on = step.is_act();
             steps.push_reserved(step);
             if goes_on {
@@ -271,7 +271,7 @@ fn go_by<J: Named<Code>, R: Wait>(
                 leave(rt, board, seat, pause, works)
             }
         }
-        Act::Gone(works) => {
+        Acted::Gone(works) => {
             steps.push_reserved(step);
             leave(rt, board, seat, pause, works)
         }
@@ -279,46 +279,49 @@ fn go_by<J: Named<Code>, R: Wait>(
 }
 
 /// Goes on with the first piece of work, and leaves the others on its deque.
-fn go_on<J: Named<Code>>(seat: &mut Seat<Work<Code, J>>, works: Vec<Work<Code, J>>) -> Turn<J> {
+fn go_on<J: Named<ScriptCode>>(
+    seat: &mut Seat<Work<ScriptCode, J>>,
+    works: Vec<Work<ScriptCode, J>>,
+) -> AfterWork<J> {
     let mut own = None;
     for work in works {
         if own.is_none() {
             own = Some(work);
         } else if seat.push(work).is_err() {
-            return Turn::Memory;
+            return AfterWork::Memory;
         }
     }
-    Turn::On(own)
+    AfterWork::On(own)
 }
 
 /// Leaves all of the work on its deque. Where there is none, the board may be over.
-fn leave<J: Named<Code>, R: Wait>(
+fn leave<J: Named<ScriptCode>, R: Wait>(
     rt: &R,
-    board: &Mutex<Board<'_, Code, J>>,
-    seat: &mut Seat<Work<Code, J>>,
+    board: &Mutex<Board<'_, ScriptCode, J>>,
+    seat: &mut Seat<Work<ScriptCode, J>>,
     pause: &mut Pause,
-    works: Vec<Work<Code, J>>,
-) -> Turn<J> {
+    works: Vec<Work<ScriptCode, J>>,
+) -> AfterWork<J> {
     if works.is_empty() {
         return look(rt, board, pause);
     }
     for work in works {
         if seat.push(work).is_err() {
-            return Turn::Memory;
+            return AfterWork::Memory;
         }
     }
-    Turn::On(None)
+    AfterWork::On(None)
 }
 
 /// Goes on unless the board is over.
-fn look<J: Named<Code>, R: Wait>(
+fn look<J: Named<ScriptCode>, R: Wait>(
     rt: &R,
-    board: &Mutex<Board<'_, Code, J>>,
+    board: &Mutex<Board<'_, ScriptCode, J>>,
     pause: &mut Pause,
-) -> Turn<J> {
+) -> AfterWork<J> {
     if pause.take(rt, board).over().is_some() {
-        Turn::Over
+        AfterWork::Over
     } else {
-        Turn::On(None)
+        AfterWork::On(None)
     }
 }

@@ -1,22 +1,24 @@
 ghost use Rattle.std.specs.Prelude.{◌≡◌, ◌≢◌, ◌≤◌, ◌<◌, IfOk, All, true, false};
 ghost use Rattle.lvish_calculus.specs.Handing.{IsHandedWell};
-ghost use Rattle.lvish_run.specs.Honest.{IsHonest, labels_of};
+ghost use Rattle.lvish_run.specs.Honest.{IsHonest};
+ghost use Rattle.lvish_board.specs.Standing.{labels_of};
 ghost use Rattle.lvish_run.specs.Alike.{IsAlike};
-ghost use Rattle.lvish_run.specs.declared.own.Why.TheVariants.{Stopped};
+ghost use Rattle.lvish_run.specs.declared.own_steps.Why.TheVariants.{Stopped};
 
 use crate::closing::report_of;
 use crate::fault::RunFault;
 use crate::gate::Gate;
 use crate::hall::{Crew, together};
+use crate::limits::{MOST_STEPS, MOST_WORKERS};
 use crate::naming::{Naming, Of};
 use crate::report::Report;
-use crate::scripts::Runs;
+use crate::scripts::RunMeaning;
 use lvish_board::{Board, Named};
 use lvish_calculus::{Meaning, Program};
 use lvish_compound::{Any, Event};
 use lvish_deal::deal;
 use lvish_syntax::Script;
-use lvish_task::Code;
+use lvish_task::ScriptCode;
 use lvish_task::laws::same_runs;
 use std::alloc::Global;
 use std::marker::Brand;
@@ -24,7 +26,7 @@ use std::sync::atomic::AtomicBool;
 use std::sync::{Mutex, Wait};
 use std::thread::Threads;
 
-/// Runs the script by so many workers, each at a deque of its own: worker 0 on this thread, the
+/// Runs the script by this many workers, each at a deque of its own: worker 0 on this thread, the
 /// others on threads of their own.
 ///
 /// # Errors
@@ -41,14 +43,14 @@ pub fn run<R: Threads + Wait + Sync, G: Gate>(
     gate: &G,
 ) -> Result<Report<Any, Event>, RunFault>
     requires some { 0 < workers }
-    requires few { workers ≤ 8 }
-    requires bounded { budget ≤ 1000000 }
-    ensures honest { IfOk result (λ r. ⟦<Script as Runs>⟧.is_run script.now workers budget r) }
+    requires few { workers ≤ MOST_WORKERS }
+    requires bounded { budget ≤ MOST_STEPS }
+    ensures honest { IfOk result (λ r. ⟦<Script as RunMeaning>⟧.is_run script.now workers budget r) }
     ensures patient { G.patient ≡ true → result ≢ Err RunFault.Stopped }
     ensures alone { workers ≡ 1 → result ≢ Err RunFault.NoThread }
 {
     same_runs();
-    let code = Code::new(alloc, script)?;
+    let code = ScriptCode::new(alloc, script)?;
     run_named::<Brand, R, G>(rt, alloc, &code, workers, budget, gate)
 }
 
@@ -56,23 +58,23 @@ pub fn run<R: Threads + Wait + Sync, G: Gate>(
 fn run_named<N: Naming + Send + Sync, R: Threads + Wait + Sync, G: Gate>(
     rt: &R,
     alloc: Global,
-    code: &Code,
+    code: &ScriptCode,
     workers: usize,
     budget: u64,
     gate: &G,
 ) -> Result<Report<Any, Event>, RunFault>
     requires some { 0 < workers }
-    requires few { workers ≤ 8 }
-    requires bounded { budget ≤ 1000000 }
+    requires few { workers ≤ MOST_WORKERS }
+    requires bounded { budget ≤ MOST_STEPS }
     requires code { code.now ≡ N.code }
     requires budget { budget ≡ N.budget }
-    ensures honest { IfOk result (λ r. IsHonest (⟦<Code as Meaning>⟧.machine N.code) (⟦<Code as Program>⟧.functions N.code).variables workers N.budget r) }
-    ensures handed { IfOk result (λ r. IsHandedWell (⟦<Code as Meaning>⟧.machine N.code) (labels_of r.trace)) }
-    ensures alike { IfOk result (λ r. IsAlike (⟦<Code as Meaning>⟧.machine N.code) (⟦<Code as Program>⟧.functions N.code).variables r) }
+    ensures honest { IfOk result (λ r. IsHonest (⟦<ScriptCode as Meaning>⟧.machine N.code) (⟦<ScriptCode as Program>⟧.functions N.code).variables workers N.budget r) }
+    ensures handed { IfOk result (λ r. IsHandedWell (⟦<ScriptCode as Meaning>⟧.machine N.code) (labels_of r.trace)) }
+    ensures alike { IfOk result (λ r. IsAlike (⟦<ScriptCode as Meaning>⟧.machine N.code) (⟦<ScriptCode as Program>⟧.functions N.code).variables r) }
     ensures patient { G.patient ≡ true → result ≢ Err RunFault.Stopped }
     ensures alone { workers ≡ 1 → result ≢ Err RunFault.NoThread }
 {
-    let (board, first) = Board::<Code, Of<N>>::new(alloc, code, budget)?;
+    let (board, first) = Board::<ScriptCode, Of<N>>::new(alloc, code, budget)?;
     let mut others = deal(alloc, workers)?;
     let mut mine = others.remove(0);
     if mine.push(first).is_err() {
@@ -85,15 +87,15 @@ fn run_named<N: Naming + Send + Sync, R: Threads + Wait + Sync, G: Gate>(
 }
 
 /// The report of a board that is over, or why there is none.
-fn settle<J: Named<Code>>(
+fn settle<J: Named<ScriptCode>>(
     alloc: Global,
-    board: Board<'_, Code, J>,
+    board: Board<'_, ScriptCode, J>,
     crew: Crew,
     workers: usize,
 ) -> Result<Report<Any, Event>, RunFault>
-    ensures honest { IfOk result (λ r. IsHonest (⟦<Code as Meaning>⟧.machine J.program) (⟦<Code as Program>⟧.functions J.program).variables workers J.budget r) }
-    ensures handed { IfOk result (λ r. IsHandedWell (⟦<Code as Meaning>⟧.machine J.program) (labels_of r.trace)) }
-    ensures alike { IfOk result (λ r. IsAlike (⟦<Code as Meaning>⟧.machine J.program) (⟦<Code as Program>⟧.functions J.program).variables r) }
+    ensures honest { IfOk result (λ r. IsHonest (⟦<ScriptCode as Meaning>⟧.machine J.program) (⟦<ScriptCode as Program>⟧.functions J.program).variables workers J.budget r) }
+    ensures handed { IfOk result (λ r. IsHandedWell (⟦<ScriptCode as Meaning>⟧.machine J.program) (labels_of r.trace)) }
+    ensures alike { IfOk result (λ r. IsAlike (⟦<ScriptCode as Meaning>⟧.machine J.program) (⟦<ScriptCode as Program>⟧.functions J.program).variables r) }
     ensures patient { All (λ own. own.why ≢ Stopped) crew.owns.items → result ≢ Err RunFault.Stopped }
     ensures all_there { crew.missing ≡ false → result ≢ Err RunFault.NoThread }
 {

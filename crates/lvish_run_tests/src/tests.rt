@@ -8,7 +8,7 @@ mod scripts;
 use gates::{Away, Meeting, Resting, fork_of_main};
 use lvish_calculus::Label;
 use lvish_compound::{Any, Event};
-use lvish_run::{Entry, Open, Outcome, Report, RunFault, run, run_picks};
+use lvish_run::{Open, Outcome, Report, RunFault, TraceEntry, run, run_picks};
 use lvish_script::read_script;
 use lvish_syntax::Script;
 use std::alloc::{AllocError, Global};
@@ -44,8 +44,8 @@ fn same_states(a: &Report<Any, Event>, b: &Report<Any, Event>) -> bool {
             .all(|(x, y)| x.content == y.content && x.frozen == y.frozen)
 }
 
-/// A run by so many workers within a budget; made again where a growth was refused, or a thread is
-/// missing for it.
+/// A run by this many workers within a budget; made again where a growth was refused, or a thread
+/// is missing for it.
 fn run_at_last<R: Threads + Wait + Sync>(
     rt: &R,
     alloc: Global,
@@ -65,7 +65,7 @@ fn run_at_last<R: Threads + Wait + Sync>(
     }
 }
 
-/// Runs the script by 1 to 8 workers, so many times each, against one run by picks.
+/// Runs the script by 1 to 8 workers, this many times each, against one run by picks.
 fn alike<R: Threads + Wait + Sync>(
     rt: &R,
     alloc: Global,
@@ -128,7 +128,7 @@ fn runs_end_alike(rt: HostRuntime) -> Result<(), Fail> {
     Ok(())
 }
 
-/// The outcome of a run by so many workers within a budget.
+/// The outcome of a run by this many workers within a budget.
 fn outcome_of<R: Threads + Wait + Sync>(
     rt: &R,
     alloc: Global,
@@ -225,9 +225,9 @@ fn errors_end_runs(rt: HostRuntime) -> Result<(), Fail> {
 }
 
 /// The worker of the task's first step, and 1.
-fn mark_of(trace: &[Entry<Event>], number: u64) -> Option<u64> {
+fn mark_of(trace: &[TraceEntry<Event>], number: u64) -> Option<u64> {
     for entry in trace {
-        if let Label::Task(task) = &entry.label {
+        if let Label::Act(task) = &entry.label {
             if fork_of_main(task) == Some(number) {
                 return Some((entry.worker as u64).saturating_add(1));
             }
@@ -273,8 +273,8 @@ fn steps_are_made_while_a_worker_is_idle(rt: HostRuntime) -> Result<(), Fail> {
     Ok(())
 }
 
-/// Why the run of a script by so many workers has no report whose gate sends a worker away, and whether
-/// the gate held a worker for all its turns.
+/// Why the run of a script by this many workers has no report where the gate sends a worker away,
+/// and whether the gate held a worker for all its turns.
 fn sent_away<R: Threads + Wait + Sync>(
     rt: &R,
     alloc: Global,

@@ -1,13 +1,16 @@
 -- What holds of the lines of statements, and of the statements.
-use Rattle.std.proofs.Common.{◌≡◌, ℕ, Bool, true, false, cond, ◌&&◌, List, [], ◌∷◌, ◌++◌, Some, refl, sym, ap, ◌∙◌, arith, append_assoc}
-use Rattle.std.proofs.lemmas.Bool.{and_from, or_from}
-use Rattle.std.specs.Prelude.{count_by}
+use Rattle.std.proofs.Common.{◌≡◌, ℕ, Bool, true, false, cond, ◌&&◌, List, [], ◌∷◌, ◌++◌, map, Some, refl, sym, ap, ◌∙◌, arith, append_assoc}
+use Rattle.std.proofs.Math.Bool.{and-true}
+use Rattle.std.proofs.lemmas.Bool.{and_from, or_from, and_parts, or_parts}
+use Rattle.std.specs.Prelude.{count_by, filter}
 use Rattle.std.specs.List.{list_any, list_all, flat_map}
-use Rattle.std.proofs.lemmas.List.{append-nil}
-use Rattle.std.proofs.lemmas.List.Folds.{list_all-append}
-use Rattle.std.proofs.lemmas.Grind.{flat_map-append}
+use Rattle.std.proofs.lemmas.List.{append-nil, map-append}
+use Rattle.std.proofs.lemmas.List.Elements.{filter-append}
+use Rattle.std.proofs.lemmas.List.Folds.{list_all-append, list_all-map}
 use Rattle.lvish_syntax.specs.Words.{Word}
-use Rattle.lvish_syntax.specs.Nested.{nested, row_nested, all_nested}
+use Rattle.lvish_syntax.specs.Nested.{statements, nested, row_nested, all_nested}
+use Rattle.lvish_syntax.specs.declared.declaration.Declaration.{Declaration}
+use Rattle.lvish_syntax.specs.declared.procedure.Procedure.{Procedure}
 use Rattle.lvish_syntax.specs.declared.statement.Block.{Block}
 use Rattle.lvish_syntax.specs.declared.statement.Statement.{Statement, Do, If', IfElse', While', Row_of-Statement, end_of-Statement, more_of-Statement}
 use Rattle.lvish_syntax.specs.declared.statement.Statement.TheOpen as o
@@ -15,8 +18,7 @@ use Rattle.lvish_syntax.specs.declared.statement.Statement.TheViews.{out-Stateme
 use Rattle.lvish_checks.specs.declared.line.Line.{Line}
 use Rattle.lvish_checks.specs.declared.line.Line.TheVariants as line
 use Rattle.lvish_checks.specs.Checks.{is_procedure, binds, binds_until_procedure, locals_after, parameters_of}
-use Rattle.lvish_script.specs.Spells.{statement_lines, row_lines, body_lines}
-use Rattle.lvish_checks.proofs.Cuts.{left_fails, right_fails}
+use Rattle.lvish_script.specs.Spells.{statement_lines, row_lines, body_lines, procedure_lines, script_lines}
 use Rattle.lvish_script.proofs.Cleaned.{count_cons}
 
 -- the first line of a statement
@@ -26,89 +28,104 @@ own_line (o.If t a) = line.If t
 own_line (o.IfElse t a b) = line.If t
 own_line (o.While t a) = line.While t
 
+abbrev first : Statement → Line
+first s = own_line (out-Statement s)
+
 pub first_holds : (a b : Bool) → (a && b) ≡ true → a ≡ true
-first_holds true b e = refl
-first_holds false b e = absurd cc
+first_holds a b e = (and_parts a b e).0
 
 pub second_holds : (a b : Bool) → (a && b) ≡ true → b ≡ true
-second_holds true b e = e
-second_holds false b e = absurd cc
-
-pub front_all : {X : Type 0} (p : X → Bool) (xs ys : List X) → list_all p (xs ++ ys) ≡ true → list_all p xs ≡ true
-front_all p xs ys e = first_holds (list_all p xs) (list_all p ys) (sym (list_all-append p xs ys) ∙ e)
-
-pub back_all : {X : Type 0} (p : X → Bool) (xs ys : List X) → list_all p (xs ++ ys) ≡ true → list_all p ys ≡ true
-back_all p xs ys e = second_holds (list_all p xs) (list_all p ys) (sym (list_all-append p xs ys) ∙ e)
+second_holds a b e = (and_parts a b e).1
 
 pub join_all : {X : Type 0} (p : X → Bool) (xs ys : List X) → list_all p xs ≡ true → list_all p ys ≡ true → list_all p (xs ++ ys) ≡ true
 join_all p xs ys e f = list_all-append p xs ys ∙ and_from (list_all p xs) (list_all p ys) e f
 
--- ---- what holds of each line holds of each statement
+-- ---- the lines of statements but for each else and end are the first lines of the statements
 
--- a test of statements that follows from one of their first lines
-abbrev pub Follows : (Line → Bool) → (Statement → Bool) → Type 0
-Follows p q = (s : Statement) → p (own_line (out-Statement s)) ≡ true → q s ≡ true
+abbrev begins : Line → Bool
+begins line.Else = false
+begins line.End = false
+begins l = true
 
-mutual
-  pub all_in : (p : Line → Bool) (q : Statement → Bool) → Follows p q → (s : Statement) → list_all p (statement_lines s) ≡ true → list_all q (nested s) ≡ true
-  all_in p q h (Do c) e = and_from (q (Do c)) true (h (Do c) (ap (λ u. p (own_line u)) (outs-Do c) ∙ first_holds (p (line.Do c)) true e)) refl
-  all_in p q h (If' t s a) e =
-      and_from (q (If' t s a)) _ (h (If' t s a) (ap (λ u. p (own_line u)) (outs-If' t s a) ∙ first_holds (p (line.If t)) _ e))
-      (all_in_row p q h a (front_all p (row_lines a) (line.End ∷ []) (second_holds (p (line.If t)) _ e)))
-  all_in p q h (IfElse' t s a r b) e =
-      let rest = second_holds (p (line.If t)) _ e in
-      let tail = second_holds (p line.Else) _ (back_all p (row_lines a) (line.Else ∷ (row_lines b ++ line.End ∷ [])) rest) in
-      and_from (q (IfElse' t s a r b)) _ (h (IfElse' t s a r b) (ap (λ u. p (own_line u)) (outs-IfElse' t s a r b) ∙ first_holds (p (line.If t)) _ e))
-      (join_all q (row_nested a) (row_nested b) (all_in_row p q h a (front_all p (row_lines a) _ rest)) (all_in_row p q h b (front_all p (row_lines b) (line.End ∷ []) tail)))
-  all_in p q h (While' t s a) e =
-      and_from (q (While' t s a)) _ (h (While' t s a) (ap (λ u. p (own_line u)) (outs-While' t s a) ∙ first_holds (p (line.While t)) _ e))
-      (all_in_row p q h a (front_all p (row_lines a) (line.End ∷ []) (second_holds (p (line.While t)) _ e)))
-
-  pub all_in_row : (p : Line → Bool) (q : Statement → Bool) → Follows p q → {m : _} (r : Row_of-Statement m) → list_all p (row_lines r) ≡ true → list_all q (row_nested r) ≡ true
-  all_in_row p q h end_of-Statement e = refl
-  all_in_row p q h (more_of-Statement s rest) e =
-      join_all q (nested s) (row_nested rest) (all_in p q h s (front_all p (statement_lines s) (row_lines rest) e)) (all_in_row p q h rest (back_all p (statement_lines s) (row_lines rest) e))
-
-pub all_statements : (p : Line → Bool) (q : Statement → Bool) → Follows p q → (ss : List Statement) → list_all p (body_lines ss) ≡ true → list_all q (all_nested ss) ≡ true
-all_statements p q h [] e = refl
-all_statements p q h (s ∷ ss) e =
-    join_all q (nested s) (all_nested ss) (all_in p q h s (front_all p (statement_lines s) (body_lines ss) e)) (all_statements p q h ss (back_all p (statement_lines s) (body_lines ss) e))
-
--- ---- what lines have, in their order, the statements have
-
-pub record Gives {X : Type 0} (f : Line → List X) (g : Statement → List X) : Type 0 where
-  pub same : (s : Statement) → f (own_line (out-Statement s)) ≡ g s
-  pub no_else : f line.Else ≡ []
-  pub no_end : f line.End ≡ []
-
-closing : {X : Type 0} (f : Line → List X) → f line.End ≡ [] → (ls : List Line) → flat_map f (ls ++ line.End ∷ []) ≡ flat_map f ls
-closing f e ls = flat_map-append f ls (line.End ∷ []) ∙ ap (λ t. flat_map f ls ++ (t ++ [])) e ∙ append-nil (flat_map f ls)
-
-turning : {X : Type 0} (f : Line → List X) → f line.Else ≡ [] → f line.End ≡ [] → (xs ys : List Line) → flat_map f (xs ++ line.Else ∷ (ys ++ line.End ∷ [])) ≡ flat_map f xs ++ flat_map f ys
-turning f n e xs ys = flat_map-append f xs (line.Else ∷ (ys ++ line.End ∷ [])) ∙ ap (λ t. flat_map f xs ++ (t ++ flat_map f (ys ++ line.End ∷ []))) n ∙ ap (λ t. flat_map f xs ++ t) (closing f e ys)
+closed : (ls : List Line) → filter begins (ls ++ line.End ∷ []) ≡ filter begins ls
+closed ls = filter-append begins ls (line.End ∷ []) ∙ append-nil (filter begins ls)
 
 mutual
-  pub given_in : {X : Type 0} (f : Line → List X) (g : Statement → List X) → Gives f g → (s : Statement) → flat_map f (statement_lines s) ≡ flat_map g (nested s)
-  given_in f g h (Do c) = ap (λ t. t ++ []) (sym (ap (λ u. f (own_line u)) (outs-Do c)) ∙ h.same (Do c))
-  given_in f g h (If' t s a) =
-      ap (λ x. x ++ flat_map f (row_lines a ++ line.End ∷ [])) (sym (ap (λ u. f (own_line u)) (outs-If' t s a)) ∙ h.same (If' t s a))
-      ∙ ap (λ x. g (If' t s a) ++ x) (closing f h.no_end (row_lines a) ∙ given_in_row f g h a)
-  given_in f g h (IfElse' t s a r b) =
-      ap (λ x. x ++ flat_map f (row_lines a ++ line.Else ∷ (row_lines b ++ line.End ∷ []))) (sym (ap (λ u. f (own_line u)) (outs-IfElse' t s a r b)) ∙ h.same (IfElse' t s a r b))
-      ∙ ap (λ x. g (IfElse' t s a r b) ++ x) (turning f h.no_else h.no_end (row_lines a) (row_lines b) ∙ ap (λ x. x ++ flat_map f (row_lines b)) (given_in_row f g h a) ∙ ap (λ x. flat_map g (row_nested a) ++ x) (given_in_row f g h b) ∙ sym (flat_map-append g (row_nested a) (row_nested b)))
-  given_in f g h (While' t s a) =
-      ap (λ x. x ++ flat_map f (row_lines a ++ line.End ∷ [])) (sym (ap (λ u. f (own_line u)) (outs-While' t s a)) ∙ h.same (While' t s a))
-      ∙ ap (λ x. g (While' t s a) ++ x) (closing f h.no_end (row_lines a) ∙ given_in_row f g h a)
+  firsts : (s : Statement) → filter begins (statement_lines s) ≡ map first (nested s)
+  firsts (Do c) = ap (λ u. own_line u ∷ []) (sym (outs-Do c))
+  firsts (If' t s a) = ap (λ ls. line.If t ∷ ls) (closed (row_lines a) ∙ firsts_row a) ∙ ap (λ u. own_line u ∷ map first (row_nested a)) (sym (outs-If' t s a))
+  firsts (IfElse' t s a r b) =
+      ap (λ ls. line.If t ∷ ls) (filter-append begins (row_lines a) (line.Else ∷ (row_lines b ++ line.End ∷ [])) ∙ ap (λ ls. filter begins (row_lines a) ++ ls) (closed (row_lines b) ∙ firsts_row b) ∙ ap (λ ls. ls ++ map first (row_nested b)) (firsts_row a) ∙ sym (map-append first (row_nested a) (row_nested b)))
+      ∙ ap (λ u. own_line u ∷ map first (row_nested a ++ row_nested b)) (sym (outs-IfElse' t s a r b))
+  firsts (While' t s a) = ap (λ ls. line.While t ∷ ls) (closed (row_lines a) ∙ firsts_row a) ∙ ap (λ u. own_line u ∷ map first (row_nested a)) (sym (outs-While' t s a))
 
-  pub given_in_row : {X : Type 0} (f : Line → List X) (g : Statement → List X) → Gives f g → {m : _} (r : Row_of-Statement m) → flat_map f (row_lines r) ≡ flat_map g (row_nested r)
-  given_in_row f g h end_of-Statement = refl
-  given_in_row f g h (more_of-Statement s rest) =
-      flat_map-append f (statement_lines s) (row_lines rest) ∙ ap (λ x. x ++ flat_map f (row_lines rest)) (given_in f g h s) ∙ ap (λ x. flat_map g (nested s) ++ x) (given_in_row f g h rest) ∙ sym (flat_map-append g (nested s) (row_nested rest))
+  firsts_row : {m : _} (r : Row_of-Statement m) → filter begins (row_lines r) ≡ map first (row_nested r)
+  firsts_row end_of-Statement = refl
+  firsts_row (more_of-Statement s rest) = filter-append begins (statement_lines s) (row_lines rest) ∙ ap (λ ls. ls ++ filter begins (row_lines rest)) (firsts s) ∙ ap (λ ls. map first (nested s) ++ ls) (firsts_row rest) ∙ sym (map-append first (nested s) (row_nested rest))
 
-pub given : {X : Type 0} (f : Line → List X) (g : Statement → List X) → Gives f g → (ss : List Statement) → flat_map f (body_lines ss) ≡ flat_map g (all_nested ss)
-given f g h [] = refl
-given f g h (s ∷ ss) =
-    flat_map-append f (statement_lines s) (body_lines ss) ∙ ap (λ x. x ++ flat_map f (body_lines ss)) (given_in f g h s) ∙ ap (λ x. flat_map g (nested s) ++ x) (given f g h ss) ∙ sym (flat_map-append g (nested s) (all_nested ss))
+firsts_body : (ss : List Statement) → filter begins (body_lines ss) ≡ map first (all_nested ss)
+firsts_body [] = refl
+firsts_body (s ∷ ss) = filter-append begins (statement_lines s) (body_lines ss) ∙ ap (λ ls. ls ++ filter begins (body_lines ss)) (firsts s) ∙ ap (λ ls. map first (nested s) ++ ls) (firsts_body ss) ∙ sym (map-append first (nested s) (all_nested ss))
+
+-- a test that holds of each else and end holds of the lines where it holds of the statements
+module _ (p : Line → Bool) (q : o.Statement-F Statement Block → Bool) (own : (u : o.Statement-F Statement Block) → p (own_line u) ≡ q u) (else : p line.Else ≡ true) (end : p line.End ≡ true) where
+  all_begin : (ls : List Line) → list_all p ls ≡ list_all p (filter begins ls)
+  all_begin [] = refl
+  all_begin (line.Else ∷ ls) = rw else (all_begin ls)
+  all_begin (line.End ∷ ls) = rw end (all_begin ls)
+  all_begin (l ∷ ls) = ap (λ b. p l && b) (all_begin ls)
+
+  all_own : (ss : List Statement) → list_all (λ s. p (first s)) ss ≡ list_all (λ s. q (out-Statement s)) ss
+  all_own [] = refl
+  all_own (s ∷ ss) = rw (own (out-Statement s), all_own ss) refl
+
+  pub all_of_body : (ss : List Statement) → list_all p (body_lines ss) ≡ list_all (λ s. q (out-Statement s)) (all_nested ss)
+  all_of_body ss = all_begin (body_lines ss) ∙ ap (list_all p) (firsts_body ss) ∙ list_all-map p first (all_nested ss) ∙ all_own (all_nested ss)
+
+-- what the lines have in their order, the statements have
+module _ {X : Type 0} (f : Line → List X) (g : o.Statement-F Statement Block → List X) (own : (u : o.Statement-F Statement Block) → f (own_line u) ≡ g u) (else : f line.Else ≡ []) (end : f line.End ≡ []) where
+  flat_begin : (ls : List Line) → flat_map f ls ≡ flat_map f (filter begins ls)
+  flat_begin [] = refl
+  flat_begin (line.Else ∷ ls) = rw else (flat_begin ls)
+  flat_begin (line.End ∷ ls) = rw end (flat_begin ls)
+  flat_begin (l ∷ ls) = ap (λ t. f l ++ t) (flat_begin ls)
+
+  flat_own : (ss : List Statement) → flat_map f (map first ss) ≡ flat_map (λ s. g (out-Statement s)) ss
+  flat_own [] = refl
+  flat_own (s ∷ ss) = rw (own (out-Statement s), flat_own ss) refl
+
+  pub flat_of_body : (ss : List Statement) → flat_map f (body_lines ss) ≡ flat_map (λ s. g (out-Statement s)) (all_nested ss)
+  flat_of_body ss = flat_begin (body_lines ss) ∙ ap (flat_map f) (firsts_body ss) ∙ flat_own (all_nested ss)
+
+-- ---- a test of all lines of a script, by its declarations and procedures
+
+-- the test of a procedure: of its first line, and of its statements
+abbrev pub of_procedure : (Procedure → Bool) → (o.Statement-F Statement Block → Bool) → Procedure → Bool
+of_procedure top own r = top r && list_all (λ s. own (out-Statement s)) (all_nested (statements r.body))
+
+pub record ByParts (p : Line → Bool) (head : Declaration → Bool) (top : Procedure → Bool) (own : o.Statement-F Statement Block → Bool) : Type 0 where
+  pub at_head : (d : Declaration) → p (line.Declare d) ≡ head d
+  pub at_top : (r : Procedure) → p (line.Proc r.name r.parameters) ≡ top r
+  pub at_own : (u : o.Statement-F Statement Block) → p (own_line u) ≡ own u
+  pub at_else : p line.Else ≡ true
+  pub at_end : p line.End ≡ true
+
+module _ (p : Line → Bool) (head : Declaration → Bool) (top : Procedure → Bool) (own : o.Statement-F Statement Block → Bool) (by : ByParts p head top own) where
+  of_heads : (ds : List Declaration) → list_all p (map (λ d. line.Declare d) ds) ≡ list_all head ds
+  of_heads [] = refl
+  of_heads (d ∷ ds) = rw (by.at_head d, of_heads ds) refl
+
+  of_lines : (r : Procedure) → list_all p (procedure_lines r) ≡ of_procedure top own r
+  of_lines r =
+      ap (λ b. b && list_all p (body_lines (statements r.body) ++ line.End ∷ [])) (by.at_top r)
+      ∙ ap (λ b. top r && b) (list_all-append p (body_lines (statements r.body)) (line.End ∷ []) ∙ ap (λ b. list_all p (body_lines (statements r.body)) && (b && true)) by.at_end ∙ and-true _ ∙ all_of_body p own by.at_own by.at_else by.at_end (statements r.body))
+
+  of_procedures : (ps : List Procedure) → list_all p (flat_map procedure_lines ps) ≡ list_all (of_procedure top own) ps
+  of_procedures [] = refl
+  of_procedures (r ∷ ps) = list_all-append p (procedure_lines r) (flat_map procedure_lines ps) ∙ ap (λ b. b && list_all p (flat_map procedure_lines ps)) (of_lines r) ∙ ap (λ b. of_procedure top own r && b) (of_procedures ps)
+
+  pub all_of_script : (ds : List Declaration) (ps : List Procedure) → list_all p (script_lines ds ps) ≡ (list_all head ds && list_all (of_procedure top own) ps)
+  all_of_script ds ps = list_all-append p (map (λ d. line.Declare d) ds) (flat_map procedure_lines ps) ∙ ap (λ b. b && list_all p (flat_map procedure_lines ps)) (of_heads ds) ∙ ap (λ b. list_all head ds && b) (of_procedures ps)
 
 -- ---- what no line of a statement is
 
@@ -121,24 +138,19 @@ is_inner line.Else = true
 is_inner line.End = true
 is_inner l = false
 
-block_inner : (ls : List Line) → list_all is_inner ls ≡ true → list_all is_inner (ls ++ line.End ∷ []) ≡ true
-block_inner ls e = join_all is_inner ls (line.End ∷ []) e refl
-
-mutual
-  inner_in : (s : Statement) → list_all is_inner (statement_lines s) ≡ true
-  inner_in (Do c) = refl
-  inner_in (If' t s a) = block_inner (row_lines a) (inner_in_row a)
-  inner_in (IfElse' t s a r b) = join_all is_inner (row_lines a) (line.Else ∷ (row_lines b ++ line.End ∷ [])) (inner_in_row a) (block_inner (row_lines b) (inner_in_row b))
-  inner_in (While' t s a) = block_inner (row_lines a) (inner_in_row a)
-
-  inner_in_row : {m : _} (r : Row_of-Statement m) → list_all is_inner (row_lines r) ≡ true
-  inner_in_row end_of-Statement = refl
-  inner_in_row (more_of-Statement s rest) = join_all is_inner (statement_lines s) (row_lines rest) (inner_in s) (inner_in_row rest)
-
 -- the lines of a body are inner ones
 pub inner : (ss : List Statement) → list_all is_inner (body_lines ss) ≡ true
-inner [] = refl
-inner (s ∷ ss) = join_all is_inner (statement_lines s) (body_lines ss) (inner_in s) (inner ss)
+inner ss = all_of_body is_inner (λ u. true) own refl refl ss ∙ always (all_nested ss)
+  where
+    own : (u : o.Statement-F Statement Block) → is_inner (own_line u) ≡ true
+    own (o.Do c) = refl
+    own (o.If t a) = refl
+    own (o.IfElse t a b) = refl
+    own (o.While t a) = refl
+
+    always : (ss : List Statement) → list_all (λ s. true) ss ≡ true
+    always [] = refl
+    always (s ∷ ss) = always ss
 
 pub none_inner : (p : Line → Bool) → ((l : Line) → is_inner l ≡ true → p l ≡ false) → (ls : List Line) → list_all is_inner ls ≡ true → list_any p ls ≡ false
 none_inner p h [] e = refl
@@ -156,9 +168,10 @@ no_procedures ss = none_inner is_procedure no_procedure (body_lines ss) (inner s
 pub none_counted : (p : Line → Bool) (ls : List Line) → list_any p ls ≡ false → count_by p ls ≡ 0
 none_counted p [] e = refl
 none_counted p (l ∷ ls) e =
-    let here : ◌≡◌ {A = ℕ} (cond (p l) 1 0) 0 = rw (left_fails (p l) _ e) refl in
+    let parts = or_parts (p l) _ e in
+    let here : ◌≡◌ {A = ℕ} (cond (p l) 1 0) 0 = rw parts.0 refl in
     let one = count_cons p l ls in
-    let more = none_counted p ls (right_fails (p l) _ e) in
+    let more = none_counted p ls parts.1 in
     omega (arith, one, here, more)
 
 pub skipped : (n : Word) (ls rest : List Line) → list_any is_procedure ls ≡ false → parameters_of n (ls ++ rest) ≡ parameters_of n rest

@@ -1,10 +1,12 @@
 -- Lines without the blank ones and that of the version: the checks see the same.
-use Rattle.std.proofs.Common.{◌≡◌, ℕ, Bool, true, false, ◌||◌, ◌&&◌, not, List, [], ◌∷◌, ◌++◌, take, Option, Some, None, refl, sym, ap, ◌∙◌, arith, cond, ◌+◌}
+use Rattle.std.proofs.Common.{◌≡◌, ℕ, Bool, true, false, ◌||◌, ◌&&◌, not, List, [], ◌∷◌, ◌++◌, take, Option, Some, None, refl, sym, ap, ◌∙◌, arith, append_assoc, cond, ◌+◌}
 use Rattle.std.specs.Prelude.{filter, count_by, if◌then◌else◌}
-use Rattle.std.specs.Option.{option_map}
+use Rattle.std.specs.Option.{option_map, option_map_or}
 use Rattle.std.specs.List.{list_any, list_all}
 use Rattle.std.specs.Str.{bytes_eq}
+use Rattle.std.proofs.lemmas.Bool.{and_from, and_parts, or_from, or_parts, not-true}
 use Rattle.std.proofs.lemmas.List.{append-nil}
+use Rattle.std.proofs.lemmas.List.Elements.{filter-append}
 use Rattle.std.proofs.lemmas.List.Sums.{sum_by-cons}
 use Rattle.lvish_syntax.specs.Words.{Word}
 use Rattle.lvish_syntax.specs.Name.{has_repeat, is_known}
@@ -12,7 +14,7 @@ use Rattle.lvish_syntax.specs.declared.declaration.Declaration.TheVariants.{Vari
 use Rattle.lvish_syntax.specs.declared.command.Command.{Command}
 use Rattle.lvish_syntax.specs.declared.command.Command.TheVariants.{Let, Put, PutAt, Get, GetAt, Fork, Call, Handle, Freeze, FreezeEach}
 use Rattle.lvish_checks.specs.declared.line.Line.{Line}
-use Rattle.lvish_checks.specs.declared.line.Line.TheVariants.{Blank, Bad, Version, Declare, Proc, Do, If, While, Else, End}
+use Rattle.lvish_checks.specs.declared.line.Line.TheVariants.{Blank, Version, Declare, Proc, Do, If, While}
 use Rattle.lvish_checks.specs.Checks.{declarations, has_variable, has_pool, has_procedure, is_variable, is_pool, is_procedure, declares_procedure, declares_again, is_past_limit, binds, binds_until_procedure, locals_step, locals_after, locals_at, open_step, open_after, is_full, parameters_of, miscounts, command_miscounts, command_unknown, names_unknown, misfits, mixes, command_misfits, command_mixes}
 use Rattle.lvish_checks.specs.declared.open_blocks.Opener.{Opener}
 use Rattle.lvish_checks.specs.declared.open_blocks.Opener.TheVariants.{Procedure as InProcedure, If as InIf, Else as InElse, While as InWhile}
@@ -26,19 +28,11 @@ any_cleaned p none same (Blank ∷ ls) = rw none (any_cleaned p none same ls)
 any_cleaned p none same (Version ∷ ls) = rw same (any_cleaned p none same ls)
 any_cleaned p none same (l ∷ ls) = ap (λ b. p l || b) (any_cleaned p none same ls)
 
-pub second_holds : (a b : Bool) → (a && b) ≡ true → b ≡ true
-second_holds true b e = e
-second_holds false b e = absurd cc
-
 pub all_cleaned : (p : Line → Bool) (ls : List Line) → list_all p ls ≡ true → list_all p (filter says_something ls) ≡ true
 all_cleaned p [] e = refl
-all_cleaned p (Blank ∷ ls) e = all_cleaned p ls (second_holds (p Blank) _ e)
-all_cleaned p (Version ∷ ls) e = all_cleaned p ls (second_holds (p Version) _ e)
-all_cleaned p (l ∷ ls) e = both (p l) _ e (all_cleaned p ls)
-  where
-    both : (a b : Bool) {c : Bool} → (a && b) ≡ true → (b ≡ true → c ≡ true) → (a && c) ≡ true
-    both true b e f = f e
-    both false b e f = absurd cc
+all_cleaned p (Blank ∷ ls) e = all_cleaned p ls (and_parts (p Blank) _ e).1
+all_cleaned p (Version ∷ ls) e = all_cleaned p ls (and_parts (p Version) _ e).1
+all_cleaned p (l ∷ ls) e = let both = and_parts (p l) _ e in and_from (p l) _ both.0 (all_cleaned p ls both.1)
 
 pub count_cons : {X : Type 0} (p : X → Bool) (x : X) (xs : List X) → count_by p (x ∷ xs) ≡ cond (p x) 1 0 + count_by p xs
 count_cons p x xs = sum_by-cons (λ y. cond (p y) 1 0) x xs
@@ -86,24 +80,18 @@ parameters_of_cleaned p (Version ∷ ls) = parameters_of_cleaned p ls
 parameters_of_cleaned p (Proc n xs ∷ ls) = ap (λ (o : Option (List Word)). if bytes_eq n p then Some xs else o) (parameters_of_cleaned p ls)
 parameters_of_cleaned p (l ∷ ls) = parameters_of_cleaned p ls
 
-pub blank_step : (opened : List Opener) → open_step opened Blank ≡ opened
-blank_step [] = refl
-blank_step (InProcedure ∷ os) = refl
-blank_step (InIf ∷ os) = refl
-blank_step (InElse ∷ os) = refl
-blank_step (InWhile ∷ os) = refl
-
-pub version_step : (opened : List Opener) → open_step opened Version ≡ opened
-version_step [] = refl
-version_step (InProcedure ∷ os) = refl
-version_step (InIf ∷ os) = refl
-version_step (InElse ∷ os) = refl
-version_step (InWhile ∷ os) = refl
+-- such lines open and close nothing
+pub silent_step : (opened : List Opener) → (open_step opened Blank ≡ opened) × (open_step opened Version ≡ opened)
+silent_step [] = (refl, refl)
+silent_step (InProcedure ∷ os) = (refl, refl)
+silent_step (InIf ∷ os) = (refl, refl)
+silent_step (InElse ∷ os) = (refl, refl)
+silent_step (InWhile ∷ os) = (refl, refl)
 
 pub open_after_cleaned : (opened : List Opener) (ls : List Line) → open_after opened ls ≡ open_after opened (filter says_something ls)
 open_after_cleaned opened [] = refl
-open_after_cleaned opened (Blank ∷ ls) = ap (λ os. open_after os ls) (blank_step opened) ∙ open_after_cleaned opened ls
-open_after_cleaned opened (Version ∷ ls) = ap (λ os. open_after os ls) (version_step opened) ∙ open_after_cleaned opened ls
+open_after_cleaned opened (Blank ∷ ls) = ap (λ os. open_after os ls) (silent_step opened).0 ∙ open_after_cleaned opened ls
+open_after_cleaned opened (Version ∷ ls) = ap (λ os. open_after os ls) (silent_step opened).1 ∙ open_after_cleaned opened ls
 open_after_cleaned opened (l ∷ ls) = open_after_cleaned (open_step opened l) ls
 
 variables_cleaned : (v : Word) (ls : List Line) → has_variable v ls ≡ has_variable v (filter says_something ls)
@@ -175,19 +163,82 @@ unknown_given lines before locals (While t) = not (is_known locals t)
 unknown_given lines before locals l = false
 
 pub unknown_is : (lines : List Line) (k : ℕ) (x : Line) → names_unknown lines k x ≡ unknown_given lines (take k lines) (locals_at lines k) x
-unknown_is lines k (Declare (Variable n s)) = refl
 unknown_is lines k (Declare (Pool p v)) = refl
-unknown_is lines k Blank = refl
-unknown_is lines k Bad = refl
-unknown_is lines k Version = refl
-unknown_is lines k (Proc n xs) = refl
-unknown_is lines k (Do c) = refl
-unknown_is lines k (If t) = refl
-unknown_is lines k (While t) = refl
-unknown_is lines k Else = refl
-unknown_is lines k End = refl
+unknown_is lines k x = refl
 
 pub unknown_cleaned : (ls before : List Line) (locals : List Word) (x : Line) → unknown_given ls before locals x ≡ unknown_given (filter says_something ls) (filter says_something before) locals x
 unknown_cleaned ls before locals (Declare (Pool p v)) = ap not (variables_cleaned v before)
 unknown_cleaned ls before locals (Do c) = command_unknown_cleaned ls locals c
 unknown_cleaned ls before locals x = refl
+
+-- ---- all of these checks of a line
+
+-- the locals of the procedure in which the rest begins
+abbrev pub locals_in : List Line → List Line → List Word
+locals_in before rest = option_map_or (λ xs. xs ++ binds_until_procedure rest) (locals_after None before) []
+
+-- whether they pass a line, by all lines, those above it and those below it
+abbrev pub is_fine : List Line → List Line → Line → List Line → Bool
+is_fine ls b x a = not (declares_again b x || unknown_given ls b (locals_in b (x ∷ a)) x || misfits ls x || miscounts ls x || mixes ls x || is_past_limit b x)
+
+-- what they say of it
+pub record Fine (ls b : List Line) (x : Line) (a : List Line) : Type 0 where
+  pub again : declares_again b x ≡ false
+  pub unknown : unknown_given ls b (locals_in b (x ∷ a)) x ≡ false
+  pub kinds : misfits ls x ≡ false
+  pub counts : miscounts ls x ≡ false
+  pub apart : mixes ls x ≡ false
+  pub few : is_past_limit b x ≡ false
+
+pub each_fine : (ls b : List Line) (x : Line) (a : List Line) → is_fine ls b x a ≡ true → Fine ls b x a
+each_fine ls b x a e =
+    let five = or_parts _ (is_past_limit b x) (not-true _ e) in
+    let four = or_parts _ (mixes ls x) five.0 in
+    let three = or_parts _ (miscounts ls x) four.0 in
+    let two = or_parts _ (misfits ls x) three.0 in
+    let one = or_parts (declares_again b x) _ two.0 in
+    record { again = one.0; unknown = one.1; kinds = two.1; counts = three.1; apart = four.1; few = five.1 }
+
+pub all_fine : (ls b : List Line) (x : Line) (a : List Line) → Fine ls b x a → is_fine ls b x a ≡ true
+all_fine ls b x a f = ap not (or_from _ _ (or_from _ _ (or_from _ _ (or_from _ _ (or_from (declares_again b x) _ f.again f.unknown) f.kinds) f.counts) f.apart) f.few)
+
+same_locals : (b : List Line) (x : Line) (a : List Line) → locals_in b (x ∷ a) ≡ locals_in (filter says_something b) (x ∷ filter says_something a)
+same_locals b x a =
+    ap (λ o. option_map_or (λ xs. xs ++ binds_until_procedure (x ∷ a)) o []) (locals_after_cleaned None b)
+    ∙ ap (λ t. option_map_or (λ xs. xs ++ (if is_procedure x then [] else binds x ++ t)) (locals_after None (filter says_something b)) []) (binds_until_cleaned a)
+
+fine_cleaned : (ls b : List Line) (x : Line) (a : List Line) → is_fine ls b x a ≡ is_fine (filter says_something ls) (filter says_something b) x (filter says_something a)
+fine_cleaned ls b x a =
+    let again = declares_again_cleaned b x in
+    let unknown = unknown_cleaned ls b (locals_in b (x ∷ a)) x ∙ ap (λ w. unknown_given (filter says_something ls) (filter says_something b) w x) (same_locals b x a) in
+    let kinds = misfits_cleaned ls x in
+    let counts = miscounts_cleaned ls x in
+    let apart = mixes_cleaned ls x in
+    let few = is_past_limit_cleaned b x in
+    cc
+
+-- whether they pass each of the lines below some
+abbrev pub are_fine : List Line → List Line → List Line → Bool
+are_fine ls b [] = true
+are_fine ls b (x ∷ a) = is_fine ls b x a && are_fine ls (b ++ x ∷ []) a
+
+nothing_more : (b : List Line) (x : Line) → filter says_something (x ∷ []) ≡ [] → filter says_something (b ++ x ∷ []) ≡ filter says_something b
+nothing_more b x e = filter-append says_something b (x ∷ []) ∙ ap (λ t. filter says_something b ++ t) e ∙ append-nil (filter says_something b)
+
+pub are_fine_cleaned : (ls b a : List Line) → are_fine ls b a ≡ are_fine (filter says_something ls) (filter says_something b) (filter says_something a)
+are_fine_cleaned ls b [] = refl
+are_fine_cleaned ls b (Blank ∷ a) = are_fine_cleaned ls (b ++ Blank ∷ []) a ∙ ap (λ t. are_fine (filter says_something ls) t (filter says_something a)) (nothing_more b Blank refl)
+are_fine_cleaned ls b (Version ∷ a) = are_fine_cleaned ls (b ++ Version ∷ []) a ∙ ap (λ t. are_fine (filter says_something ls) t (filter says_something a)) (nothing_more b Version refl)
+are_fine_cleaned ls b (x ∷ a) =
+    ap (λ t. t && are_fine ls (b ++ x ∷ []) a) (fine_cleaned ls b x a)
+    ∙ ap (λ t. is_fine (filter says_something ls) (filter says_something b) x (filter says_something a) && t) (are_fine_cleaned ls (b ++ x ∷ []) a ∙ ap (λ t. are_fine (filter says_something ls) t (filter says_something a)) (filter-append says_something b (x ∷ [])))
+
+pub fine_at_cut : (ls b xs : List Line) (x : Line) (a : List Line) → are_fine ls b (xs ++ x ∷ a) ≡ true → is_fine ls (b ++ xs) x a ≡ true
+fine_at_cut ls b [] x a e = ap (λ t. is_fine ls t x a) (append-nil b) ∙ (and_parts (is_fine ls b x a) _ e).0
+fine_at_cut ls b (y ∷ xs) x a e = ap (λ t. is_fine ls t x a) (sym (append_assoc b (y ∷ []) xs)) ∙ fine_at_cut ls (b ++ y ∷ []) xs x a (and_parts (is_fine ls b y (xs ++ x ∷ a)) _ e).1
+
+pub fine_by_cut : (ls b rest : List Line) → ((xs : List Line) (x : Line) (a : List Line) → rest ≡ xs ++ x ∷ a → is_fine ls (b ++ xs) x a ≡ true) → are_fine ls b rest ≡ true
+fine_by_cut ls b [] h = refl
+fine_by_cut ls b (x ∷ a) h =
+    and_from (is_fine ls b x a) _ (ap (λ t. is_fine ls t x a) (sym (append-nil b)) ∙ h [] x a refl)
+    (fine_by_cut ls (b ++ x ∷ []) a (λ xs y c e. ap (λ t. is_fine ls t y c) (append_assoc b (x ∷ []) xs) ∙ h (x ∷ xs) y c (ap (λ t. x ∷ t) e)))

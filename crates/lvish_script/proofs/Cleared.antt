@@ -1,114 +1,100 @@
--- A cut through the lines that say something is one through all of them, and the checks passed there.
-use Rattle.std.proofs.Common.{◌≡◌, ℕ, suc, Bool, true, false, List, [], ◌∷◌, ◌++◌, length, take, drop, Some, None, refl, sym, ap, ◌∙◌}
+-- What the checks say of all lines of a text, by each line with those above and below it.
+use Rattle.std.proofs.Common.{◌≡◌, ℕ, zero, suc, ◌+◌, Bool, true, false, List, [], ◌∷◌, ◌++◌, length, take, drop, Some, None, refl, sym, ap, ◌∙◌, arith, append_assoc}
 use Rattle.std.specs.Prelude.{filter, slice_get}
 use Rattle.std.specs.Option.{option_map_or}
 use Rattle.std.proofs.Math.Seq.{take-append_seam, drop-append_seam}
-use Rattle.lvish_syntax.specs.Words.{Word}
+use Rattle.std.proofs.lemmas.List.{length_push}
 use Rattle.lvish_checks.specs.declared.line.Line.{Line}
-use Rattle.lvish_checks.specs.Checks.{on_line, declares_again, is_past_limit, binds_until_procedure, locals_after, miscounts, names_unknown, misfits, mixes}
+use Rattle.lvish_checks.specs.Checks.{on_line, declares_again, is_past_limit, binds_until_procedure, locals_after, locals_at, miscounts, names_unknown, misfits, mixes}
 use Rattle.lvish_script.specs.Spells.{says_something}
-use Rattle.lvish_script.proofs.Cleaned.{declares_again_cleaned, is_past_limit_cleaned, miscounts_cleaned, misfits_cleaned, mixes_cleaned, unknown_given, unknown_is, unknown_cleaned, locals_after_cleaned, binds_until_cleaned}
+use Rattle.lvish_script.proofs.Cleaned.{Fine, is_fine, are_fine, all_fine, each_fine, are_fine_cleaned, fine_at_cut, fine_by_cut, locals_in, unknown_given, unknown_is}
 
-pub record CutAt (keep : Line → Bool) (ls b : List Line) (x : Line) (a : List Line) : Type 0 where
-  pub before : List Line
-  pub after : List Line
-  pub whole : ls ≡ before ++ x ∷ after
-  pub cleaned_before : filter keep before ≡ b
-  pub cleaned_after : filter keep after ≡ a
-  pub kept : keep x ≡ true
+-- ---- a test of each line and its place
 
-module _ (keep : Line → Bool) (l : Line) (ls : List Line) (further : (b : List Line) (x : Line) (a : List Line) → filter keep ls ≡ b ++ x ∷ a → CutAt keep ls b x a) where
-  cut_on : (t : Bool) → keep l ≡ t → (b : List Line) (x : Line) (a : List Line) → filter keep (l ∷ ls) ≡ b ++ x ∷ a → CutAt keep (l ∷ ls) b x a
-  cut_on false k b x a e =
-      let e2 : filter keep ls ≡ b ++ x ∷ a = rw k at e in
-      let r = further b x a e2 in
-      record { before = l ∷ r.before; after = r.after; whole = ap (λ t. l ∷ t) r.whole; cleaned_before = rw k r.cleaned_before; cleaned_after = r.cleaned_after; kept = r.kept }
-  cut_on true k [] x a e =
-      let e2 : l ∷ filter keep ls ≡ x ∷ a = rw k at e in
-      let p : l ≡ x = cc in
-      let q : filter keep ls ≡ a = cc in
-      record { before = []; after = ls; whole = ap (λ (y : Line). y ∷ ls) p; cleaned_before = refl; cleaned_after = q; kept = ap keep (sym p) ∙ k }
-  cut_on true k (y ∷ b) x a e =
-      let e2 : l ∷ filter keep ls ≡ y ∷ (b ++ x ∷ a) = rw k at e in
-      let p : l ≡ y = cc in
-      let q : filter keep ls ≡ b ++ x ∷ a = cc in
-      let r = further b x a q in
-      record { before = l ∷ r.before; after = r.after; whole = ap (λ t. l ∷ t) r.whole; cleaned_before = rw k (rw r.cleaned_before (ap (λ (z : Line). z ∷ b) p)); cleaned_after = r.cleaned_after; kept = r.kept }
+module _ (test : ℕ → Line → Bool) where
+  pub at_cut : (ls b : List Line) (x : Line) (a : List Line) → ls ≡ b ++ x ∷ a → ((l : ℕ) → on_line test ls l ≡ false) → test (length b) x ≡ false
+  at_cut ls b x a e passed =
+      let g : slice_get ls (length b) ≡ Some x = rw e (seam b) in
+      let h : option_map_or (test (length b)) (slice_get ls (length b)) false ≡ false = passed (suc (length b)) in
+      rw g at h
+    where
+      seam : (b : List Line) → slice_get (b ++ x ∷ a) (length b) ≡ Some x
+      seam [] = refl
+      seam (y ∷ b) = seam b
 
-cut : (keep : Line → Bool) (ls b : List Line) (x : Line) (a : List Line) → filter keep ls ≡ b ++ x ∷ a → CutAt keep ls b x a
-cut keep [] [] x a e = absurd cc
-cut keep [] (y ∷ b) x a e = absurd cc
-cut keep (l ∷ ls) b x a e = cut_on keep l ls (cut keep ls) (keep l) refl b x a e
+  none_from : (ls pre rest : List Line) (k : ℕ) → ((b : List Line) (x : Line) (a : List Line) → ls ≡ b ++ x ∷ a → test (length b) x ≡ false) → ls ≡ pre ++ rest → option_map_or (test (length pre + k)) (slice_get rest k) false ≡ false
+  none_from ls pre [] k h e = refl
+  none_from ls pre (x ∷ rest) zero h e = ap (λ n. test n x) (here (length pre)) ∙ h pre x rest e
+    where
+      here : (n : ℕ) → n + 0 ≡ n
+      here n = omega arith
+  none_from ls pre (x ∷ rest) (suc k) h e =
+      let same : length pre + suc k ≡ length (pre ++ x ∷ []) + k = omega (arith, length_push pre x) in
+      ap (λ n. option_map_or (test n) (slice_get rest k) false) same ∙ none_from ls (pre ++ x ∷ []) rest k h (e ∙ sym (append_assoc pre (x ∷ []) rest))
 
--- ---- what the checks passed on all lines say at a cut
+  -- a test that fails at no cut fails on no line
+  pub passes_cuts : (ls : List Line) → ((b : List Line) (x : Line) (a : List Line) → ls ≡ b ++ x ∷ a → test (length b) x ≡ false) → (l : ℕ) → on_line test ls l ≡ false
+  passes_cuts ls h zero = refl
+  passes_cuts ls h (suc k) = ap (λ n. option_map_or (test n) (slice_get ls k) false) (start k) ∙ none_from ls [] ls k h refl
+    where
+      start : (k : ℕ) → k ≡ 0 + k
+      start k = omega arith
 
-get_seam : (before : List Line) (x : Line) (after : List Line) → slice_get (before ++ x ∷ after) (length before) ≡ Some x
-get_seam [] x after = refl
-get_seam (y ∷ before) x after = get_seam before x after
+-- ---- the checks that see the same without blank lines
 
-at_cut : (test : ℕ → Line → Bool) (said before : List Line) (x : Line) (after : List Line) → said ≡ before ++ x ∷ after → ((l : ℕ) → on_line test said l ≡ false) → test (length before) x ≡ false
-at_cut test said before x after e passed =
-    let g : slice_get said (length before) ≡ Some x = rw e (get_seam before x after) in
-    let h : option_map_or (test (length before)) (slice_get said (length before)) false ≡ false = passed (suc (length before)) in
-    rw g at h
+-- what they say of all lines
+pub record Passed (ls : List Line) : Type 0 where
+  pub again : (l : ℕ) → on_line (λ k x. declares_again (take k ls) x) ls l ≡ false
+  pub unknown : (l : ℕ) → on_line (λ k x. names_unknown ls k x) ls l ≡ false
+  pub kinds : (l : ℕ) → on_line (λ k x. misfits ls x) ls l ≡ false
+  pub counts : (l : ℕ) → on_line (λ k x. miscounts ls x) ls l ≡ false
+  pub apart : (l : ℕ) → on_line (λ k x. mixes ls x) ls l ≡ false
+  pub few : (l : ℕ) → on_line (λ k x. is_past_limit (take k ls) x) ls l ≡ false
 
--- the locals of the procedure in which the rest begins
-abbrev pub locals_in : List Line → List Line → List Word
-locals_in before rest = option_map_or (λ xs. xs ++ binds_until_procedure rest) (locals_after None before) []
+module _ (ls : List Line) where
+  pub above : (b : List Line) (x : Line) (a : List Line) → ls ≡ b ++ x ∷ a → take (length b) ls ≡ b
+  above b x a e = rw e (take-append_seam b (x ∷ a))
 
-module _ (said L : List Line) (clean : filter says_something said ≡ L) where
-  taken : (before : List Line) (x : Line) (after : List Line) → said ≡ before ++ x ∷ after → take (length before) said ≡ before
-  taken before x after e = rw e (take-append_seam before (x ∷ after))
+  -- an unknown name at the line below b, by those lines and the locals there
+  unknown_here : (b : List Line) (x : Line) (a : List Line) → ls ≡ b ++ x ∷ a → names_unknown ls (length b) x ≡ unknown_given ls b (locals_in b (x ∷ a)) x
+  unknown_here b x a e =
+      let rest : drop (length b) ls ≡ x ∷ a = rw e (drop-append_seam b (x ∷ a)) in
+      unknown_is ls (length b) x
+      ∙ ap (λ t. unknown_given ls t (locals_at ls (length b)) x) (above b x a e)
+      ∙ ap (λ t. unknown_given ls b (option_map_or (λ xs. xs ++ binds_until_procedure t) (locals_after None (take (length b) ls)) []) x) rest
+      ∙ ap (λ t. unknown_given ls b (option_map_or (λ xs. xs ++ binds_until_procedure (x ∷ a)) (locals_after None t) []) x) (above b x a e)
 
-  left : (before : List Line) (x : Line) (after : List Line) → said ≡ before ++ x ∷ after → drop (length before) said ≡ x ∷ after
-  left before x after e = rw e (drop-append_seam before (x ∷ after))
+  fine_here : Passed ls → (b : List Line) (x : Line) (a : List Line) → ls ≡ b ++ x ∷ a → is_fine ls b x a ≡ true
+  fine_here p b x a e = all_fine ls b x a (record {
+    again = ap (λ t. declares_again t x) (sym (above b x a e)) ∙ at_cut _ ls b x a e p.again;
+    unknown = sym (unknown_here b x a e) ∙ at_cut _ ls b x a e p.unknown;
+    kinds = at_cut _ ls b x a e p.kinds;
+    counts = at_cut _ ls b x a e p.counts;
+    apart = at_cut _ ls b x a e p.apart;
+    few = ap (λ t. is_past_limit t x) (sym (above b x a e)) ∙ at_cut _ ls b x a e p.few;
+  })
 
-  pub again_at : ((l : ℕ) → on_line (λ k l. declares_again (take k said) l) said l ≡ false) → (b : List Line) (x : Line) (a : List Line) → L ≡ b ++ x ∷ a → declares_again b x ≡ false
-  again_at passed b x a e =
-      let r = cut says_something said b x a (clean ∙ e) in
-      let h : declares_again (take (length r.before) said) x ≡ false = at_cut _ said r.before x r.after r.whole passed in
-      let g : declares_again r.before x ≡ false = rw (taken r.before x r.after r.whole) at h in
-      ap (λ t. declares_again t x) (sym r.cleaned_before) ∙ sym (declares_again_cleaned r.before x) ∙ g
+  passed_by : ((b : List Line) (x : Line) (a : List Line) → ls ≡ b ++ x ∷ a → Fine ls b x a) → Passed ls
+  passed_by h = record {
+    again = passes_cuts _ ls (λ b x a e. ap (λ t. declares_again t x) (above b x a e) ∙ (h b x a e).again);
+    unknown = passes_cuts _ ls (λ b x a e. unknown_here b x a e ∙ (h b x a e).unknown);
+    kinds = passes_cuts _ ls (λ b x a e. (h b x a e).kinds);
+    counts = passes_cuts _ ls (λ b x a e. (h b x a e).counts);
+    apart = passes_cuts _ ls (λ b x a e. (h b x a e).apart);
+    few = passes_cuts _ ls (λ b x a e. ap (λ t. is_past_limit t x) (above b x a e) ∙ (h b x a e).few);
+  }
 
-  pub limit_at : ((l : ℕ) → on_line (λ k l. is_past_limit (take k said) l) said l ≡ false) → (b : List Line) (x : Line) (a : List Line) → L ≡ b ++ x ∷ a → is_past_limit b x ≡ false
-  limit_at passed b x a e =
-      let r = cut says_something said b x a (clean ∙ e) in
-      let h : is_past_limit (take (length r.before) said) x ≡ false = at_cut _ said r.before x r.after r.whole passed in
-      let g : is_past_limit r.before x ≡ false = rw (taken r.before x r.after r.whole) at h in
-      ap (λ t. is_past_limit t x) (sym r.cleaned_before) ∙ sym (is_past_limit_cleaned r.before x) ∙ g
+module _ (said ls : List Line) (clean : filter says_something said ≡ ls) where
+  same : are_fine said [] said ≡ are_fine ls [] ls
+  same = are_fine_cleaned said [] said ∙ ap (λ t. are_fine t [] t) clean
 
-  pub count_at : ((l : ℕ) → on_line (λ k l. miscounts said l) said l ≡ false) → (b : List Line) (x : Line) (a : List Line) → L ≡ b ++ x ∷ a → miscounts L x ≡ false
-  count_at passed b x a e =
-      let r = cut says_something said b x a (clean ∙ e) in
-      let h : miscounts said x ≡ false = at_cut _ said r.before x r.after r.whole passed in
-      ap (λ t. miscounts t x) (sym clean) ∙ sym (miscounts_cleaned said x) ∙ h
+  -- they pass the lines that say something just where they pass all lines
+  pub fine_without_blanks : Passed said → (b : List Line) (x : Line) (a : List Line) → ls ≡ b ++ x ∷ a → Fine ls b x a
+  fine_without_blanks p b x a e =
+      let all : are_fine ls [] ls ≡ true = sym same ∙ fine_by_cut said [] said (fine_here said p) in
+      each_fine ls b x a (fine_at_cut ls [] b x a (ap (are_fine ls []) (sym e) ∙ all))
 
-  pub fit_at : ((l : ℕ) → on_line (λ k l. misfits said l) said l ≡ false) → (b : List Line) (x : Line) (a : List Line) → L ≡ b ++ x ∷ a → misfits L x ≡ false
-  fit_at passed b x a e =
-      let r = cut says_something said b x a (clean ∙ e) in
-      let h : misfits said x ≡ false = at_cut _ said r.before x r.after r.whole passed in
-      ap (λ t. misfits t x) (sym clean) ∙ sym (misfits_cleaned said x) ∙ h
-
-  pub apart_at : ((l : ℕ) → on_line (λ k l. mixes said l) said l ≡ false) → (b : List Line) (x : Line) (a : List Line) → L ≡ b ++ x ∷ a → mixes L x ≡ false
-  apart_at passed b x a e =
-      let r = cut says_something said b x a (clean ∙ e) in
-      let h : mixes said x ≡ false = at_cut _ said r.before x r.after r.whole passed in
-      ap (λ t. mixes t x) (sym clean) ∙ sym (mixes_cleaned said x) ∙ h
-
-  same_locals : (x : Line) → says_something x ≡ true → (before after : List Line) → locals_in before (x ∷ after) ≡ locals_in (filter says_something before) (x ∷ filter says_something after)
-  same_locals x says before after =
-      let k : filter says_something (x ∷ after) ≡ x ∷ filter says_something after = rw says refl in
-      ap (λ o. option_map_or (λ xs. xs ++ binds_until_procedure (x ∷ after)) o []) (locals_after_cleaned None before)
-      ∙ ap (λ t. option_map_or (λ xs. xs ++ t) (locals_after None (filter says_something before)) []) (binds_until_cleaned (x ∷ after) ∙ ap binds_until_procedure k)
-
-  pub unknown_at : ((l : ℕ) → on_line (λ k l. names_unknown said k l) said l ≡ false) → (b : List Line) (x : Line) (a : List Line) → L ≡ b ++ x ∷ a → unknown_given L b (locals_in b (x ∷ a)) x ≡ false
-  unknown_at passed b x a e =
-      let r = cut says_something said b x a (clean ∙ e) in
-      let h : names_unknown said (length r.before) x ≡ false = at_cut _ said r.before x r.after r.whole passed in
-      let f : unknown_given said (take (length r.before) said) (option_map_or (λ xs. xs ++ binds_until_procedure (drop (length r.before) said)) (locals_after None (take (length r.before) said)) []) x ≡ false = sym (unknown_is said (length r.before) x) ∙ h in
-      let g : unknown_given said r.before (locals_in r.before (x ∷ r.after)) x ≡ false = rw (taken r.before x r.after r.whole, left r.before x r.after r.whole) at f in
-      let s : locals_in r.before (x ∷ r.after) ≡ locals_in b (x ∷ a) = same_locals x r.kept r.before r.after ∙ ap (λ t. locals_in t (x ∷ filter says_something r.after)) r.cleaned_before ∙ ap (λ t. locals_in b (x ∷ t)) r.cleaned_after in
-      ap (λ t. unknown_given t b (locals_in b (x ∷ a)) x) (sym clean)
-      ∙ ap (λ t. unknown_given (filter says_something said) t (locals_in b (x ∷ a)) x) (sym r.cleaned_before)
-      ∙ sym (unknown_cleaned said r.before (locals_in b (x ∷ a)) x)
-      ∙ ap (λ t. unknown_given said r.before t x) (sym s) ∙ g
+  pub passed_with_blanks : ((b : List Line) (x : Line) (a : List Line) → ls ≡ b ++ x ∷ a → Fine ls b x a) → Passed said
+  passed_with_blanks h =
+      let all : are_fine said [] said ≡ true = same ∙ fine_by_cut ls [] ls (λ b x a e. all_fine ls b x a (h b x a e)) in
+      passed_by said (λ b x a e. each_fine said b x a (fine_at_cut said [] b x a (ap (are_fine said []) (sym e) ∙ all)))

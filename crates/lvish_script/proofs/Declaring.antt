@@ -1,8 +1,8 @@
 -- What the lines of declarations and procedures declare.
-use Rattle.std.proofs.Common.{◌≡◌, ℕ, zero, suc, ◌+◌, ◌≤◌, ◌<◌, Bool, true, false, not, cond, ◌||◌, ◌&&◌, ◌==◌, List, [], ◌∷◌, ◌++◌, length, map, Option, Some, refl, sym, ap, subst, ◌∙◌, arith, append_assoc}
-use Rattle.std.proofs.lemmas.Bool.{and_from, or_from}
-use Rattle.std.specs.Prelude.{count_by, codes, is_some, nat_le, if◌then◌else◌}
-use Rattle.std.specs.Option.{option_map_or}
+use Rattle.std.proofs.Common.{◌≡◌, ℕ, zero, suc, ◌+◌, ◌≤◌, ◌<◌, Bool, true, false, cond, ◌||◌, ◌&&◌, ◌==◌, List, [], ◌∷◌, ◌++◌, length, map, refl, sym, ap, subst, ◌∙◌, arith, append_assoc}
+use Rattle.std.proofs.Math.Bool.{or-false}
+use Rattle.std.proofs.lemmas.Bool.{and_from, or_from, or_left}
+use Rattle.std.specs.Prelude.{count_by, codes, nat_le}
 use Rattle.std.specs.List.{list_any, list_all, flat_map}
 use Rattle.std.specs.Str.{bytes_eq}
 use Rattle.std.proofs.lemmas.Bool.Decides.{nat_tests}
@@ -13,27 +13,23 @@ use Rattle.std.proofs.lemmas.Grind.{flat_map-append}
 use Rattle.lvish_syntax.specs.Words.{Word}
 use Rattle.lvish_syntax.specs.Name.{has_name, has_repeat}
 use Rattle.lvish_syntax.specs.Nested.{statements}
-use Rattle.lvish_syntax.specs.Sound.{variable_name, variable_names, pool_name, pool_names, kind_of, procedure_names, takes, is_pool_known, follow_variables}
+use Rattle.lvish_syntax.specs.Sound.{variable_name, variable_names, pool_name, pool_names, procedure_names, takes, is_pool_known, follow_variables}
 use Rattle.lvish_syntax.specs.declared.declaration.Declaration.{Declaration}
 use Rattle.lvish_syntax.specs.declared.declaration.Declaration.TheVariants.{Variable, Pool}
 use Rattle.lvish_syntax.specs.declared.procedure.Procedure.{Procedure}
 use Rattle.lvish_checks.specs.declared.line.Line.{Line}
 use Rattle.lvish_checks.specs.declared.line.Line.TheVariants.{Blank, Bad, Version, Declare, Proc, End}
-use Rattle.lvish_checks.specs.Checks.{declared_by, declarations, has_procedure, is_nil, is_main, is_variable, is_pool, is_procedure, declares_procedure, declares_again, is_past_limit, parameters_of, open_after}
+use Rattle.lvish_checks.specs.Checks.{declared_by, declarations, has_procedure, is_nil, is_main, is_variable, is_pool, is_procedure, declares_procedure, declares_again, is_past_limit, open_after}
 use Rattle.lvish_checks.specs.declared.open_blocks.Opener.TheVariants.{Procedure as InProcedure}
 use Rattle.lvish_script.specs.Spells.{body_lines, procedure_lines, script_lines}
 use Rattle.lvish_checks.proofs.Cuts.{differ_by_cut}
 use Rattle.lvish_script.proofs.Cleaned.{count_cons}
-use Rattle.lvish_script.proofs.Bodies.{is_inner, inner, none_inner, no_procedures, none_counted, skipped}
+use Rattle.lvish_script.proofs.Bodies.{is_inner, inner, none_inner, no_procedures, none_counted}
 use Rattle.lvish_script.proofs.Levels.{open_append, balanced_body}
 
 -- the lines of declarations
 abbrev pub heads : List Declaration → List Line
 heads ds = map (λ d. Declare d) ds
-
-pub or_false : (b : Bool) → (b || false) ≡ b
-or_false true = refl
-or_false false = refl
 
 -- ---- declarations
 
@@ -73,7 +69,7 @@ module _ (p : Line → Bool) (q : Procedure → Bool) (head : (r : Procedure) �
   any_procedure : (r : Procedure) → list_any p (procedure_lines r) ≡ q r
   any_procedure r =
       let none : list_any p (body_lines (statements r.body) ++ End ∷ []) ≡ false = list_any-append p (body_lines (statements r.body)) (End ∷ []) ∙ or_from _ _ (none_inner p body (body_lines (statements r.body)) (inner (statements r.body))) (or_from (p End) false (body End refl) refl) in
-      rw (head r, none) (or_false (q r))
+      rw (head r, none) (or-false (q r))
 
   any_procedures : (ps : List Procedure) → list_any p (flat_map procedure_lines ps) ≡ list_any q ps
   any_procedures [] = refl
@@ -198,14 +194,6 @@ module _ {X : Type 0} (f : X → List Word) (one : (x : X) → length (f x) ≤ 
   few_names [] n h = omega arith
   few_names (x ∷ xs) n h = few_on n x xs (f x) refl (one x) h (few_names xs)
 
-pub not_false : (b : Bool) → not b ≡ false → b ≡ true
-not_false true e = refl
-not_false false e = absurd cc
-
-pub not_true : (b : Bool) → not b ≡ true → b ≡ false
-not_true true e = absurd cc
-not_true false e = refl
-
 -- ---- cuts of names give cuts of what has them
 
 pub record Named {X : Type 0} (f : X → List Word) (xs : List X) (b : List Word) (v : Word) (a : List Word) : Type 0 where
@@ -281,14 +269,10 @@ pub new_pool : (d : Declaration) (b : List Declaration) (v : Word) → pool_name
 new_pool (Pool q w) b v e h = let p : q ≡ v = cc in subst (λ w. has_name w (pool_names b) ≡ false) p (ap (λ ds. has_name q (pool_names ds)) (sym (declared_heads b)) ∙ h)
 new_pool (Variable n k) b v e h = absurd cc
 
-or_left_true : (a b : Bool) → a ≡ true → (a || b) ≡ true
-or_left_true true b e = refl
-or_left_true false b e = absurd cc
-
 pub known_further : (b : List Declaration) (d : Declaration) (a : List Declaration) → is_pool_known b d ≡ true → is_pool_known (b ++ a) d ≡ true
 known_further b (Variable n k) a e = refl
 known_further b (Pool p v) a e =
-    ap (has_name v) (flat_map-append variable_name b a) ∙ list_any-append (λ y. bytes_eq y v) (variable_names b) (variable_names a) ∙ or_left_true (has_name v (variable_names b)) _ e
+    ap (has_name v) (flat_map-append variable_name b a) ∙ list_any-append (λ y. bytes_eq y v) (variable_names b) (variable_names a) ∙ or_left (has_name v (variable_names b)) _ e
 
 -- pools follow their variables, where each has its variable before it
 pub follow_by_cut : (before rest : List Declaration) → ((b : List Declaration) (d : Declaration) (a : List Declaration) → rest ≡ b ++ d ∷ a → is_pool_known (before ++ b) d ≡ true) → follow_variables before rest ≡ true
@@ -296,43 +280,3 @@ follow_by_cut before [] h = refl
 follow_by_cut before (d ∷ ds) h =
     and_from (is_pool_known before d) _ (ap (λ t. is_pool_known t d) (sym (append-nil before)) ∙ h [] d ds refl)
     (follow_by_cut (before ++ d ∷ []) ds (λ b e a g. ap (λ t. is_pool_known t e) (append_assoc before (d ∷ []) b) ∙ h (d ∷ b) e a (ap (λ t. d ∷ t) g)))
-
-pub kind_known : (v : Word) (ds : List Declaration) → is_some (kind_of v ds) ≡ has_name v (variable_names ds)
-kind_known v [] = refl
-kind_known v (Variable n k ∷ ds) = kind_on (bytes_eq n v) (kind_of v ds) k (has_name v (variable_names ds)) (kind_known v ds)
-  where
-    kind_on : {Y : Type 0} (b : Bool) (o : Option Y) (y : Y) (c : Bool) → is_some o ≡ c → is_some (if b then Some y else o) ≡ (b || c)
-    kind_on true o y c e = refl
-    kind_on false o y c e = e
-kind_known v (Pool p w ∷ ds) = kind_known v ds
-
--- ---- procedures by their names
-
-pub skip_heads : (n : Word) (ds : List Declaration) (rest : List Line) → parameters_of n (heads ds ++ rest) ≡ parameters_of n rest
-skip_heads n [] rest = refl
-skip_heads n (d ∷ ds) rest = skip_heads n ds rest
-
--- whether a procedure that is there has another number of parameters
-abbrev pub disagrees : ℕ → Option (List Word) → Bool
-disagrees k o = option_map_or (λ xs. not (length xs == k)) o false
-
-takes_here : (n : Word) (k : ℕ) (r : Procedure) (ps : List Procedure) (t : Bool) → bytes_eq r.name n ≡ t → (has_name n (procedure_names ps) ≡ true → disagrees k (parameters_of n (flat_map procedure_lines ps)) ≡ false → list_any (takes n k) ps ≡ true) → (bytes_eq r.name n || has_name n (procedure_names ps)) ≡ true → disagrees k (if bytes_eq r.name n then Some r.parameters else parameters_of n (flat_map procedure_lines ps)) ≡ false → (takes n k r || list_any (takes n k) ps) ≡ true
-takes_here n k r ps true e more h m =
-    let agrees : not (length r.parameters == k) ≡ false = rw e at m in
-    let counted : (length r.parameters == k) ≡ true = not_false _ agrees in
-    rw (e, counted) refl
-takes_here n k r ps false e more h m =
-    let named : has_name n (procedure_names ps) ≡ true = rw e at h in
-    let agrees : disagrees k (parameters_of n (flat_map procedure_lines ps)) ≡ false = rw e at m in
-    rw e (more named agrees)
-
-taken_among : (n : Word) (k : ℕ) (ps : List Procedure) → has_name n (procedure_names ps) ≡ true → disagrees k (parameters_of n (flat_map procedure_lines ps)) ≡ false → list_any (takes n k) ps ≡ true
-taken_among n k [] h m = h
-taken_among n k (r ∷ ps) h m =
-    let body_none : list_any is_procedure (body_lines (statements r.body) ++ (End ∷ [])) ≡ false = list_any-append is_procedure (body_lines (statements r.body)) (End ∷ []) ∙ or_from _ _ (no_procedures (statements r.body)) refl in
-    let skip = skipped n (body_lines (statements r.body) ++ (End ∷ [])) (flat_map procedure_lines ps) body_none in
-    takes_here n k r ps (bytes_eq r.name n) refl (taken_among n k ps) h (ap (λ o. disagrees k (if bytes_eq r.name n then Some r.parameters else o)) (sym skip) ∙ m)
-
--- a procedure that is declared takes as many terms as the first of that name
-pub taken_there : (n : Word) (k : ℕ) (ds : List Declaration) (ps : List Procedure) → has_name n (procedure_names ps) ≡ true → disagrees k (parameters_of n (script_lines ds ps)) ≡ false → list_any (takes n k) ps ≡ true
-taken_there n k ds ps h m = taken_among n k ps h (ap (disagrees k) (sym (skip_heads n ds (flat_map procedure_lines ps))) ∙ m)

@@ -3,39 +3,31 @@ use Rattle.std.proofs.Common.{◌≡◌, ℕ, zero, suc, ◌+◌, ◌-◌, ◌<�
 use Rattle.std.specs.Prelude.{slice_get, filter, ◌==◌}
 use Rattle.std.specs.Option.{option_map_or}
 use Rattle.std.specs.List.{list_any}
+use Rattle.std.proofs.lemmas.Bool.{not-false}
 use Rattle.std.proofs.lemmas.List.{take_more}
 use Rattle.std.proofs.lemmas.List.Elements.{filter-append}
 use Rattle.std.proofs.lemmas.List.Folds.{list_any-append}
 use Rattle.lvish_syntax.specs.declared.procedure.Procedure.{Procedure}
 use Rattle.lvish_checks.specs.declared.line.Line.{Line}
-use Rattle.lvish_checks.specs.declared.line.Line.TheVariants.{Blank, Bad, Version, Declare, Proc, Do, If, While, Else, End}
+use Rattle.lvish_checks.specs.declared.line.Line.TheVariants.{Blank, Bad, Version, Declare}
 use Rattle.lvish_checks.specs.declared.fault.Fault.TheVariants.{BadLine, OpenBlock}
 use Rattle.lvish_script.specs.declared.nest.OpenProcedure.{OpenProcedure}
 use Rattle.lvish_checks.specs.Checks.{on_line, line_fails, open_after, open_step, is_nil, is_procedure, is_misplaced, is_out_of_place}
 use Rattle.lvish_checks.specs.declared.open_blocks.Opener.{Opener}
 use Rattle.lvish_checks.specs.declared.open_blocks.Opener.TheVariants.{Procedure as InProcedure}
 use Rattle.lvish_script.specs.Spells.{says_something}
-use Rattle.lvish_script.specs.Nested.{Fits, HasNone, opener, openers, what_is_said}
+use Rattle.lvish_script.specs.Nested.{TakesLine, HasNone, opener, openers, what_is_said}
+use Rattle.lvish_checks.proofs.Cuts.{left_fails, right_fails}
 use Rattle.lvish_checks.proofs.Lines.{open_after-more}
-use Rattle.lvish_script.proofs.Cleaned.{blank_step, version_step}
-
-or_left : (a b : Bool) → (a || b) ≡ false → a ≡ false
-or_left true b e = e
-or_left false b e = refl
-
-or_right : (a b : Bool) → (a || b) ≡ false → b ≡ false
-or_right true b e = absurd cc
-or_right false b e = e
-
-at_item : {X : Type 0} (test : X → Bool) (xs : List X) (k : ℕ) (x : X) → k < length xs → x ≡ get_or xs k x → option_map_or test (slice_get xs k) false ≡ test x
-at_item test [] k x lt e = absurd (omega arith)
-at_item test (y ∷ xs) zero x lt e = ap test (sym e)
-at_item test (y ∷ xs) (suc k) x lt e = at_item test xs k x (omega arith) e
+use Rattle.lvish_script.proofs.Cleaned.{silent_step}
 
 at_place : {X : Type 0} (test : X → Bool) (xs : List X) (k : ℕ) (d : X) → k < length xs → option_map_or test (slice_get xs k) false ≡ test (get_or xs k d)
 at_place test [] k d lt = absurd (omega arith)
 at_place test (y ∷ xs) zero d lt = refl
 at_place test (y ∷ xs) (suc k) d lt = at_place test xs k d (omega arith)
+
+at_item : {X : Type 0} (test : X → Bool) (xs : List X) (k : ℕ) (x : X) → k < length xs → x ≡ get_or xs k x → option_map_or test (slice_get xs k) false ≡ test x
+at_item test xs k x lt e = at_place test xs k x lt ∙ ap test (sym e)
 
 and_right : (a b : Bool) → a ≡ true → (a && b) ≡ false → b ≡ false
 and_right true b e h = h
@@ -43,52 +35,24 @@ and_right false b e h = absurd cc
 
 one_said : (x : Line) → filter says_something (x ∷ []) ≡ what_is_said x
 one_said Blank = refl
-one_said Bad = refl
 one_said Version = refl
-one_said (Declare d) = refl
-one_said (Proc n xs) = refl
-one_said (Do c) = refl
-one_said (If t) = refl
-one_said (While t) = refl
-one_said Else = refl
-one_said End = refl
+one_said x = refl
 
-fits_at : (before : List Line) (ps : List Procedure) (o : Option OpenProcedure) (line : Line) → (list_any is_procedure before ≡ false → HasNone ps o) → is_out_of_place before line ≡ false → is_misplaced (openers o) line ≡ false → Fits ps o line
-fits_at before ps o Blank none bad mis = mis
+fits_at : (before : List Line) (ps : List Procedure) (o : Option OpenProcedure) (line : Line) → (list_any is_procedure before ≡ false → HasNone ps o) → is_out_of_place before line ≡ false → is_misplaced (openers o) line ≡ false → TakesLine ps o line
 fits_at before ps o Bad none bad mis = absurd cc
-fits_at before ps o Version none bad mis = mis
 fits_at before ps o (Declare d) none bad mis = none bad
-fits_at before ps o (Proc n xs) none bad mis = mis
-fits_at before ps o (Do c) none bad mis = mis
-fits_at before ps o (If t) none bad mis = mis
-fits_at before ps o (While t) none bad mis = mis
-fits_at before ps o Else none bad mis = mis
-fits_at before ps o End none bad mis = mis
+fits_at before ps o x none bad mis = mis
 
 -- a line that says nothing beside the version
 silent : (x : Line) → says_something x ≡ false → what_is_said x ≡ []
 silent Blank e = refl
 silent Version e = refl
-silent Bad e = absurd cc
-silent (Declare d) e = absurd cc
-silent (Proc n xs) e = absurd cc
-silent (Do c) e = absurd cc
-silent (If t) e = absurd cc
-silent (While t) e = absurd cc
-silent Else e = absurd cc
-silent End e = absurd cc
+silent x e = absurd cc
 
 silent_opens : (os : List Opener) (x : Line) → says_something x ≡ false → open_step os x ≡ os
-silent_opens os Blank e = blank_step os
-silent_opens os Version e = version_step os
-silent_opens os Bad e = absurd cc
-silent_opens os (Declare d) e = absurd cc
-silent_opens os (Proc n xs) e = absurd cc
-silent_opens os (Do c) e = absurd cc
-silent_opens os (If t) e = absurd cc
-silent_opens os (While t) e = absurd cc
-silent_opens os Else e = absurd cc
-silent_opens os End e = absurd cc
+silent_opens os Blank e = (silent_step os).0
+silent_opens os Version e = (silent_step os).1
+silent_opens os x e = absurd cc
 
 -- nothing is open, where no opener is
 nil_openers : (o : Option OpenProcedure) → is_nil (openers o) ≡ true → o ≡ None
@@ -99,15 +63,11 @@ nil_openers (Some p) e = absurd (never_nil (reverse (map opener p.blocks.items))
     never_nil [] e = cc
     never_nil (x ∷ os) e = cc
 
-not_true : (b : Bool) → not b ≡ false → b ≡ true
-not_true true e = refl
-not_true false e = absurd cc
-
 module _ (said : List Line) (placed : (l : ℕ) → on_line (line_fails BadLine said) said l ≡ false) (closed : (l : ℕ) → on_line (line_fails OpenBlock said) said l ≡ false) where
-  pub fits : (i : ℕ) (x : Line) (ps : List Procedure) (o : Option OpenProcedure) → i < length said → x ≡ get_or said i x → openers o ≡ open_after [] (take i said) → (list_any is_procedure (take i said) ≡ false → HasNone ps o) → Fits ps o x
+  pub fits : (i : ℕ) (x : Line) (ps : List Procedure) (o : Option OpenProcedure) → i < length said → x ≡ get_or said i x → openers o ≡ open_after [] (take i said) → (list_any is_procedure (take i said) ≡ false → HasNone ps o) → TakesLine ps o x
   fits i x ps o lt e opened none =
-      let bad : is_out_of_place (take i said) x ≡ false = or_left _ _ (sym (at_item (line_fails BadLine said i) said i x lt e) ∙ placed (suc i)) in
-      let mis = or_left _ _ (sym (at_item (line_fails OpenBlock said i) said i x lt e) ∙ closed (suc i)) in
+      let bad : is_out_of_place (take i said) x ≡ false = left_fails _ _ (sym (at_item (line_fails BadLine said i) said i x lt e) ∙ placed (suc i)) in
+      let mis = left_fails _ _ (sym (at_item (line_fails OpenBlock said i) said i x lt e) ∙ closed (suc i)) in
       fits_at (take i said) ps o x none bad (subst (λ s. is_misplaced s x ≡ false) (sym opened) mis)
 
   pub says_more : (i : ℕ) (x : Line) → i < length said → x ≡ get_or said i x → filter says_something (take (i + 1) said) ≡ filter says_something (take i said) ++ what_is_said x
@@ -116,7 +76,7 @@ module _ (said : List Line) (placed : (l : ℕ) → on_line (line_fails BadLine 
   pub none_more : (i : ℕ) (x : Line) → i < length said → x ≡ get_or said i x → list_any is_procedure (take (i + 1) said) ≡ false → (list_any is_procedure (take i said) ≡ false) × (is_procedure x ≡ false)
   none_more i x lt e h =
       let g : (list_any is_procedure (take i said) || (is_procedure x || false)) ≡ false = ap (λ (y : Line). list_any is_procedure (take i said) || (is_procedure y || false)) e ∙ sym (list_any-append is_procedure (take i said) (get_or said i x ∷ [])) ∙ ap (list_any is_procedure) (sym (take_more said i x lt)) ∙ h in
-      (or_left _ _ g, or_left _ _ (or_right _ _ g))
+      (left_fails _ _ g, left_fails _ _ (right_fails _ _ g))
 
   pub says_no_more : (i : ℕ) (x : Line) → i < length said → x ≡ get_or said i x → says_something x ≡ false → filter says_something (take (i + 1) said) ≡ filter says_something (take i said)
   says_no_more i x lt e nothing = says_more i x lt e ∙ ap (λ t. filter says_something (take i said) ++ t) (silent x nothing) ∙ append-nil (filter says_something (take i said))
@@ -129,9 +89,9 @@ module _ (said : List Line) (placed : (l : ℕ) → on_line (line_fails BadLine 
       let k = length said - 1 in
       let lt : length said - 1 < length said = omega arith in
       let last : (suc (length said - 1) == length said) ≡ true = eq-eqb _ _ (omega arith) in
-      let r = or_right (is_misplaced (open_after [] (take (length said - 1) said)) (get_or said (length said - 1) d)) _ (sym (at_place (line_fails OpenBlock said (length said - 1)) said (length said - 1) d lt) ∙ closed (suc (length said - 1))) in
+      let r = right_fails (is_misplaced (open_after [] (take (length said - 1) said)) (get_or said (length said - 1) d)) _ (sym (at_place (line_fails OpenBlock said (length said - 1)) said (length said - 1) d lt) ∙ closed (suc (length said - 1))) in
       let n = and_right _ _ last r in
-      nil_openers o (not_true _ (subst (λ s. not (is_nil s) ≡ false) (sym e) n))
+      nil_openers o (not-false _ (subst (λ s. not (is_nil s) ≡ false) (sym e) n))
 
 pub ends_closed : (said : List Line) (placed : (l : ℕ) → on_line (line_fails BadLine said) said l ≡ false) (closed : (l : ℕ) → on_line (line_fails OpenBlock said) said l ≡ false) (i : ℕ) → length said ≤ i → (o : Option OpenProcedure) → openers o ≡ open_after [] (take i said) → o ≡ None
 ends_closed [] placed closed i le o e = nil_openers o (ap is_nil (e ∙ ap (open_after []) (take_all i [] le)))

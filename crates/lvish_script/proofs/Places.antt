@@ -1,18 +1,26 @@
 -- Where a line of a script stands.
-use Rattle.std.proofs.Common.{◌≡◌, ℕ, zero, suc, ◌+◌, Bool, false, List, [], ◌∷◌, ◌++◌, length, refl, sym, ap, subst, ◌∙◌, arith, append_assoc}
-use Rattle.std.specs.Prelude.{slice_get}
-use Rattle.std.specs.Option.{option_map_or}
-use Rattle.std.specs.List.{flat_map}
-use Rattle.std.proofs.lemmas.List.{append-nil, map-append, length_push}
+use Rattle.std.proofs.Common.{◌≡◌, suc, ◌+◌, ◌≤◌, ◌<◌, Bool, true, false, ◌||◌, List, [], ◌∷◌, ◌++◌, length, refl, sym, ap, subst, ◌∙◌, arith, append_assoc, length-append}
+use Rattle.std.specs.Prelude.{nat_le}
+use Rattle.std.specs.List.{list_any, list_all, flat_map}
+use Rattle.std.specs.Str.{bytes_eq}
+use Rattle.std.proofs.lemmas.Bool.{or_from}
+use Rattle.std.proofs.lemmas.Bool.Decides.{nat_tests}
+use Rattle.std.proofs.lemmas.List.Folds.{list_any-append, list_all-append}
+use Rattle.std.proofs.lemmas.List.{append-nil, map-append}
 use Rattle.std.proofs.lemmas.Grind.{flat_map-append}
+use Rattle.lvish_syntax.specs.Words.{Word}
+use Rattle.lvish_syntax.specs.Name.{has_name, has_repeat}
 use Rattle.lvish_syntax.specs.Nested.{statements}
+use Rattle.lvish_syntax.specs.Sound.{is_pool_known, follow_variables}
 use Rattle.lvish_syntax.specs.declared.declaration.Declaration.{Declaration}
 use Rattle.lvish_syntax.specs.declared.procedure.Procedure.{Procedure}
 use Rattle.lvish_checks.specs.declared.line.Line.{Line}
 use Rattle.lvish_checks.specs.declared.line.Line.TheVariants.{Declare, Proc, End}
-use Rattle.lvish_checks.specs.Checks.{on_line}
 use Rattle.lvish_script.specs.Spells.{body_lines, procedure_lines, script_lines}
 use Rattle.lvish_script.proofs.Declaring.{heads}
+use Rattle.lvish_checks.proofs.Cuts.{left_fails, right_fails}
+use Rattle.lvish_checks.proofs.Seen.{bytes_eq_flip}
+use Rattle.lvish_script.proofs.Bodies.{first_holds, second_holds}
 use Rattle.lvish_script.proofs.Soundness.{lines_to, lines_from}
 
 -- an item of two lists one after the other is one of the first or of the second
@@ -92,23 +100,25 @@ module _ (ds : List Declaration) (ps : List Procedure) (P : List Line → Line �
       (λ c f g. among_heads [] ds refl b x c f a)
       (λ c f g. moved b (script_lines ds [] ++ c) x x a a (g ∙ ap (λ t. t ++ c) (sym (append-nil (heads ds)))) refl refl (among_procedures [] ps refl c x a f))
 
--- ---- a test of each line and its place
+-- ---- names and counts at a cut
 
-module _ (test : ℕ → Line → Bool) (all : List Line) (h : (b : List Line) (x : Line) (a : List Line) → all ≡ b ++ x ∷ a → test (length b) x ≡ false) where
-  none_from : (pre rest : List Line) (k : ℕ) → all ≡ pre ++ rest → option_map_or (test (length pre + k)) (slice_get rest k) false ≡ false
-  none_from pre [] k e = refl
-  none_from pre (x ∷ rest) zero e = ap (λ n. test n x) (here (length pre)) ∙ h pre x rest e
-    where
-      here : (n : ℕ) → n + 0 ≡ n
-      here n = omega arith
-  none_from pre (x ∷ rest) (suc k) e =
-      let same : length pre + suc k ≡ length (pre ++ x ∷ []) + k = omega (arith, length_push pre x) in
-      ap (λ n. option_map_or (test n) (slice_get rest k) false) same ∙ none_from (pre ++ x ∷ []) rest k (e ∙ sym (append_assoc pre (x ∷ []) rest))
+pub no_repeat_at : (xs : List Word) (y : Word) (ys : List Word) → has_repeat (xs ++ y ∷ ys) ≡ false → has_name y xs ≡ false
+no_repeat_at [] y ys e = refl
+no_repeat_at (x ∷ xs) y ys e =
+    let apart : has_name x (xs ++ y ∷ ys) ≡ false = left_fails (has_name x (xs ++ y ∷ ys)) _ e in
+    let there : (has_name x xs || (bytes_eq y x || has_name x ys)) ≡ false = sym (list_any-append (λ z. bytes_eq z x) xs (y ∷ ys)) ∙ apart in
+    let no : bytes_eq y x ≡ false = left_fails (bytes_eq y x) _ (right_fails (has_name x xs) _ there) in
+    or_from (bytes_eq x y) _ (bytes_eq_flip x y ∙ no) (no_repeat_at xs y ys (right_fails (has_name x (xs ++ y ∷ ys)) _ e))
 
-  -- a test that fails at no cut fails on no line
-  pub passes_cuts : (l : ℕ) → on_line test all l ≡ false
-  passes_cuts zero = refl
-  passes_cuts (suc k) = ap (λ n. option_map_or (test n) (slice_get all k) false) (start k) ∙ none_from [] all k refl
-    where
-      start : (k : ℕ) → k ≡ 0 + k
-      start k = omega arith
+pub few_at : {X : Type 0} (xs ys : List X) (y : X) → length (xs ++ y ∷ ys) ≤ 64 → nat_le 64 (length xs) ≡ false
+few_at xs ys y h = let n : length (xs ++ y ∷ ys) ≡ length xs + suc (length ys) = length-append xs (y ∷ ys) in let lt : length xs < 64 = omega (arith, h, n) in grind (arith, nat_tests)
+
+pub follow_at : (before c : List Declaration) (d : Declaration) (e : List Declaration) → follow_variables before (c ++ d ∷ e) ≡ true → is_pool_known (before ++ c) d ≡ true
+follow_at before [] d e h = ap (λ t. is_pool_known t d) (append-nil before) ∙ first_holds (is_pool_known before d) _ h
+follow_at before (x ∷ c) d e h = ap (λ t. is_pool_known t d) (sym (append_assoc before (x ∷ []) c)) ∙ follow_at (before ++ x ∷ []) c d e (second_holds (is_pool_known before x) _ h)
+
+pub all_at_cut : {X : Type 0} (p : X → Bool) (b : List X) (x : X) (a : List X) → list_all p (b ++ x ∷ a) ≡ true → p x ≡ true
+all_at_cut p b x a e = first_holds (p x) _ (second_holds (list_all p b) _ (sym (list_all-append p b (x ∷ a)) ∙ e))
+
+pub any_at_cut : {X : Type 0} (p : X → Bool) (b : List X) (x : X) (a : List X) → list_any p (b ++ x ∷ a) ≡ false → p x ≡ false
+any_at_cut p b x a e = left_fails (p x) _ (right_fails (list_any p b) _ (sym (list_any-append p b (x ∷ a)) ∙ e))

@@ -18,7 +18,7 @@ use Rattle.lvish_syntax.specs.declared.term.Term.TheVariants.{Local, Number}
 use Rattle.lvish_checks.specs.Text.{is_separator, is_comment, is_foreign, words_of}
 use Rattle.lvish_checks.specs.Form.{is_number_word, is_numeral, value_of_number, number_word, term_of, is_bad_number, all_of}
 use Rattle.lvish_checks.specs.Spelling.{term_word}
-use Rattle.lvish_script.specs.Canonical.{spaced, joined}
+use Rattle.lvish_script.specs.Canonical.{spaced, words_joined}
 use Rattle.lvish_checks.proofs.Cuts.{left_fails, right_fails}
 use Rattle.lvish_checks.proofs.Numbers.{own}
 use Rattle.lvish_checks.proofs.Decimals.{some_length, below, above, decimal_numeral, number_back, number_is_word}
@@ -181,7 +181,7 @@ all_words ((b ∷ w) ∷ ws) e =
     ∙ ap (λ t. (b ∷ w) ∷ t) (all_words ws (second_holds (is_plain (b ∷ w)) _ e))
 
 -- the words of plain words in one line
-pub words_back : (w : Word) (ws : List Word) → list_all is_plain (w ∷ ws) ≡ true → words_of (joined (w ∷ ws)) ≡ w ∷ ws
+pub words_back : (w : Word) (ws : List Word) → list_all is_plain (w ∷ ws) ≡ true → words_of (words_joined (w ∷ ws)) ≡ w ∷ ws
 words_back w ws e =
     ap (λ t. take_while (λ v. not (is_comment v)) (filter (λ v. not (length v == 0)) t)) (split_words w ws e)
     ∙ ap (take_while (λ v. not (is_comment v))) (kept_words (w ∷ ws) e)
@@ -194,15 +194,15 @@ module _ (p : ℕ → Bool) (h : (b : ℕ) → is_plain_byte b ≡ true → p b 
   none_spaced (w ∷ ws) e =
       or_from (p 32) _ space (list_any-append p w (spaced ws) ∙ or_from (list_any p w) _ (none_in p h w (bytes_of w (first_holds (is_plain w) _ e))) (none_spaced ws (second_holds (is_plain w) _ e)))
 
-  pub none_joined : (ws : List Word) → list_all is_plain ws ≡ true → list_any p (joined ws) ≡ false
+  pub none_joined : (ws : List Word) → list_all is_plain ws ≡ true → list_any p (words_joined ws) ≡ false
   none_joined [] e = refl
   none_joined (w ∷ ws) e = list_any-append p w (spaced ws) ∙ or_from (list_any p w) _ (none_in p h w (bytes_of w (first_holds (is_plain w) _ e))) (none_spaced ws (second_holds (is_plain w) _ e))
 
 plain_known : (b : ℕ) → is_plain_byte b ≡ true → is_foreign b ≡ false
 plain_known b e = grind (arith, nat_tests)
 
-pub no_foreign : (ws : List Word) → list_all is_plain ws ≡ true → list_any is_foreign (joined ws) ≡ false
+pub no_foreign : (ws : List Word) → list_all is_plain ws ≡ true → list_any is_foreign (words_joined ws) ≡ false
 no_foreign ws e = none_joined is_foreign plain_known refl ws e
 
-pub no_feed : (ws : List Word) → list_all is_plain ws ≡ true → list_any (λ b. b == 10) (joined ws) ≡ false
+pub no_feed : (ws : List Word) → list_all is_plain ws ≡ true → list_any (λ b. b == 10) (words_joined ws) ≡ false
 no_feed ws e = none_joined (λ b. b == 10) plain_feed refl ws e

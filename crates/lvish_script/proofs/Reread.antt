@@ -18,8 +18,8 @@ use Rattle.lvish_syntax.specs.declared.kind.VariableKind.TheVariants.{Simple, Ma
 use Rattle.lvish_syntax.specs.declared.operator.Operator.{Operator}
 use Rattle.lvish_syntax.specs.declared.operator.Operator.TheVariants.{Add, Subtract, Multiply, Divide, Remainder, Less, Equal}
 use Rattle.lvish_syntax.specs.declared.term.Term.{Term}
-use Rattle.lvish_syntax.specs.declared.value.Value.{Value}
-use Rattle.lvish_syntax.specs.declared.value.Value.TheVariants.{Same, Combined}
+use Rattle.lvish_syntax.specs.declared.let_value.LetValue.{LetValue}
+use Rattle.lvish_syntax.specs.declared.let_value.LetValue.TheVariants.{Same, Combined}
 use Rattle.lvish_syntax.specs.declared.threshold.Threshold.{Threshold}
 use Rattle.lvish_syntax.specs.declared.threshold.Threshold.TheVariants.{Any, In, Has, Least, Total}
 use Rattle.lvish_syntax.specs.declared.declaration.Declaration.TheVariants.{Variable, Pool}
@@ -30,7 +30,7 @@ use Rattle.lvish_checks.specs.declared.line.Line.TheVariants as line
 use Rattle.lvish_checks.specs.Form.{term_of, number_word, only, operator_of, value_of, threshold_of, get_of, freeze_each, freeze_after, freeze_of, simple_kind, variable_line, pair_line, pool_line, proc_line, let_line, put_line, get_line, run_line, handle_line, freeze_line, block_line, bare_line, version_line, line_of}
 use Rattle.lvish_checks.specs.Spelling.{term_word, kind_word, operator_word, value_words, threshold_words, pool_words, command_words, line_words}
 use Rattle.lvish_script.proofs.Bodies.{first_holds, second_holds}
-use Rattle.lvish_script.proofs.Soundness.{is_line_written}
+use Rattle.lvish_checks.proofs.Meanings.{is_line_written}
 use Rattle.lvish_script.proofs.Plain.{term_back, word_back, all_back}
 
 -- ---- parts of lines
@@ -49,18 +49,18 @@ operator_back Remainder = refl
 operator_back Less = refl
 operator_back Equal = refl
 
-value_back : (v : Value) → is_value_written v ≡ true → value_of (value_words v) ≡ Some v
+value_back : (v : LetValue) → is_value_written v ≡ true → value_of (value_words v) ≡ Some v
 value_back (Same t) e = rw (term_back t e) refl
 value_back (Combined a o b) e = rw (term_back a (first_holds (is_term_written a) _ e), operator_back o, term_back b (second_holds (is_term_written a) _ e)) refl
+
+not_nil : (n : ℕ) → (suc n == 0) ≡ false
+not_nil n = grind (arith, nat_tests)
 
 members_back : (zs : List ℤ) → are_members_written zs ≡ true → threshold_of (codes "in" ∷ map signed_decimal zs) ≡ Some (In zs)
 members_back [] e = absurd cc
 members_back (z ∷ zs) e =
     let some : (length (map signed_decimal (z ∷ zs)) == 0) ≡ false = not_nil (length (map signed_decimal zs)) in
     rw some (ap (λ o. option_map (λ ys. In ys) o) (all_back number_word signed_decimal is_within word_back (z ∷ zs) e))
-  where
-    not_nil : (n : ℕ) → (suc n == 0) ≡ false
-    not_nil n = grind (arith, nat_tests)
 
 threshold_back : (r : Threshold) → is_threshold_written r ≡ true → threshold_of (threshold_words r) ≡ Some r
 threshold_back Any e = refl
@@ -70,21 +70,9 @@ threshold_back (Least t) e = rw (term_back t e) refl
 threshold_back (Total t) e = rw (term_back t e) refl
 
 -- the words that begin a threshold are no terms
-no_any : term_of (codes "any") ≡ None
+no_terms : (term_of (codes "any") ≡ None) × (term_of (codes "in") ≡ None) × (term_of (codes "has") ≡ None) × (term_of (codes "least") ≡ None)
 unfolding is_name
-no_any = refl
-
-no_in : term_of (codes "in") ≡ None
-unfolding is_name
-no_in = refl
-
-no_has : term_of (codes "has") ≡ None
-unfolding is_name
-no_has = refl
-
-no_least : term_of (codes "least") ≡ None
-unfolding is_name
-no_least = refl
+no_terms = (refl, refl, refl, refl)
 
 each_no_name : is_name (codes "each") ≡ false
 unfolding is_name
@@ -103,8 +91,8 @@ other_word w u k e none = on_test (bytes_eq w u) refl
 
 -- no threshold is a single term
 no_term : (r : Threshold) → only term_of (threshold_words r) ≡ None
-no_term Any = no_any
-no_term (In []) = no_in
+no_term Any = no_terms.0
+no_term (In []) = no_terms.1
 no_term (In (z ∷ zs)) = refl
 no_term (Has t) = refl
 no_term (Least t) = refl
@@ -117,7 +105,7 @@ no_total false m e = refl
 -- a term before a threshold begins none
 no_threshold : (w : Word) (k : Term) (r : Threshold) → term_of w ≡ Some k → threshold_of (w ∷ threshold_words r) ≡ None
 no_threshold w k r e =
-    rw (other_word w (codes "any") k e no_any, other_word w (codes "in") k e no_in, other_word w (codes "has") k e no_has, other_word w (codes "least") k e no_least)
+    rw (other_word w (codes "any") k e no_terms.0, other_word w (codes "in") k e no_terms.1, other_word w (codes "has") k e no_terms.2, other_word w (codes "least") k e no_terms.3)
     (no_total (bytes_eq w (codes "total")) (only term_of (threshold_words r)) (no_term r))
 
 get_at_back : (x v : Word) (k : Term) (r : Threshold) → is_term_written k ≡ true → is_threshold_written r ≡ true → get_of x v (term_word k ∷ threshold_words r) ≡ Some (GetAt x v k r)
@@ -137,9 +125,6 @@ after_back x v p ps rest e f =
     ap (λ t. if length t == 0 then None else freeze_each x v t (drop (length t) ((p ∷ ps) ++ rest))) taken
     ∙ ap (λ b. if b then None else freeze_each x v (p ∷ ps) (drop (length (p ∷ ps)) ((p ∷ ps) ++ rest))) some
     ∙ ap (freeze_each x v (p ∷ ps)) (drop-append_seam (p ∷ ps) rest)
-  where
-    not_nil : (n : ℕ) → (suc n == 0) ≡ false
-    not_nil n = grind (arith, nat_tests)
 
 none_taken : (n : Word) → take_while is_name (codes "each" ∷ n ∷ []) ≡ []
 none_taken n = take_while-cons is_name (codes "each") (n ∷ []) ∙ ap (λ b. cond b (codes "each" ∷ take_while is_name (n ∷ [])) []) each_no_name

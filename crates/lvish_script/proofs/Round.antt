@@ -1,12 +1,10 @@
 -- The canonical text of a script, read again.
-use Rattle.std.proofs.Common.{◌≡◌, ℕ, ◌≤◌, true, false, List, ◌++◌, length, map, refl, sym, ap, subst, ◌∙◌, arith}
+use Rattle.std.proofs.Common.{◌≡◌, ℕ, ◌≤◌, true, false, List, ◌++◌, length, map, sym, ap, subst, ◌∙◌, arith}
 use Rattle.std.specs.Prelude.{filter, nat_lt}
 use Rattle.std.specs.List.{list_all}
 use Rattle.std.proofs.lemmas.Bool.Decides.{nat_tests}
 use Rattle.lvish_syntax.specs.declared.version.Version.{Version}
 use Rattle.lvish_syntax.specs.declared.version.Version.TheVariants.{One, Two}
-use Rattle.lvish_syntax.specs.declared.declaration.Declaration.{Declaration}
-use Rattle.lvish_syntax.specs.declared.procedure.Procedure.{Procedure}
 use Rattle.lvish_syntax.specs.declared.script.Script.{Script}
 use Rattle.lvish_checks.specs.declared.line.Line.{Line}
 use Rattle.lvish_checks.specs.Checks.{IsAccepted, parts_of, version_of}
@@ -14,11 +12,12 @@ use Rattle.lvish_checks.specs.Text.{words_of}
 use Rattle.lvish_checks.specs.Form.{line_of}
 use Rattle.lvish_script.specs.Spells.{Spells, version_lines, script_lines, says_something}
 use Rattle.lvish_script.specs.Canonical.{canonical_lines, text_of}
-use Rattle.lvish_script.proofs.Soundness.{is_line_written, lines_written}
+use Rattle.lvish_checks.proofs.Meanings.{is_line_written}
+use Rattle.lvish_script.proofs.Soundness.{lines_written}
 use Rattle.lvish_script.proofs.Reading.{made}
 use Rattle.lvish_script.proofs.Reread.{is_good}
 use Rattle.lvish_script.proofs.Texts.{lines_are, words_are, said_are, all_good, all_say}
-use Rattle.lvish_script.proofs.Accepting.{first_version, accepted}
+use Rattle.lvish_script.proofs.Accepting.{said_under, version_under, accepted}
 
 -- the line of a version before others
 
@@ -29,14 +28,6 @@ written_under Two ls e = e
 good_under : (v : Version) (ls : List Line) → list_all is_good ls ≡ true → list_all is_good (version_lines v ++ ls) ≡ true
 good_under One ls e = e
 good_under Two ls e = e
-
-said_under : (v : Version) (ls : List Line) → filter says_something (version_lines v ++ ls) ≡ filter says_something ls
-said_under One ls = refl
-said_under Two ls = refl
-
-version_under : (v : Version) (ds : List Declaration) (ps : List Procedure) → version_of (version_lines v ++ script_lines ds ps) ≡ v
-version_under One ds ps = first_version ds ps
-version_under Two ds ps = refl
 
 all_written : (s : Script) → list_all is_line_written (canonical_lines s) ≡ true
 all_written s = written_under s.version _ (lines_written s.declarations s.procedures s.sound.declarations_written s.sound.procedures_written)

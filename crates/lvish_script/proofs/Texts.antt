@@ -1,6 +1,6 @@
 -- The canonical text of a script says its lines.
 use Rattle.std.proofs.Common.{◌≡◌, cond, ℕ, ◌-◌, Bool, true, false, not, ◌&&◌, List, [], ◌∷◌, ◌++◌, length, map, take, refl, sym, ap, ◌∙◌, arith, append_assoc}
-use Rattle.std.proofs.lemmas.Bool.{and_from, or_from}
+use Rattle.std.proofs.lemmas.Bool.{and_from, or_from, not-true}
 use Rattle.std.specs.Prelude.{filter, codes, ◌==◌, slice_index, ℤ, if◌then◌else◌}
 use Rattle.std.specs.List.{list_any, list_all, slice_split, flat_map}
 use Rattle.std.proofs.Math.Seq.{take-append_seam}
@@ -16,8 +16,8 @@ use Rattle.lvish_syntax.specs.declared.kind.VariableKind.TheVariants.{Simple, Ma
 use Rattle.lvish_syntax.specs.declared.operator.Operator.{Operator}
 use Rattle.lvish_syntax.specs.declared.operator.Operator.TheVariants.{Add, Subtract, Multiply, Divide, Remainder, Less, Equal}
 use Rattle.lvish_syntax.specs.declared.term.Term.{Term}
-use Rattle.lvish_syntax.specs.declared.value.Value.{Value}
-use Rattle.lvish_syntax.specs.declared.value.Value.TheVariants.{Same, Combined}
+use Rattle.lvish_syntax.specs.declared.let_value.LetValue.{LetValue}
+use Rattle.lvish_syntax.specs.declared.let_value.LetValue.TheVariants.{Same, Combined}
 use Rattle.lvish_syntax.specs.declared.threshold.Threshold.{Threshold}
 use Rattle.lvish_syntax.specs.declared.threshold.Threshold.TheVariants.{Any, In, Has, Least, Total}
 use Rattle.lvish_syntax.specs.declared.declaration.Declaration.{Declaration}
@@ -31,10 +31,10 @@ use Rattle.lvish_checks.specs.Text.{is_foreign, lines_of, without_last_feed, wor
 use Rattle.lvish_checks.specs.Form.{line_of, is_bad_number}
 use Rattle.lvish_script.specs.Spells.{body_lines, procedure_lines, script_lines, says_something}
 use Rattle.lvish_checks.specs.Spelling.{term_word, kind_word, operator_word, value_words, threshold_words, pool_words, command_words, line_words}
-use Rattle.lvish_script.specs.Canonical.{joined, lines_text}
+use Rattle.lvish_script.specs.Canonical.{words_joined, lines_text}
 use Rattle.lvish_script.proofs.Bodies.{is_inner, inner, first_holds, second_holds, join_all}
-use Rattle.lvish_script.proofs.Declaring.{heads, not_true}
-use Rattle.lvish_script.proofs.Soundness.{is_line_written}
+use Rattle.lvish_script.proofs.Declaring.{heads}
+use Rattle.lvish_checks.proofs.Meanings.{is_line_written}
 use Rattle.lvish_script.proofs.Plain.{is_plain, name_plain, number_plain, term_plain, name_good, number_good, term_good, all_map, all_same, words_back, split_at, split_none, no_feed, no_foreign}
 use Rattle.lvish_script.proofs.Reread.{is_good, line_back}
 
@@ -56,10 +56,6 @@ term_fine t e = and_from (is_plain (term_word t)) _ (term_plain t e) (ap not (te
 -- words that are all fine
 pub record AreFine (ws : List Word) : Type 0 where
   pub all : list_all is_fine ws ≡ true
-
-join_words : (p : Word → Bool) (xs ys : List Word) → list_all p xs ≡ true → list_all p ys ≡ true → list_all p (xs ++ ys) ≡ true
-join_words p [] ys e f = f
-join_words p (x ∷ xs) ys e f = and_from (p x) _ (first_holds (p x) _ e) (join_words p xs ys (second_holds (p x) _ e) f)
 
 no_words : AreFine []
 no_words = record { all = refl }
@@ -84,7 +80,7 @@ operator_fine Equal = refl
 and_more : (w : Word) {ws : List Word} → is_fine w ≡ true → AreFine ws → AreFine (w ∷ ws)
 and_more w e f = record { all = and_from (is_fine w) _ e f.all }
 
-value_fine : (v : Value) → is_value_written v ≡ true → AreFine (value_words v)
+value_fine : (v : LetValue) → is_value_written v ≡ true → AreFine (value_words v)
 value_fine (Same t) e = and_more (term_word t) (term_fine t e) no_words
 value_fine (Combined a o b) e =
     and_more (term_word a) (term_fine a (first_holds (is_term_written a) _ e)) (and_more (operator_word o) (operator_fine o) (and_more (term_word b) (term_fine b (second_holds (is_term_written a) _ e)) no_words))
@@ -105,7 +101,7 @@ pools_fine [] e = no_words
 pools_fine (p ∷ ps) e = and_more (codes "after") refl (names_fine (p ∷ ps) e)
 
 join_fine : (xs ys : List Word) → AreFine xs → AreFine ys → AreFine (xs ++ ys)
-join_fine xs ys e f = record { all = join_words is_fine xs ys e.all f.all }
+join_fine xs ys e f = record { all = join_all is_fine xs ys e.all f.all }
 
 command_fine : (c : Command) → is_command_written c ≡ true → AreFine (command_words c)
 command_fine (Let x v) e = and_more (codes "let") refl (and_more x (name_fine x (first_holds (is_name x) _ e)) (value_fine v (second_holds (is_name x) _ e)))
@@ -147,15 +143,12 @@ line_fine (line.While t) e = and_more (codes "while") refl (and_more (term_word 
 line_fine line.Else e = record { all = refl }
 line_fine line.End e = record { all = refl }
 
-plain_of : (ws : List Word) → list_all is_fine ws ≡ true → list_all is_plain ws ≡ true
-plain_of ws e = all_same is_fine is_plain (λ w f. first_holds (is_plain w) _ f) ws e
-
 line_plain : (l : Line) → is_line_written l ≡ true → list_all is_plain (line_words l) ≡ true
-line_plain l e = plain_of (line_words l) (line_fine l e).all
+line_plain l e = all_same is_fine is_plain (λ w f. first_holds (is_plain w) _ f) (line_words l) (line_fine l e).all
 
 -- the bytes of a line
 abbrev pub line_bytes : Line → List ℕ
-line_bytes l = joined (line_words l)
+line_bytes l = words_joined (line_words l)
 
 -- no byte is foreign
 pub bytes_known : (ls : List Line) → list_all is_line_written ls ≡ true → list_any (λ line. list_any is_foreign line) (map line_bytes ls) ≡ false
@@ -164,7 +157,7 @@ bytes_known (l ∷ ls) e = or_from (list_any is_foreign (line_bytes l)) _ (no_fo
 
 not_bad : (ws : List Word) → list_all is_fine ws ≡ true → list_any is_bad_number ws ≡ false
 not_bad [] e = refl
-not_bad (w ∷ ws) e = or_from (is_bad_number w) _ (not_true _ (second_holds (is_plain w) _ (first_holds (is_fine w) _ e))) (not_bad ws (second_holds (is_fine w) _ e))
+not_bad (w ∷ ws) e = or_from (is_bad_number w) _ (not-true _ (second_holds (is_plain w) _ (first_holds (is_fine w) _ e))) (not_bad ws (second_holds (is_fine w) _ e))
 
 -- no number word is bad
 pub numbers_good : (ls : List Line) → list_all is_line_written ls ≡ true → list_any (λ words. list_any is_bad_number words) (map line_words ls) ≡ false
@@ -217,7 +210,7 @@ pub lines_are : (ls : List Line) → list_all is_line_written ls ≡ true → li
 lines_are [] e = refl
 lines_are (l ∷ ls) e = lines_split l ls e
 
-words_again : (ws : List Word) → list_all is_plain ws ≡ true → words_of (joined ws) ≡ ws
+words_again : (ws : List Word) → list_all is_plain ws ≡ true → words_of (words_joined ws) ≡ ws
 words_again [] e = refl
 words_again (w ∷ ws) e = words_back w ws e
 
@@ -249,16 +242,10 @@ inner_own [] e = refl
 inner_own (l ∷ ls) e = and_from (is_own l) _ (own l (first_holds (is_inner l) _ e)) (inner_own ls (second_holds (is_inner l) _ e))
   where
     own : (l : Line) → is_inner l ≡ true → is_own l ≡ true
-    own (line.Do c) e = refl
-    own (line.If t) e = refl
-    own (line.While t) e = refl
-    own line.Else e = refl
-    own line.End e = refl
     own line.Blank e = absurd cc
     own line.Bad e = absurd cc
     own line.Version e = absurd cc
-    own (line.Declare d) e = refl
-    own (line.Proc n xs) e = refl
+    own l e = refl
 
 procedures_own : (ps : List Procedure) → list_all is_own (flat_map procedure_lines ps) ≡ true
 procedures_own [] = refl
@@ -271,13 +258,7 @@ own_good : (l : Line) → is_own l ≡ true → is_good l ≡ true
 own_good line.Blank e = absurd cc
 own_good line.Bad e = absurd cc
 own_good line.Version e = absurd cc
-own_good (line.Declare d) e = refl
-own_good (line.Proc n xs) e = refl
-own_good (line.Do c) e = refl
-own_good (line.If t) e = refl
-own_good (line.While t) e = refl
-own_good line.Else e = refl
-own_good line.End e = refl
+own_good l e = refl
 
 -- they are neither blank nor bad
 pub all_good : (ds : List Declaration) (ps : List Procedure) → list_all is_good (script_lines ds ps) ≡ true
@@ -285,15 +266,8 @@ all_good ds ps = all_same is_own is_good own_good (script_lines ds ps) (all_own 
 
 own_says : (l : Line) → is_own l ≡ true → says_something l ≡ true
 own_says line.Blank e = absurd cc
-own_says line.Bad e = refl
 own_says line.Version e = absurd cc
-own_says (line.Declare d) e = refl
-own_says (line.Proc n xs) e = refl
-own_says (line.Do c) e = refl
-own_says (line.If t) e = refl
-own_says (line.While t) e = refl
-own_says line.Else e = refl
-own_says line.End e = refl
+own_says l e = refl
 
 kept_on : (l : Line) (ls : List Line) (b : Bool) → b ≡ true → cond b (l ∷ ls) ls ≡ l ∷ ls
 kept_on l ls true e = refl

@@ -59,16 +59,7 @@ mutual
   one (IfElse' t s a r b) (If' u p c) x y e =
       let inner = rows a c (line.Else ∷ (row_lines b ++ line.End ∷ x)) (line.End ∷ y) refl refl (sym (both_parts (row_lines a) (row_lines b) x) ∙ ap tail e ∙ ended (row_lines c) y) in
       let f = inner.1 in absurd cc
-  one (Do c) (If' u r b) x y e = absurd cc
-  one (Do c) (IfElse' u p a q b) x y e = absurd cc
-  one (Do c) (While' u r b) x y e = absurd cc
-  one (If' t s a) (Do d) x y e = absurd cc
-  one (If' t s a) (While' u r b) x y e = absurd cc
-  one (IfElse' t s a r b) (Do d) x y e = absurd cc
-  one (IfElse' t s a r b) (While' u p c) x y e = absurd cc
-  one (While' t s a) (Do d) x y e = absurd cc
-  one (While' t s a) (If' u r b) x y e = absurd cc
-  one (While' t s a) (IfElse' u p c q d) x y e = absurd cc
+  one s r x y e = absurd cc
 
   pub rows : {m n : _} (a : Row_of-Statement m) (b : Row_of-Statement n) (x y : List Line) → closes x ≡ true → closes y ≡ true → row_lines a ++ x ≡ row_lines b ++ y → AreSame a b × (x ≡ y)
   rows end_of-Statement end_of-Statement x y f g e = (tt, e)

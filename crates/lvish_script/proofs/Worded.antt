@@ -3,6 +3,7 @@ use Rattle.std.proofs.Common.{◌≡◌, ◌≢◌, ℕ, zero, suc, Bool, true, 
 use Rattle.std.specs.Prelude.{filter, slice_get, take}
 use Rattle.std.specs.Option.{option_map_or}
 use Rattle.std.specs.List.{AllZip, list_any}
+use Rattle.std.proofs.Math.Bool.{or-true, or-false}
 use Rattle.std.proofs.lemmas.Bool.{and_from}
 use Rattle.std.proofs.lemmas.List.{append-nil}
 use Rattle.std.proofs.lemmas.List.Folds.{list_any-append}
@@ -58,20 +59,7 @@ none_late told (Versioned ∷ ls) = not told && none_late true ls
 none_late told (l ∷ ls) = none_late true ls
 
 told_pushed : (before : List Line) (l : Line) → list_any is_told (before ++ l ∷ []) ≡ (list_any is_told before || is_told l)
-told_pushed before l = list_any-append is_told before (l ∷ []) ∙ or_no (list_any is_told before) (is_told l)
-  where
-    or_no : (a b : Bool) → (a || (b || false)) ≡ (a || b)
-    or_no true b = refl
-    or_no false true = refl
-    or_no false false = refl
-
-or_true : (b : Bool) → (b || true) ≡ true
-or_true true = refl
-or_true false = refl
-
-or_false : (b : Bool) → (b || false) ≡ b
-or_false true = refl
-or_false false = refl
+told_pushed before l = list_any-append is_told before (l ∷ []) ∙ ap (λ b. list_any is_told before || b) (or-false (is_told l))
 
 -- each line stands where it may below those before it
 abbrev StandWell : List Line → List Line → Type 0
@@ -82,11 +70,11 @@ stand_on before l ls h k = ap (λ t. option_map_or (λ x. is_out_of_place t x) (
 
 well_headed : (before ls : List Line) (told : Bool) → list_any is_told before ≡ told → StandWell before ls → none_late told ls ≡ true
 well_headed before [] told e h = refl
-well_headed before (Blank ∷ ls) told e h = well_headed (before ++ Blank ∷ []) ls told (told_pushed before Blank ∙ or_false (list_any is_told before) ∙ e) (stand_on before Blank ls h)
+well_headed before (Blank ∷ ls) told e h = well_headed (before ++ Blank ∷ []) ls told (told_pushed before Blank ∙ or-false (list_any is_told before) ∙ e) (stand_on before Blank ls h)
 well_headed before (Versioned ∷ ls) told e h =
     let here : list_any is_told before ≡ false = ap (list_any is_told) (sym (append-nil before)) ∙ h zero in
-    and_from (not told) _ (ap not (sym e ∙ here)) (well_headed (before ++ Versioned ∷ []) ls true (told_pushed before Versioned ∙ or_true (list_any is_told before)) (stand_on before Versioned ls h))
-well_headed before (l ∷ ls) told e h = well_headed (before ++ l ∷ []) ls true (told_pushed before l ∙ or_true (list_any is_told before)) (stand_on before l ls h)
+    and_from (not told) _ (ap not (sym e ∙ here)) (well_headed (before ++ Versioned ∷ []) ls true (told_pushed before Versioned ∙ or-true (list_any is_told before)) (stand_on before Versioned ls h))
+well_headed before (l ∷ ls) told e h = well_headed (before ++ l ∷ []) ls true (told_pushed before l ∙ or-true (list_any is_told before)) (stand_on before l ls h)
 
 none_below : (ls : List Line) → none_late true ls ≡ true → filter is_told ls ≡ filter says_something ls
 none_below [] e = refl

@@ -13,13 +13,13 @@ abbrev pub spaced : List Word → List ℕ
 spaced ws = flat_map (λ w. 32 ∷ w) ws
 
 -- words, separated by one space
-abbrev pub joined : List Word → List ℕ
-joined [] = []
-joined (w ∷ ws) = w ++ spaced ws
+abbrev pub words_joined : List Word → List ℕ
+words_joined [] = []
+words_joined (w ∷ ws) = w ++ spaced ws
 
 -- a line, ended by a line feed
 abbrev pub line_text : Line → List ℕ
-line_text l = joined (line_words l) ++ 10 ∷ []
+line_text l = words_joined (line_words l) ++ 10 ∷ []
 
 -- lines in order
 abbrev pub lines_text : List Line → List ℕ
@@ -34,7 +34,7 @@ text_of s = lines_text (canonical_lines s)
 
 -- ---- words
 
--- the words of a text, line by line, but for lines without words
+-- the words of a text, line by line, without the lines that have none
 abbrev pub text_words : List ℕ → List (List Word)
 text_words text = filter (λ ws. not (is_nil ws)) (parts_of text).words
 

@@ -53,7 +53,7 @@ what_is_said line.Version = []
 what_is_said l = l ∷ []
 
 -- whether a draft can take the line next
-abbrev pub Fits : List Procedure → Option OpenProcedure → Line → Type 0
-Fits ps o line.Bad = ⊥
-Fits ps o (line.Declare e) = HasNone ps o
-Fits ps o l = is_misplaced (openers o) l ≡ false
+abbrev pub TakesLine : List Procedure → Option OpenProcedure → Line → Type 0
+TakesLine ps o line.Bad = ⊥
+TakesLine ps o (line.Declare e) = HasNone ps o
+TakesLine ps o l = is_misplaced (openers o) l ≡ false

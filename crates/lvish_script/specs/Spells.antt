@@ -55,5 +55,5 @@ pub record Spells (text : List ℕ) (s : Script) : Type 0 where
   pub lines : script_lines s.declarations s.procedures ≡ filter says_something (parts_of text).said
 
 -- a text is refused: for want of memory, or for the first check that fails, on the lowest line
-abbrev pub IsRefused : List ℕ → ScriptFault → Type 0
-IsRefused text e = (e ≡ record { fault = Memory; line = 0 }) ⊎ IsFirstFault (parts_of text) e.fault e.line
+abbrev pub IsTextRefused : List ℕ → ScriptFault → Type 0
+IsTextRefused text e = (e ≡ record { fault = Memory; line = 0 }) ⊎ IsFirstFault (parts_of text) e.fault e.line

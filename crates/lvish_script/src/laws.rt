@@ -1,7 +1,8 @@
-//! Laws of the definitions, as functions without code.
+//! Laws of the definitions, as contracts of functions without code.
 
 ghost use Rattle.std.specs.Prelude.{◌≡◌, ◌≤◌, length, List, ℕ};
 ghost use Rattle.std.specs.List.{AllZip};
+ghost use Rattle.lvish_syntax.specs.Limits.{most_bytes};
 ghost use Rattle.lvish_syntax.specs.declared.script.Script.{Script};
 ghost use Rattle.lvish_checks.specs.Checks.{parts_of};
 ghost use Rattle.lvish_checks.specs.Spelling.{Agree};
@@ -13,7 +14,7 @@ ghost use Rattle.lvish_script.specs.Canonical.{canonical_lines, text_of, text_wo
 /// case its lines say the lines of the script, none of them blank.
 pub fn what_is_written_is_read()
     ensures said { (s : Script) → (parts_of (text_of s)).said ≡ canonical_lines s }
-    ensures spells { (s : Script) → length (text_of s) ≤ 65536 → Spells (text_of s) s }
+    ensures spells { (s : Script) → length (text_of s) ≤ most_bytes → Spells (text_of s) s }
 {}
 
 /// Two scripts that one text spells have one version, equal declarations, and the same procedures in
@@ -25,7 +26,7 @@ pub fn a_text_spells_one_script()
 {}
 
 /// A text that spells a script has the words that the script is written with, line by line, and no
-/// others; but that a number may be written by another numeral, and that lines may be blank.
+/// others, except that a number may be written by another numeral, and that lines may be blank.
 pub fn a_text_has_the_words_of_its_script()
     ensures { (text : List ℕ) (s : Script) → Spells text s → AllZip Agree (text_words text) (script_words s) }
 {}

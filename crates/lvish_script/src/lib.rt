@@ -9,7 +9,7 @@
 //!
 //! A text that spells no script gets the first check that fails, with the lowest line on which it does
 //! (`lvish_checks`).
-//! What a script promises to those who run it, it keeps by its type (`lvish_syntax`).
+//! The type of a script keeps what the script promises to those who run it (`lvish_syntax`).
 #![tactic(auto)]
 
 mod laws;

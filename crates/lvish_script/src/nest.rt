@@ -3,12 +3,14 @@ ghost use Rattle.std.specs.List.{flat_map};
 ghost use Rattle.lvish_checks.specs.Checks.{on_line, line_fails, open_step, is_procedure, is_nil, takes_else};
 ghost use Rattle.lvish_checks.specs.declared.fault.Fault.TheVariants.{BadLine, OpenBlock as UnclosedBlock};
 ghost use Rattle.lvish_script.specs.Spells.{script_lines, statement_lines, procedure_lines, says_something};
-ghost use Rattle.lvish_script.specs.Nested.{block_lines, opener, opened_lines, open_lines, draft_lines, openers, what_is_said, HasNone, Fits};
+ghost use Rattle.lvish_script.specs.Nested.{block_lines, opener, opened_lines, open_lines, draft_lines, openers, what_is_said, HasNone, TakesLine};
 ghost use Rattle.lvish_checks.specs.declared.line.Line.TheVariants as line;
 
 use crate::open::{OpenBlock, empty, with_statement};
 use lvish_checks::Line;
-use lvish_syntax::{Declaration, Declarations, Name, Names, Procedure, Procedures, Statement};
+use lvish_syntax::{
+    Declaration, Declarations, Identifier, Identifiers, Procedure, Procedures, Statement,
+};
 use std::alloc::{AllocError, Global};
 
 /// A procedure that is open, with the open blocks in it, the innermost last.
@@ -20,7 +22,7 @@ struct OpenProcedure {
 
 impl OpenProcedure {
     /// A procedure without statements.
-    fn begun(alloc: Global, name: Name, parameters: Names) -> OpenProcedure
+    fn begun(alloc: Global, name: Identifier, parameters: Identifiers) -> OpenProcedure
         ensures lines { opened_lines result ≡ line.Proc name parameters ∷ [] }
         ensures openers { openers (Some result) ≡ open_step [] (line.Proc name parameters) }
     {
@@ -125,7 +127,7 @@ struct Draft {
 impl Draft {
     /// With one more line.
     fn add(self, alloc: Global, line: Line) -> Result<Draft, AllocError>
-        requires { Fits self.procedures.items self.opened line }
+        requires { TakesLine self.procedures.items self.opened line }
         ensures lines { IfOk result (λ d. draft_lines d ≡ draft_lines self ++ what_is_said line) }
         ensures openers { IfOk result (λ d. openers d.opened ≡ open_step (openers self.opened) line) }
         ensures none { is_procedure line ≡ false → HasNone self.procedures.items self.opened → IfOk result (λ d. HasNone d.procedures.items d.opened) }

@@ -1,9 +1,10 @@
 ghost use Rattle.std.specs.Prelude.{◌≡◌, length, map, nat_lt, IfOk, MatchResult};
 ghost use Rattle.std.specs.List.{list_any};
+ghost use Rattle.lvish_syntax.specs.Limits.{most_bytes};
 ghost use Rattle.lvish_checks.specs.Text.{words_of};
 ghost use Rattle.lvish_checks.specs.Form.{is_bad_number, line_of};
 ghost use Rattle.lvish_checks.specs.Checks.{on_line, IsFirstOn};
-ghost use Rattle.lvish_script.specs.Spells.{Spells, IsRefused};
+ghost use Rattle.lvish_script.specs.Spells.{Spells, IsTextRefused};
 
 use crate::nest::nest;
 use lvish_checks::{
@@ -13,10 +14,11 @@ use lvish_checks::{
 use lvish_syntax::Script;
 use std::alloc::{AllocError, Global};
 
+/// How many bytes a text may have.
 const LONGEST: usize = 65536;
 
 fn is_too_long(text: &[u8]) -> bool
-    ensures { result ≡ nat_lt 65536 (length text.now) }
+    ensures { result ≡ nat_lt most_bytes (length text.now) }
 {
     text.len() > LONGEST
 }
@@ -42,7 +44,7 @@ fn said(alloc: Global, lines: &[&[u8]]) -> Result<(Vec<Line>, Option<usize>), Al
 ///
 /// Any bytes may be given. `Memory`, with line 0, may come in place of any answer.
 pub fn read_script(alloc: Global, text: &[u8]) -> Result<Script, ScriptFault>
-    ensures { MatchResult result (Spells text.now) (IsRefused text.now) }
+    ensures { MatchResult result (Spells text.now) (IsTextRefused text.now) }
 {
     if is_too_long(text) {
         return Err(ScriptFault {

@@ -4,7 +4,7 @@ ghost use Rattle.lvish_syntax.specs.Nested.{statements};
 ghost use Rattle.lvish_checks.specs.declared.line.Line.TheVariants as line;
 ghost use Rattle.lvish_checks.specs.Spelling.{term_word};
 ghost use Rattle.lvish_script.specs.Spells.{version_lines, statement_lines, body_lines, procedure_lines};
-ghost use Rattle.lvish_script.specs.Canonical.{joined, line_text, lines_text, text_of};
+ghost use Rattle.lvish_script.specs.Canonical.{words_joined, line_text, lines_text, text_of};
 
 use crate::write_line::{write_command, write_declaration, write_opening, write_proc};
 use lvish_syntax::{Block, Command, Declaration, Procedure, Script, Statement, Term, Version};
@@ -25,7 +25,7 @@ fn write_version(text: &mut String, version: Version) -> Result<(), AllocError>
 
 /// The line that opens a block.
 fn opening(alloc: Global, text: &mut String, first: &str, test: &Term) -> Result<(), AllocError>
-    ensures { OnOk result (string_bytes text.new ≡ string_bytes text.old ++ (joined (first.now ∷ term_word test.now ∷ []) ++ 10 ∷ [])) }
+    ensures { OnOk result (string_bytes text.new ≡ string_bytes text.old ++ (words_joined (first.now ∷ term_word test.now ∷ []) ++ 10 ∷ [])) }
 {
     write_opening(alloc, text, first, test)?;
     text.push('\n')?;

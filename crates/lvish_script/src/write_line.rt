@@ -1,10 +1,10 @@
 ghost use Rattle.std.specs.Prelude.{◌≡◌, ◌++◌, ◌∷◌, [], map, OnOk, string_bytes, codes};
 ghost use Rattle.std.specs.Fmt.{signed_decimal};
 ghost use Rattle.lvish_checks.specs.Spelling.{term_word, kind_word, operator_word, value_words, threshold_words, pool_words, command_words, declaration_words};
-ghost use Rattle.lvish_script.specs.Canonical.{spaced, joined};
+ghost use Rattle.lvish_script.specs.Canonical.{spaced, words_joined};
 
 use lvish_syntax::{
-    Command, Declaration, Name, Operator, SimpleKind, Term, Threshold, Value, VariableKind,
+    Command, Declaration, Identifier, LetValue, Operator, SimpleKind, Term, Threshold, VariableKind,
 };
 use std::alloc::{AllocError, Global};
 
@@ -35,7 +35,7 @@ fn term(alloc: Global, text: &mut String, term: &Term) -> Result<(), AllocError>
 }
 
 /// Names, each after a space.
-pub fn write_names(text: &mut String, names: &[Name]) -> Result<(), AllocError>
+pub fn write_names(text: &mut String, names: &[Identifier]) -> Result<(), AllocError>
     ensures { OnOk result (string_bytes text.new ≡ string_bytes text.old ++ spaced names.now) }
 {
     for name in names {
@@ -88,12 +88,12 @@ fn kind_text(kind: SimpleKind) -> &'static str
     }
 }
 
-fn write_value(alloc: Global, text: &mut String, value: &Value) -> Result<(), AllocError>
+fn write_value(alloc: Global, text: &mut String, value: &LetValue) -> Result<(), AllocError>
     ensures { OnOk result (string_bytes text.new ≡ string_bytes text.old ++ spaced (value_words value.now)) }
 {
     match value {
-        Value::Same(same) => term(alloc, text, same),
-        Value::Combined(left, operator, right) => {
+        LetValue::Same(same) => term(alloc, text, same),
+        LetValue::Combined(left, operator, right) => {
             term(alloc, text, left)?;
             word(text, operator_text(*operator))?;
             term(alloc, text, right)
@@ -130,7 +130,7 @@ fn write_threshold(
 }
 
 /// The pools of a freeze, if there are any.
-fn write_pools(text: &mut String, pools: &[Name]) -> Result<(), AllocError>
+fn write_pools(text: &mut String, pools: &[Identifier]) -> Result<(), AllocError>
     ensures { OnOk result (string_bytes text.new ≡ string_bytes text.old ++ spaced (pool_words pools.now)) }
 {
     if pools.is_empty() {
@@ -141,16 +141,21 @@ fn write_pools(text: &mut String, pools: &[Name]) -> Result<(), AllocError>
 }
 
 /// The first word of a line, and a name.
-fn begin(text: &mut String, first: &str, name: &Name) -> Result<(), AllocError>
-    ensures { OnOk result (string_bytes text.new ≡ string_bytes text.old ++ joined (first.now ∷ name.now ∷ [])) }
+fn begin(text: &mut String, first: &str, name: &Identifier) -> Result<(), AllocError>
+    ensures { OnOk result (string_bytes text.new ≡ string_bytes text.old ++ words_joined (first.now ∷ name.now ∷ [])) }
 {
     text.push_str(first)?;
     word(text, name.as_str())
 }
 
 /// The first word of a line, and two names.
-fn begin_two(text: &mut String, first: &str, name: &Name, other: &Name) -> Result<(), AllocError>
-    ensures { OnOk result (string_bytes text.new ≡ string_bytes text.old ++ joined (first.now ∷ name.now ∷ other.now ∷ [])) }
+fn begin_two(
+    text: &mut String,
+    first: &str,
+    name: &Identifier,
+    other: &Identifier,
+) -> Result<(), AllocError>
+    ensures { OnOk result (string_bytes text.new ≡ string_bytes text.old ++ words_joined (first.now ∷ name.now ∷ other.now ∷ [])) }
 {
     begin(text, first, name)?;
     word(text, other.as_str())
@@ -161,10 +166,10 @@ fn write_run(
     alloc: Global,
     text: &mut String,
     first: &str,
-    procedure: &Name,
+    procedure: &Identifier,
     terms: &[Term],
 ) -> Result<(), AllocError>
-    ensures { OnOk result (string_bytes text.new ≡ string_bytes text.old ++ joined (first.now ∷ procedure.now ∷ map term_word terms.now)) }
+    ensures { OnOk result (string_bytes text.new ≡ string_bytes text.old ++ words_joined (first.now ∷ procedure.now ∷ map term_word terms.now)) }
 {
     begin(text, first, procedure)?;
     write_terms(alloc, text, terms)
@@ -172,7 +177,7 @@ fn write_run(
 
 /// The words of a statement of one line.
 pub fn write_command(alloc: Global, text: &mut String, command: &Command) -> Result<(), AllocError>
-    ensures { OnOk result (string_bytes text.new ≡ string_bytes text.old ++ joined (command_words command.now)) }
+    ensures { OnOk result (string_bytes text.new ≡ string_bytes text.old ++ words_joined (command_words command.now)) }
 {
     match command {
         Command::Let(local, value) => {
@@ -215,7 +220,7 @@ pub fn write_command(alloc: Global, text: &mut String, command: &Command) -> Res
 
 /// The words of a declaration.
 pub fn write_declaration(text: &mut String, declaration: &Declaration) -> Result<(), AllocError>
-    ensures { OnOk result (string_bytes text.new ≡ string_bytes text.old ++ joined (declaration_words declaration.now)) }
+    ensures { OnOk result (string_bytes text.new ≡ string_bytes text.old ++ words_joined (declaration_words declaration.now)) }
 {
     match declaration {
         Declaration::Variable(name, VariableKind::Simple(kind)) => {
@@ -239,15 +244,19 @@ pub fn write_opening(
     first: &str,
     test: &Term,
 ) -> Result<(), AllocError>
-    ensures { OnOk result (string_bytes text.new ≡ string_bytes text.old ++ joined (first.now ∷ term_word test.now ∷ [])) }
+    ensures { OnOk result (string_bytes text.new ≡ string_bytes text.old ++ words_joined (first.now ∷ term_word test.now ∷ [])) }
 {
     text.push_str(first)?;
     term(alloc, text, test)
 }
 
 /// The words of the line of a procedure.
-pub fn write_proc(text: &mut String, name: &Name, parameters: &[Name]) -> Result<(), AllocError>
-    ensures { OnOk result (string_bytes text.new ≡ string_bytes text.old ++ joined (codes "proc" ∷ name.now ∷ parameters.now)) }
+pub fn write_proc(
+    text: &mut String,
+    name: &Identifier,
+    parameters: &[Identifier],
+) -> Result<(), AllocError>
+    ensures { OnOk result (string_bytes text.new ≡ string_bytes text.old ++ words_joined (codes "proc" ∷ name.now ∷ parameters.now)) }
 {
     begin(text, "proc", name)?;
     write_names(text, parameters)

@@ -1,28 +1,24 @@
 -- Words that are names.
 use Rattle.std.proofs.Common.{◌≡◌, ℕ, ◌<◌, Bool, true, false, not, ◌&&◌, [], ◌∷◌, length, refl, arith}
 use Rattle.std.specs.Prelude.{nat_le}
+use Rattle.std.proofs.lemmas.Bool.{and_parts}
 use Rattle.std.proofs.lemmas.Bool.Decides.{nat_tests}
 use Rattle.std.specs.List.{list_all}
 use Rattle.std.specs.Str.{IsAscii, IsUtf8}
 use Rattle.std.proofs.lemmas.Str.{IsUtf8-from_ascii}
 use Rattle.std.proofs.lemmas.Str.Ascii.{IsAscii-cons, IsAscii-nil}
-use Rattle.lvish_syntax.specs.Words.{is_name, is_name_byte, begins_name, is_reserved}
-use Rattle.lvish_syntax.specs.Words.{Word}
-
-both : (a b : Bool) → (a && b) ≡ true → (a ≡ true) × (b ≡ true)
-both true b e = (refl, e)
-both false b e = absurd cc
+use Rattle.lvish_syntax.specs.Words.{Word, is_name, is_name_byte, begins_name, is_reserved}
 
 byte_below : (b : ℕ) → is_name_byte b ≡ true → b < 128
 byte_below b e = grind (arith, nat_tests)
 
 bytes_below : (w : Word) → list_all is_name_byte w ≡ true → IsAscii w
 bytes_below [] e = IsAscii-nil
-bytes_below (b ∷ w) e = let p = both (is_name_byte b) _ e in IsAscii-cons b w (byte_below b p.0) (bytes_below w p.1)
+bytes_below (b ∷ w) e = let p = and_parts (is_name_byte b) _ e in IsAscii-cons b w (byte_below b p.0) (bytes_below w p.1)
 
 -- a name is text
 pub text_from_name : (w : Word) → is_name w ≡ true → IsUtf8 w
 unfolding is_name
 text_from_name w e =
     let all : (begins_name w && nat_le (length w) 32 && list_all is_name_byte w && not (is_reserved w)) ≡ true = e in
-    IsUtf8-from_ascii w (bytes_below w (both (begins_name w && nat_le (length w) 32) _ (both (begins_name w && nat_le (length w) 32 && list_all is_name_byte w) _ all).0).1)
+    IsUtf8-from_ascii w (bytes_below w (and_parts (begins_name w && nat_le (length w) 32) _ (and_parts (begins_name w && nat_le (length w) 32 && list_all is_name_byte w) _ all).0).1)

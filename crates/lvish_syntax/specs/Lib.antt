@@ -1,7 +1,9 @@
 pub mod Equality
 pub mod Words
+pub mod Limits
 pub mod Name
 pub mod Nested
 pub mod Written
 pub mod Version
 pub mod Sound
+pub mod Syntax

@@ -2,9 +2,7 @@
 use Rattle.std.specs.Prelude.{Bool, true, false, ◌||◌, List, [], ◌∷◌}
 use Rattle.std.specs.List.{list_any}
 use Rattle.std.specs.Str.{bytes_eq}
-use Rattle.lvish_syntax.specs.Words.{Word}
-use Rattle.lvish_syntax.specs.declared.term.Term.{Term}
-use Rattle.lvish_syntax.specs.declared.term.Term.TheVariants.{Local, Number}
+use Rattle.lvish_syntax.specs.Syntax.{Word, Term, Local, Number}
 
 -- whether a name is among names
 abbrev pub has_name : Word → List Word → Bool

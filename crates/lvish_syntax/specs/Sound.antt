@@ -4,31 +4,14 @@ use Rattle.std.specs.Option.{option_map_or}
 use Rattle.std.specs.Ordering.{int_eq}
 use Rattle.std.specs.List.{list_any, list_all, flat_map}
 use Rattle.std.specs.Str.{bytes_eq}
-use Rattle.lvish_syntax.specs.Words.{Word}
+use Rattle.lvish_syntax.specs.Syntax.{Word, Version, SimpleKind, Cell, Set, Max, VariableKind, Simple, Map, Pair, Tally, Term, Local, Number, LetValue, Same, Combined, Threshold, Any, In, Has, Least, Total, Declaration, Variable, Pool, Statement, Block, Command, Let, Put, PutAt, Get, GetAt, Fork, Call, Handle, Freeze, FreezeEach, Procedure}
+use Rattle.lvish_syntax.specs.Limits.{most, highest}
 use Rattle.lvish_syntax.specs.Name.{has_name, has_repeat, is_known}
 use Rattle.lvish_syntax.specs.Written.{is_declaration_written, is_procedure_written}
 use Rattle.lvish_syntax.specs.Version.{is_declaration_in, is_procedure_in}
 use Rattle.lvish_syntax.specs.Nested.{statements, all_nested, all_depth}
-use Rattle.lvish_syntax.specs.declared.version.Version.{Version}
-use Rattle.lvish_syntax.specs.declared.kind.SimpleKind.{SimpleKind}
-use Rattle.lvish_syntax.specs.declared.kind.SimpleKind.TheVariants.{Cell, Set, Max}
-use Rattle.lvish_syntax.specs.declared.kind.VariableKind.{VariableKind}
-use Rattle.lvish_syntax.specs.declared.kind.VariableKind.TheVariants.{Simple, Map, Pair, Tally}
-use Rattle.lvish_syntax.specs.declared.term.Term.{Term}
-use Rattle.lvish_syntax.specs.declared.term.Term.TheVariants.{Local, Number}
-use Rattle.lvish_syntax.specs.declared.value.Value.{Value}
-use Rattle.lvish_syntax.specs.declared.value.Value.TheVariants.{Same, Combined}
-use Rattle.lvish_syntax.specs.declared.threshold.Threshold.{Threshold}
-use Rattle.lvish_syntax.specs.declared.threshold.Threshold.TheVariants.{Any, In, Has, Least, Total}
-use Rattle.lvish_syntax.specs.declared.declaration.Declaration.{Declaration}
-use Rattle.lvish_syntax.specs.declared.declaration.Declaration.TheVariants.{Variable, Pool}
-use Rattle.lvish_syntax.specs.declared.statement.Statement.{Statement}
-use Rattle.lvish_syntax.specs.declared.statement.Block.{Block}
 use Rattle.lvish_syntax.specs.declared.statement.Statement.TheViews.{out-Statement}
 use Rattle.lvish_syntax.specs.declared.statement.Statement.TheOpen.{Statement-F, Do, If, IfElse, While}
-use Rattle.lvish_syntax.specs.declared.command.Command.{Command}
-use Rattle.lvish_syntax.specs.declared.command.Command.TheVariants.{Let, Put, PutAt, Get, GetAt, Fork, Call, Handle, Freeze, FreezeEach}
-use Rattle.lvish_syntax.specs.declared.procedure.Procedure.{Procedure}
 
 -- ---- what declarations say
 
@@ -98,7 +81,7 @@ binds ss = flat_map (λ s. own_binds (out-Statement s)) (all_nested ss)
 abbrev pub locals_of : Procedure → List Word
 locals_of p = p.parameters ++ binds (statements p.body)
 
--- whether a procedure has this name and takes so many terms
+-- whether a procedure has this name and takes this many terms
 abbrev pub takes : Word → ℕ → Procedure → Bool
 takes n k p = bytes_eq p.name n && (length p.parameters == k)
 
@@ -117,16 +100,16 @@ kind_at (Pair a b) (Some t) = side_kind a b t
 kind_at Tally (Some t) = Some Max
 kind_at k at = None
 
--- from 0 to 1,000
+-- from 0 to the highest state of a counter
 abbrev pub is_level : ℤ → Bool
-is_level z = int_le (pos 0) z && int_le z (pos 1000)
+is_level z = int_le (pos 0) z && int_le z (pos highest)
 
 -- whether no two numbers differ
 abbrev pub are_one : List ℤ → Bool
 are_one [] = true
 are_one (z ∷ zs) = list_all (int_eq z) zs
 
--- whether numbers are states of this kind: those of a counter are from 0 to 1,000
+-- whether numbers are states of this kind: those of a counter are levels
 abbrev pub are_of_kind : SimpleKind → List ℤ → Bool
 are_of_kind Max zs = list_all is_level zs
 are_of_kind k zs = true
@@ -145,14 +128,14 @@ is_apart Set (In zs) = are_one zs
 is_apart Max (In zs) = are_one zs
 is_apart k r = true
 
-abbrev pub is_total : Threshold → Bool
-is_total (Total t) = true
-is_total r = false
+abbrev pub is_total_threshold : Threshold → Bool
+is_total_threshold (Total t) = true
+is_total_threshold r = false
 
 -- whether a threshold is one of a whole variable: a total of a tally, and of no other kind
 abbrev pub is_whole_read : VariableKind → Threshold → Bool
 is_whole_read (Simple k) r = is_of_kind k r
-is_whole_read Tally r = is_total r
+is_whole_read Tally r = is_total_threshold r
 is_whole_read k r = false
 
 -- whether a threshold is one of what is read, a variable or what is at a place of it
@@ -188,7 +171,7 @@ is_threshold_known locals (Total t) = is_known locals t
 is_threshold_known locals r = true
 
 -- whether the terms of a value are known
-abbrev pub is_value_known : List Word → Value → Bool
+abbrev pub is_value_known : List Word → LetValue → Bool
 is_value_known locals (Same t) = is_known locals t
 is_value_known locals (Combined a o b) = is_known locals a && is_known locals b
 
@@ -232,10 +215,10 @@ pub record IsSound (version : Version) (ds : List Declaration) (ps : List Proced
   pub pools_differ : has_repeat (pool_names ds) ≡ false
   pub procedures_differ : has_repeat (procedure_names ps) ≡ false
   pub pools_known : list_all (is_pool_known ds) ds ≡ true
-  pub few_variables : length (variable_names ds) ≤ 64
-  pub few_pools : length (pool_names ds) ≤ 64
-  pub few_procedures : length ps ≤ 64
-  -- the procedure is the first of 64 blocks, each in the one before
+  pub few_variables : length (variable_names ds) ≤ most
+  pub few_pools : length (pool_names ds) ≤ most
+  pub few_procedures : length ps ≤ most
+  -- no more than 64 blocks stand one in the other, the procedure the first of them
   pub shallow : list_all (λ p. nat_le (all_depth (statements p.body)) 63) ps ≡ true
   pub pools_follow : follow_variables [] ds ≡ true
   pub declarations_written : list_all is_declaration_written ds ≡ true

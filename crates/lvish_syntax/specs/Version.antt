@@ -2,27 +2,10 @@
 use Rattle.std.specs.Prelude.{Bool, true, false, not, ◌&&◌, codes, List, [], ◌∷◌}
 use Rattle.std.specs.List.{list_any, list_all}
 use Rattle.std.specs.Str.{bytes_eq}
-use Rattle.lvish_syntax.specs.Words.{Word}
+use Rattle.lvish_syntax.specs.Syntax.{Word, Version, One, Two, VariableKind, Tally, Term, Local, Number, LetValue, Same, Combined, Threshold, Any, In, Has, Least, Total, Declaration, Variable, Pool, Command, Let, Put, PutAt, Get, GetAt, Fork, Call, Handle, Freeze, FreezeEach, Statement, Block, Procedure}
 use Rattle.lvish_syntax.specs.Nested.{statements, all_nested}
-use Rattle.lvish_syntax.specs.declared.version.Version.{Version}
-use Rattle.lvish_syntax.specs.declared.version.Version.TheVariants.{One, Two}
-use Rattle.lvish_syntax.specs.declared.kind.VariableKind.{VariableKind}
-use Rattle.lvish_syntax.specs.declared.kind.VariableKind.TheVariants.{Tally}
-use Rattle.lvish_syntax.specs.declared.term.Term.{Term}
-use Rattle.lvish_syntax.specs.declared.term.Term.TheVariants.{Local, Number}
-use Rattle.lvish_syntax.specs.declared.value.Value.{Value}
-use Rattle.lvish_syntax.specs.declared.value.Value.TheVariants.{Same, Combined}
-use Rattle.lvish_syntax.specs.declared.threshold.Threshold.{Threshold}
-use Rattle.lvish_syntax.specs.declared.threshold.Threshold.TheVariants.{Any, In, Has, Least, Total}
-use Rattle.lvish_syntax.specs.declared.declaration.Declaration.{Declaration}
-use Rattle.lvish_syntax.specs.declared.declaration.Declaration.TheVariants.{Variable, Pool}
-use Rattle.lvish_syntax.specs.declared.command.Command.{Command}
-use Rattle.lvish_syntax.specs.declared.command.Command.TheVariants.{Let, Put, PutAt, Get, GetAt, Fork, Call, Handle, Freeze, FreezeEach}
-use Rattle.lvish_syntax.specs.declared.statement.Statement.{Statement}
-use Rattle.lvish_syntax.specs.declared.statement.Block.{Block}
 use Rattle.lvish_syntax.specs.declared.statement.Statement.TheViews.{out-Statement}
 use Rattle.lvish_syntax.specs.declared.statement.Statement.TheOpen as layer
-use Rattle.lvish_syntax.specs.declared.procedure.Procedure.{Procedure}
 
 -- the words that version 2 reserves beside those of version 1
 abbrev pub later_words : List Word
@@ -48,7 +31,7 @@ abbrev pub is_term_in : Version → Term → Bool
 is_term_in v (Local x) = is_name_in v x
 is_term_in v (Number z) = true
 
-abbrev pub is_value_in : Version → Value → Bool
+abbrev pub is_value_in : Version → LetValue → Bool
 is_value_in v (Same t) = is_term_in v t
 is_value_in v (Combined a o b) = is_term_in v a && is_term_in v b
 

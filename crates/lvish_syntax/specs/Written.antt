@@ -3,21 +3,9 @@ use Rattle.std.specs.Prelude.{◌^◌, Bool, true, false, ◌&&◌, nat_lt, List
 use Rattle.std.specs.List.{list_all}
 use Rattle.lvish_syntax.specs.Words.{is_name}
 use Rattle.lvish_syntax.specs.Nested.{statements, all_nested}
-use Rattle.lvish_syntax.specs.declared.term.Term.{Term}
-use Rattle.lvish_syntax.specs.declared.term.Term.TheVariants.{Local, Number}
-use Rattle.lvish_syntax.specs.declared.value.Value.{Value}
-use Rattle.lvish_syntax.specs.declared.value.Value.TheVariants.{Same, Combined}
-use Rattle.lvish_syntax.specs.declared.threshold.Threshold.{Threshold}
-use Rattle.lvish_syntax.specs.declared.threshold.Threshold.TheVariants.{Any, In, Has, Least, Total}
-use Rattle.lvish_syntax.specs.declared.declaration.Declaration.{Declaration}
-use Rattle.lvish_syntax.specs.declared.declaration.Declaration.TheVariants.{Variable, Pool}
-use Rattle.lvish_syntax.specs.declared.command.Command.{Command}
-use Rattle.lvish_syntax.specs.declared.command.Command.TheVariants.{Let, Put, PutAt, Get, GetAt, Fork, Call, Handle, Freeze, FreezeEach}
-use Rattle.lvish_syntax.specs.declared.statement.Statement.{Statement}
-use Rattle.lvish_syntax.specs.declared.statement.Block.{Block}
+use Rattle.lvish_syntax.specs.Syntax.{Term, Local, Number, LetValue, Same, Combined, Threshold, Any, In, Has, Least, Total, Declaration, Variable, Pool, Command, Let, Put, PutAt, Get, GetAt, Fork, Call, Handle, Freeze, FreezeEach, Statement, Block, Procedure}
 use Rattle.lvish_syntax.specs.declared.statement.Statement.TheViews.{out-Statement}
 use Rattle.lvish_syntax.specs.declared.statement.Statement.TheOpen as layer
-use Rattle.lvish_syntax.specs.declared.procedure.Procedure.{Procedure}
 
 -- from -2^63 to 2^63 - 1
 abbrev pub is_within : ℤ → Bool
@@ -28,7 +16,7 @@ abbrev pub is_term_written : Term → Bool
 is_term_written (Local x) = is_name x
 is_term_written (Number z) = is_within z
 
-abbrev pub is_value_written : Value → Bool
+abbrev pub is_value_written : LetValue → Bool
 is_value_written (Same t) = is_term_written t
 is_value_written (Combined a o b) = is_term_written a && is_term_written b
 

@@ -1,39 +1,39 @@
 ghost use Rattle.std.specs.Prelude.{◌≡◌, IfOk};
 
-use crate::name::Name;
-use crate::names::Names;
+use crate::identifier::Identifier;
+use crate::identifiers::Identifiers;
+use crate::let_value::LetValue;
 use crate::term::Term;
 use crate::terms::Terms;
 use crate::threshold::Threshold;
-use crate::value::Value;
 use std::alloc::{AllocError, Global};
 
 /// A statement of one line.
 #[derive(Debug, Drop)]
 pub enum Command {
     /// `let`: the local takes the value.
-    Let(Name, Value),
+    Let(Identifier, LetValue),
     /// `put`: puts the term's value into the variable, a cell, a set or a counter.
-    Put(Name, Term),
+    Put(Identifier, Term),
     /// `put`: puts the second term's value into the map or the tally, at the first one's value as
     /// key, or into the pair's side with that number.
-    PutAt(Name, Term, Term),
+    PutAt(Identifier, Term, Term),
     /// `get`: waits until the variable passes the threshold, and the local takes the answer: the
     /// local, then the variable.
-    Get(Name, Name, Threshold),
+    Get(Identifier, Identifier, Threshold),
     /// `get` on a map or a tally at the term's value as key, or on a pair's side with that number.
-    GetAt(Name, Name, Term, Threshold),
+    GetAt(Identifier, Identifier, Term, Threshold),
     /// `fork`: starts a task that runs the procedure on the values of the terms.
-    Fork(Name, Terms),
+    Fork(Identifier, Terms),
     /// `call`: runs the procedure on the values of the terms in a frame of its own.
-    Call(Name, Terms),
+    Call(Identifier, Terms),
     /// `handle`: adds a handler that runs the procedure to the pool: the pool, then the procedure.
-    Handle(Name, Name),
+    Handle(Identifier, Identifier),
     /// `freeze`: freezes the variable after the tasks of the pools, and the local takes the number
     /// of events below its state: the local, then the variable.
-    Freeze(Name, Name, Names),
+    Freeze(Identifier, Identifier, Identifiers),
     /// `freeze` with `each`: the procedure is then called on each of these events.
-    FreezeEach(Name, Name, Names, Name),
+    FreezeEach(Identifier, Identifier, Identifiers, Identifier),
 }
 
 impl Command {

@@ -1,7 +1,7 @@
 ghost use Rattle.std.specs.Prelude.{◌≡◌, IfOk};
 
+use crate::identifier::Identifier;
 use crate::kind::VariableKind;
-use crate::name::Name;
 use std::alloc::{AllocError, Global};
 use std::marker::Model;
 
@@ -9,9 +9,9 @@ use std::marker::Model;
 #[derive(Debug, Drop)]
 pub enum Declaration {
     /// Declares a variable of this kind.
-    Variable(Name, VariableKind),
+    Variable(Identifier, VariableKind),
     /// Declares a pool on a variable: the pool, then the variable.
-    Pool(Name, Name),
+    Pool(Identifier, Identifier),
 }
 
 impl Declaration {

@@ -16,9 +16,10 @@
 
 mod command;
 mod declaration;
+mod identifier;
+mod identifiers;
 mod kind;
-mod name;
-mod names;
+mod let_value;
 mod numbers;
 mod operator;
 mod procedure;
@@ -27,14 +28,14 @@ mod statement;
 mod term;
 mod terms;
 mod threshold;
-mod value;
 mod version;
 
 pub use command::Command;
 pub use declaration::{Declaration, Declarations};
+pub use identifier::Identifier;
+pub use identifiers::Identifiers;
 pub use kind::{SimpleKind, VariableKind};
-pub use name::Name;
-pub use names::Names;
+pub use let_value::LetValue;
 pub use numbers::Numbers;
 pub use operator::Operator;
 pub use procedure::{Procedure, Procedures};
@@ -43,5 +44,4 @@ pub use statement::{Block, Statement};
 pub use term::Term;
 pub use terms::Terms;
 pub use threshold::Threshold;
-pub use value::Value;
 pub use version::Version;

@@ -1,15 +1,15 @@
 ghost use Rattle.std.specs.Prelude.{◌≡◌};
 
-use crate::name::Name;
-use crate::names::Names;
+use crate::identifier::Identifier;
+use crate::identifiers::Identifiers;
 use crate::statement::Block;
 use std::marker::Model;
 
 /// A procedure: its name, its parameters in order and its statements.
 #[derive(Debug, Drop)]
 pub struct Procedure {
-    pub name: Name,
-    pub parameters: Names,
+    pub name: Identifier,
+    pub parameters: Identifiers,
     pub body: Block,
 }
 

@@ -1,13 +1,13 @@
 ghost use Rattle.std.specs.Prelude.{◌≡◌, IfOk};
 
-use crate::name::Name;
+use crate::identifier::Identifier;
 use std::alloc::{AllocError, Global};
 
 /// What stands for a number in a statement: a local or a number.
 #[derive(Debug, PartialEq, Eq, Drop)]
 pub enum Term {
     /// The value of the local with this name.
-    Local(Name),
+    Local(Identifier),
     /// This number.
     Number(i64),
 }

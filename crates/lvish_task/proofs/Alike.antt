@@ -1,74 +1,51 @@
 -- One instruction of the code is one turn of the nested statements.
-use Rattle.std.proofs.Common.{◌≡◌, ℕ, zero, suc, ℤ, pos, ◌+◌, ◌-◌, ◌≤◌, Bool, true, false, nat_lt, List, [], ◌∷◌, ◌++◌, length, map, Option, Some, None, Result, Ok, Err, refl, sym, ap, ◌∙◌, subst, arith}
-use Rattle.std.specs.Prelude.{if◌then◌else◌, replicate, option_and_then, is_some}
+use Rattle.std.proofs.Common.{◌≡◌, ℕ, ℤ, pos, ◌+◌, ◌-◌, ◌≤◌, Bool, true, false, nat_lt, List, [], ◌∷◌, ◌++◌, length, map, Option, Some, None, Result, Ok, Err, refl, sym, ap, ◌∙◌, subst, arith}
+use Rattle.std.specs.Prelude.{if◌then◌else◌, replicate, option_and_then, is_some, unwrap_or}
 use Rattle.std.specs.Str.{bytes_eq}
-use Rattle.std.specs.Option.{option_map, option_map_or}
+use Rattle.std.specs.Option.{option_map}
 use Rattle.std.specs.Ordering.{int_eq}
-use Rattle.std.specs.List.{slice_get, slice_set, slice_index_or, list_any, list_all, find}
+use Rattle.std.specs.List.{slice_get, slice_set, slice_index_or, list_any}
 use Rattle.std.proofs.lemmas.List.{length-append, length-replicate, length-set, length-map}
 use Rattle.std.proofs.lemmas.List.Folds.{find_at}
 use Rattle.std.proofs.lemmas.Option.{slice_get-map}
+use Rattle.std.proofs.lemmas.Bool.{and_parts}
 use Rattle.std.proofs.lemmas.Bool.Decides.{Decides-eqb}
 use borrow.Author.Tests.{ltb-true}
-use Rattle.lvish_compound.specs.declared.any.Any.{Any}
-use Rattle.lvish_compound.specs.declared.any_read.AnyRead.{AnyRead}
-use Rattle.lvish_compound.specs.declared.event.Event.{Event}
-use Rattle.lvish_compound.specs.declared.place.Place.{Place}
-use Rattle.lvish_compound.specs.declared.number_test.Test.{Test}
-use Rattle.lvish_calculus.specs.declared.request.ErrorKind.{ErrorKind}
+use Rattle.lvish_task.specs.Vocabulary.{Any, AnyRead, Event, Place, Test, ErrorKind, Procedure, Script, Term, Threshold, Command, Statement, Block, out-Statement, Operand, Instruction, Let, Call, SkipIfZero, BackUnlessZero, GoOn, Return, Routine}
 use Rattle.lvish_calculus.specs.declared.request.ErrorKind.TheVariants as fault
 use Rattle.lvish_calculus.specs.declared.request.Request.TheVariants as ask
 use Rattle.lvish_syntax.specs.Words.{Word}
 use Rattle.lvish_syntax.specs.Name.{has_name, has_repeat}
 use Rattle.lvish_syntax.specs.Nested.{statements}
 use Rattle.lvish_syntax.specs.Sound.{takes, locals_of, kind_of, kind_there, is_get_of_kind, is_own_sound, is_command_sound, is_procedure_sound, are_sound}
-use Rattle.lvish_syntax.specs.declared.procedure.Procedure.{Procedure}
-use Rattle.lvish_syntax.specs.declared.script.Script.{Script}
-use Rattle.lvish_syntax.specs.declared.term.Term.{Term}
-use Rattle.lvish_syntax.specs.declared.threshold.Threshold.{Threshold}
-use Rattle.lvish_syntax.specs.declared.command.Command.{Command}
 use Rattle.lvish_syntax.specs.declared.command.Command.TheVariants as command
-use Rattle.lvish_syntax.specs.declared.statement.Statement.{Statement}
-use Rattle.lvish_syntax.specs.declared.statement.Block.{Block}
-use Rattle.lvish_syntax.specs.declared.statement.Statement.TheViews.{out-Statement}
 use Rattle.lvish_syntax.specs.declared.statement.Statement.TheOpen as o
-use Rattle.lvish_code.specs.Numbering.{number_of}
+use Rattle.lvish_code.specs.Numbering.{name_number}
 use Rattle.lvish_code.specs.Compile.{Names, names_of, local_names, operand_of, command_code, routine_of, whole_of, part_of, kind_in}
 use Rattle.lvish_code.specs.Compile as compile
-use Rattle.lvish_code.specs.Follows.{Follows, DoesCommand, DoesTest, Does, test_of, taken, passed}
-use Rattle.lvish_code.specs.declared.operand.Operand.{Operand}
-use Rattle.lvish_code.specs.declared.instruction.Instruction.{Instruction}
-use Rattle.lvish_code.specs.declared.instruction.Instruction.TheVariants.{Ask, Let, Call, SkipIfZero, BackUnlessZero, GoOn, Return}
-use Rattle.lvish_code.specs.declared.routine.Routine.{Routine}
-use Rattle.lvish_code.specs.declared.code.Code as flat
-use Rattle.lvish_code.proofs.Bools.{both}
-use Rattle.lvish_code.proofs.Numbers.{place_map}
-use Rattle.lvish_code.proofs.Names.{taking, parameters_first, parameters_le, has_local, kind_found}
-use Rattle.lvish_code.proofs.Following.{follows_start, does_here}
+use Rattle.lvish_code.specs.Follows.{Follows, DoesCommand, DoesTest, Does, tested_term, taken, passed}
+use Rattle.lvish_code.specs.Flat as flat
+use Rattle.lvish_code.specs.laws.Lists.{list_all_get, none_get, place_map}
+use Rattle.lvish_code.specs.laws.Names.{taking, parameters_first, parameters_le, has_local, kind_found}
+use Rattle.lvish_code.specs.laws.Following.{follows_start, does_here}
 use Rattle.lvish_task.specs.declared.frame.Frame.{Frame}
 use Rattle.lvish_task.specs.States.{put_at, read_at}
 use Rattle.lvish_task.specs.Meaning as m
-use Rattle.lvish_task.specs.Meaning.{Values, Activation, State, Turn, term_value, with_value, quiet, begins, bound}
+use Rattle.lvish_task.specs.Meaning.{most_below, Valuation, Activation, Turn, term_value, with_value, quiet, begins}
 use Rattle.lvish_task.specs.Run as f
-use Rattle.lvish_task.specs.Run.{FlatTurn, operand_value, expression_value, target_place, wanted_test, placed, stepped, begun, nowhere, routine, instructions, instruction, jump_in, callee, callee_in}
+use Rattle.lvish_task.specs.Run.{FlatTurn, operand_value, target_place, placed, stepped, begun, nowhere, routine, instructions, instruction, jump_in, callee, callee_in}
 use Rattle.lvish_calculus.specs.SameRuns.{SameRequest}
 use Rattle.lvish_task.specs.Pictures.{CallsAlike, PicturesFrame, PicturesAll, Pictures}
-use Rattle.lvish_task.specs.FitLaws.{list_all_get}
 use Rattle.lvish_task.proofs.Stored.{bound_at, stored_at, value_at, values_at, given_at, test_at}
 use Rattle.lvish_task.proofs.Inner.{rest_sound, first_sound, taken_sound, passed_sound}
 use Rattle.lvish_task.proofs.Places.{whole_alike, part_alike, whole_got, part_got}
 
-none_get : {X : Type 0} (p : X → Bool) (xs : List X) (i : ℕ) (x : X) → list_any p xs ≡ false → slice_get xs i ≡ Some x → p x ≡ false
-none_get p [] i x h e = absurd cc
-none_get p (y ∷ ys) zero x h e = let s : y ≡ x = cc in ap p (sym s) ∙ (Rattle.lvish_code.proofs.Bools.or_false (p y) (list_any p ys) h).0
-none_get p (y ∷ ys) (suc i) x h e = none_get p ys i x (Rattle.lvish_code.proofs.Bools.or_false (p y) (list_any p ys) h).1 e
-
 -- the statements that a test leads to, in one turn
-tested : (script : Script) (values : Values) (ks : List Statement) (below : List Activation) (s : Statement) (u : o.Statement-F Statement Block) (t : Term) → test_of u ≡ Some t → m.statement_turn script values ks below s u ≡ m.Goes (quiet values (m.taken (term_value values t) (taken s u ks) (passed u ks))) below
+tested : (script : Script) (values : Valuation) (ks : List Statement) (below : List Activation) (s : Statement) (u : o.Statement-F Statement Block) (t : Term) → tested_term u ≡ Some t → m.statement_turn script values ks below s u ≡ m.Goes (quiet values (m.chosen (term_value values t) (taken s u ks) (passed u ks))) below
 tested script values ks below s (o.Do c) t e = absurd cc
-tested script values ks below s (o.If t' a) t e = let same : t' ≡ t = cc in ap (λ x. m.Goes (quiet values (m.taken (term_value values x) (statements a ++ ks) ks)) below) same
-tested script values ks below s (o.IfElse t' a b) t e = let same : t' ≡ t = cc in ap (λ x. m.Goes (quiet values (m.taken (term_value values x) (statements a ++ ks) (statements b ++ ks))) below) same
-tested script values ks below s (o.While t' a) t e = let same : t' ≡ t = cc in ap (λ x. m.Goes (quiet values (m.taken (term_value values x) (statements a ++ s ∷ ks) ks)) below) same
+tested script values ks below s (o.If t' a) t e = let same : t' ≡ t = cc in ap (λ x. m.Goes (quiet values (m.chosen (term_value values x) (statements a ++ ks) ks)) below) same
+tested script values ks below s (o.IfElse t' a b) t e = let same : t' ≡ t = cc in ap (λ x. m.Goes (quiet values (m.chosen (term_value values x) (statements a ++ ks) (statements b ++ ks))) below) same
+tested script values ks below s (o.While t' a) t e = let same : t' ≡ t = cc in ap (λ x. m.Goes (quiet values (m.chosen (term_value values x) (statements a ++ s ∷ ks) ks)) below) same
 
 module _ (script : Script) (c : flat.Code) (is_code : compile.IsCodeOf script c) where
   abbrev pub names : Procedure → Names
@@ -92,7 +69,7 @@ module _ (script : Script) (c : flat.Code) (is_code : compile.IsCodeOf script c)
         procedure = p;
         is = e;
         long = omega (arith, length-append xs (replicate zeros (pos 0)), length-replicate zeros (pos 0));
-        values = λ y. ap (λ locals. slice_index_or (xs ++ replicate zeros (pos 0)) (number_of locals y) (pos 0)) first.is ∙ bound_at p.parameters first.more xs zeros y n;
+        values = λ y. ap (λ locals. slice_index_or (xs ++ replicate zeros (pos 0)) (name_number locals y) (pos 0)) first.is ∙ bound_at p.parameters first.more xs zeros y n;
         events = refl;
         each = tt;
         follows = follows_start (names p) p;
@@ -107,43 +84,36 @@ module _ (script : Script) (c : flat.Code) (is_code : compile.IsCodeOf script c)
   pub found_at : (n : Word) → m.named script n ≡ slice_get script.procedures (m.procedure script n)
   found_at n = find_at (λ p. bytes_eq p.name n) script.procedures ∙ ap (slice_get script.procedures) (sym (place_map (λ p. p.name) (λ y. bytes_eq y n) script.procedures))
 
-  pub alone_pictures : (g : Frame) (a : Activation) → PicturesFrame script g a → Pictures script (f.alone g) (m.alone a)
-  alone_pictures g a p = record { top = p; below = tt; left = refl; few_below = omega arith; few_left = omega arith }
-
-  started_at : (n : Word) (k : ℕ) (p : Procedure) (xs : List ℤ) → k ≡ m.procedure script n → slice_get script.procedures k ≡ Some p → length xs ≡ length p.parameters → Pictures script (f.started c k xs) (m.started script xs (m.named script n))
-  started_at n k p xs is e count =
-      let flat_is = callee_is k p xs e count in
-      let nested_is : m.named script n ≡ Some p = found_at n ∙ ap (slice_get script.procedures) (sym is) ∙ e in
-      subst (λ o. Pictures script (f.alone (Rattle.std.specs.Prelude.unwrap_or o (nowhere c))) (m.started script xs (m.named script n))) (sym flat_is)
-      (subst (λ o. Pictures script (f.alone (begun k xs (code_of p))) (m.started script xs o)) (sym nested_is)
-      (alone_pictures (begun k xs (code_of p)) (begins xs p) (begun_pictures k p xs e count)))
+  pub started_on : (k : ℕ) (p : Procedure) (xs : List ℤ) → slice_get script.procedures k ≡ Some p → length xs ≡ length p.parameters → Pictures script (f.started c k xs) (m.local_alone (begins xs p))
+  started_on k p xs e n =
+      subst (λ o. Pictures script (f.stack_alone (unwrap_or o (nowhere c))) (m.local_alone (begins xs p))) (sym (callee_is k p xs e n))
+      (record { top = begun_pictures k p xs e n; below = tt; left = refl; few_below = omega arith; few_left = omega arith })
 
   -- a procedure of so many parameters is there
   pub started_pictures : (n : Word) (xs : List ℤ) → list_any (takes n (length xs)) script.procedures ≡ true → Pictures script (f.started c (m.procedure script n) xs) (m.started script xs (m.named script n))
   started_pictures n xs e =
       let t = taking n (length xs) script.procedures script.sound.procedures_differ e in
-      started_at n (m.procedure script n) t.procedure xs refl t.at (sym t.count)
+      subst (λ o. Pictures script (f.started c (m.procedure script n) xs) (m.started script xs o)) (sym (found_at n ∙ t.at)) (started_on (m.procedure script n) t.procedure xs t.at (sym t.count))
 
   -- ---- turns
 
   abbrev pub TurnAlike : FlatTurn → Turn → Type 0
-  TurnAlike (f.Goes top below) (m.Goes a acts) = PicturesFrame script top a × PicturesAll script below acts × (length below ≤ 63)
+  TurnAlike (f.Goes top below) (m.Goes a acts) = PicturesFrame script top a × PicturesAll script below acts × (length below ≤ most_below)
   TurnAlike (f.Goes top below) (m.Asks q) = ⊥
   TurnAlike (f.Asks r) (m.Goes a acts) = ⊥
   TurnAlike (f.Asks r) (m.Asks q) = SameRequest (Pictures script) r q
 
   pub pictures_length : (fs : List Frame) (acts : List Activation) → PicturesAll script fs acts → length fs ≡ length acts
   pictures_length [] [] h = refl
-  pictures_length [] (a ∷ acts) h = absurd h
-  pictures_length (g ∷ fs) [] h = absurd h
   pictures_length (g ∷ fs) (a ∷ acts) h = omega (arith, pictures_length fs acts h.1)
+  pictures_length fs acts h = absurd h
 
   pub called_alike : (n : Word) (k : ℕ) (p : Procedure) (xs : List ℤ) (caller : Frame) (a : Activation) (below : List Frame) (acts : List Activation) → k ≡ m.procedure script n → slice_get script.procedures k ≡ Some p → length xs ≡ length p.parameters → PicturesFrame script caller a → PicturesAll script below acts → TurnAlike (f.called c k xs caller below) (m.called script n xs a acts)
   called_alike n k p xs caller a below acts is e count pic all =
-      subst (λ len. TurnAlike (f.called c k xs caller below) (if nat_lt len 63 then m.entered script xs a acts (m.named script n) else m.Asks (ask.Fault fault.Deep))) (pictures_length below acts all)
-      (by (nat_lt (length below) 63) refl)
+      subst (λ len. TurnAlike (f.called c k xs caller below) (if nat_lt len most_below then m.entered script xs a acts (m.named script n) else m.Asks (ask.Fault fault.Deep))) (pictures_length below acts all)
+      (by (nat_lt (length below) most_below) refl)
     where
-      by : (b : Bool) → nat_lt (length below) 63 ≡ b → TurnAlike (if b then f.entered c caller below (callee c k xs) else f.Asks (ask.Fault fault.Deep)) (if b then m.entered script xs a acts (m.named script n) else m.Asks (ask.Fault fault.Deep))
+      by : (b : Bool) → nat_lt (length below) most_below ≡ b → TurnAlike (if b then f.entered c caller below (callee c k xs) else f.Asks (ask.Fault fault.Deep)) (if b then m.entered script xs a acts (m.named script n) else m.Asks (ask.Fault fault.Deep))
       by true less =
           let few = ltb-true _ _ less in
           let nested_is : m.named script n ≡ Some p = found_at n ∙ ap (slice_get script.procedures) (sym is) ∙ e in
@@ -152,25 +122,19 @@ module _ (script : Script) (c : flat.Code) (is_code : compile.IsCodeOf script c)
           (begun_pictures k p xs e count, (pic, all), omega arith))
       by false more = refl
 
-  putting_alike : (v : ℕ) (d e : Option Any) → d ≡ e → TurnAlike (f.putting v d) (m.putting script v e)
-  putting_alike v d e same = subst (λ x. TurnAlike (f.putting v d) (m.putting script v x)) same (itself d)
-    where
-      itself : (d : Option Any) → TurnAlike (f.putting v d) (m.putting script v d)
-      itself None = refl
-      itself (Some d) = (refl, refl)
+  putting_alike : (v : ℕ) (d : Option Any) → TurnAlike (f.putting v d) (m.putting script v d)
+  putting_alike v None = refl
+  putting_alike v (Some d) = (refl, refl)
 
-  getting_alike : (v : ℕ) (d e : Option AnyRead) → d ≡ e → TurnAlike (f.getting v d) (m.getting script v e)
-  getting_alike v d e same = subst (λ x. TurnAlike (f.getting v d) (m.getting script v x)) same (itself d)
-    where
-      itself : (d : Option AnyRead) → TurnAlike (f.getting v d) (m.getting script v d)
-      itself None = refl
-      itself (Some r) = (refl, refl)
+  getting_alike : (v : ℕ) (d : Option AnyRead) → TurnAlike (f.getting v d) (m.getting script v d)
+  getting_alike v None = refl
+  getting_alike v (Some r) = (refl, refl)
 
   puts_alike : (v : ℕ) (p : Place) (q : Option Place) (n k : ℤ) → q ≡ Some p → n ≡ k → TurnAlike (f.putting v (put_at p n)) (m.putting script v (option_and_then (λ x. put_at x k) q))
-  puts_alike v p q n k is same = putting_alike v (put_at p n) (option_and_then (λ x. put_at x k) q) (ap (put_at p) same ∙ ap (option_and_then (λ x. put_at x k)) (sym is))
+  puts_alike v p q n k is same = subst (λ d. TurnAlike (f.putting v (put_at p n)) (m.putting script v d)) (ap (put_at p) same ∙ ap (option_and_then (λ x. put_at x k)) (sym is)) (putting_alike v (put_at p n))
 
   gets_alike : (v : ℕ) (p : Place) (q : Option Place) (t u : Test) → q ≡ Some p → t ≡ u → TurnAlike (f.getting v (read_at p t)) (m.getting script v (option_and_then (λ x. read_at x u) q))
-  gets_alike v p q t u is same = getting_alike v (read_at p t) (option_and_then (λ x. read_at x u) q) (ap (read_at p) same ∙ ap (option_and_then (λ x. read_at x u)) (sym is))
+  gets_alike v p q t u is same = subst (λ d. TurnAlike (f.getting v (read_at p t)) (m.getting script v d)) (ap (read_at p) same ∙ ap (option_and_then (λ x. read_at x u)) (sym is)) (getting_alike v (read_at p t))
 
   module _ (g : Frame) (a : Activation) (pic : PicturesFrame script g a) (none : g.events ≡ []) where
     abbrev here : Names
@@ -190,12 +154,12 @@ module _ (script : Script) (c : flat.Code) (is_code : compile.IsCodeOf script c)
     moved q ks follows sound = record { procedure = pic.procedure; is = pic.is; long = pic.long; values = pic.values; events = none; each = tt; follows = follows; sound = sound }
 
     -- at the next place, with one more value
-    pub stored : (x : Word) (n : ℤ) (ks : List Statement) → has_name x (locals_of pic.procedure) ≡ true → Follows here code (g.place + 1) ks → SoundList ks → PicturesFrame script (stepped g (slice_set g.values (number_of (local_names pic.procedure) x) n)) (quiet (with_value a.values x n) ks)
+    pub stored : (x : Word) (n : ℤ) (ks : List Statement) → has_name x (locals_of pic.procedure) ≡ true → Follows here code (g.place + 1) ks → SoundList ks → PicturesFrame script (stepped g (slice_set g.values (name_number (local_names pic.procedure) x) n)) (quiet (with_value a.values x n) ks)
     stored x n ks has follows sound =
         record {
           procedure = pic.procedure;
           is = pic.is;
-          long = length-set g.values (number_of (local_names pic.procedure) x) n ∙ pic.long;
+          long = length-set g.values (name_number (local_names pic.procedure) x) n ∙ pic.long;
           values = stored_at (local_names pic.procedure) g.values a.values x n pic.long (has_local x pic.procedure has) pic.values;
           events = none;
           each = tt;
@@ -203,10 +167,10 @@ module _ (script : Script) (c : flat.Code) (is_code : compile.IsCodeOf script c)
           sound = sound;
         }
 
-    assigned_alike : (x : Word) (ks : List Statement) (below : List Frame) (acts : List Activation) (d e : Result ℤ ErrorKind) → d ≡ e → has_name x (locals_of pic.procedure) ≡ true → Follows here code (g.place + 1) ks → SoundList ks → PicturesAll script below acts → length below ≤ 63 → TurnAlike (f.assigned g below (number_of (local_names pic.procedure) x) d) (m.assigned script a.values x ks acts e)
-    assigned_alike x ks below acts d e same has follows sound all few = subst (λ r. TurnAlike (f.assigned g below (number_of (local_names pic.procedure) x) d) (m.assigned script a.values x ks acts r)) same (itself d)
+    assigned_alike : (x : Word) (ks : List Statement) (below : List Frame) (acts : List Activation) (d e : Result ℤ ErrorKind) → d ≡ e → has_name x (locals_of pic.procedure) ≡ true → Follows here code (g.place + 1) ks → SoundList ks → PicturesAll script below acts → length below ≤ most_below → TurnAlike (f.assigned g below (name_number (local_names pic.procedure) x) d) (m.assigned script a.values x ks acts e)
+    assigned_alike x ks below acts d e same has follows sound all few = subst (λ r. TurnAlike (f.assigned g below (name_number (local_names pic.procedure) x) d) (m.assigned script a.values x ks acts r)) same (itself d)
       where
-        itself : (d : Result ℤ ErrorKind) → TurnAlike (f.assigned g below (number_of (local_names pic.procedure) x) d) (m.assigned script a.values x ks acts d)
+        itself : (d : Result ℤ ErrorKind) → TurnAlike (f.assigned g below (name_number (local_names pic.procedure) x) d) (m.assigned script a.values x ks acts d)
         itself (Ok n) = (stored x n ks has follows sound, all, few)
         itself (Err k) = refl
 
@@ -235,34 +199,32 @@ module _ (script : Script) (c : flat.Code) (is_code : compile.IsCodeOf script c)
     known : (n : Word) (ts : List Term) → list_any (takes n (length ts)) script.procedures ≡ true → list_any (takes n (length (map (operand_value g.values) (map (operand_of here) ts)))) script.procedures ≡ true
     known n ts e = ap (λ k. list_any (takes n k) script.procedures) (length-map (map (operand_of here) ts) (operand_value g.values) ∙ length-map ts (operand_of here)) ∙ e
 
-    module _ (below : List Frame) (acts : List Activation) (all : PicturesAll script below acts) (few : length below ≤ 63) (rest : List Statement) (follows : Follows here code (g.place + 1) rest) (sound : SoundList rest) where
+    module _ (below : List Frame) (acts : List Activation) (all : PicturesAll script below acts) (few : length below ≤ most_below) (rest : List Statement) (follows : Follows here code (g.place + 1) rest) (sound : SoundList rest) where
       pub command_alike : (d : Command) → SoundCommand d → TurnAlike (f.instruction_turn c g below (Some (command_code here d))) (m.command_turn script a.values rest acts d)
-      command_alike (command.Let x v) e = assigned_alike x rest below acts _ _ (given_at here g.values a.values pic.values v) (both _ _ e).0 follows sound all few
-      command_alike (command.Put v t) e = puts_alike (m.variable script v) _ _ _ _ (whole_is v (both _ _ e).0) (value t)
-      command_alike (command.PutAt v k t) e = puts_alike (m.variable script v) _ _ _ _ (part_is v k (both _ _ (both _ _ e).0).0) (value t)
-      command_alike (command.Get x v r) e = gets_alike (m.variable script v) _ _ _ _ (whole_read v r (both _ _ (both _ _ (both _ _ e).0).1).0) (test_at here g.values a.values pic.values r)
-      command_alike (command.GetAt x v k r) e = gets_alike (m.variable script v) _ _ _ _ (part_read v k r (both _ _ (both _ _ (both _ _ (both _ _ e).0).0).1).0) (test_at here g.values a.values pic.values r)
+      command_alike (command.Let x v) e = assigned_alike x rest below acts _ _ (given_at here g.values a.values pic.values v) (and_parts _ _ e).0 follows sound all few
+      command_alike (command.Put v t) e = puts_alike (m.variable script v) _ _ _ _ (whole_is v (and_parts _ _ e).0) (value t)
+      command_alike (command.PutAt v k t) e = puts_alike (m.variable script v) _ _ _ _ (part_is v k (and_parts _ _ (and_parts _ _ e).0).0) (value t)
+      command_alike (command.Get x v r) e = gets_alike (m.variable script v) _ _ _ _ (whole_read v r (and_parts _ _ (and_parts _ _ (and_parts _ _ e).0).1).0) (test_at here g.values a.values pic.values r)
+      command_alike (command.GetAt x v k r) e = gets_alike (m.variable script v) _ _ _ _ (part_read v k r (and_parts _ _ (and_parts _ _ (and_parts _ _ (and_parts _ _ e).0).0).1).0) (test_at here g.values a.values pic.values r)
       command_alike (command.Fork n ts) e =
           let xs = map (operand_value g.values) (map (operand_of here) ts) in
-          subst (λ ys. Pictures script (f.started c (m.procedure script n) xs) (m.started script ys (m.named script n))) (terms ts) (started_pictures n xs (known n ts (both _ _ e).0))
+          subst (λ ys. Pictures script (f.started c (m.procedure script n) xs) (m.started script ys (m.named script n))) (terms ts) (started_pictures n xs (known n ts (and_parts _ _ e).0))
       command_alike (command.Call n ts) e =
           let xs = map (operand_value g.values) (map (operand_of here) ts) in
-          let t = taking n (length xs) script.procedures script.sound.procedures_differ (known n ts (both _ _ e).0) in
+          let t = taking n (length xs) script.procedures script.sound.procedures_differ (known n ts (and_parts _ _ e).0) in
           subst (λ ys. TurnAlike (f.called c (m.procedure script n) xs (placed g (g.place + 1)) below) (m.called script n ys (quiet a.values rest) acts)) (terms ts)
           (called_alike n (m.procedure script n) t.procedure xs (placed g (g.place + 1)) (quiet a.values rest) below acts refl t.at (sym t.count) (moved (g.place + 1) rest follows sound) all)
-      command_alike (command.Handle p n) e = (refl, refl)
-      command_alike (command.Freeze x v ps) e = (refl, refl)
-      command_alike (command.FreezeEach x v ps n) e = (refl, refl)
+      command_alike d e = (refl, refl)
 
     -- where a test leads
-    chosen : (n k : ℤ) (p q : ℕ) (ks ls : List Statement) → n ≡ k → Follows here code p ks → Follows here code q ls → SoundList ks → SoundList ls → PicturesFrame script (placed g (m.taken n p q)) (quiet a.values (m.taken k ks ls))
-    chosen n k p q ks ls same first second sound_first sound_second = subst (λ z. PicturesFrame script (placed g (m.taken n p q)) (quiet a.values (m.taken z ks ls))) same (by (int_eq n (pos 0)))
+    chosen : (n k : ℤ) (p q : ℕ) (ks ls : List Statement) → n ≡ k → Follows here code p ks → Follows here code q ls → SoundList ks → SoundList ls → PicturesFrame script (placed g (m.chosen n p q)) (quiet a.values (m.chosen k ks ls))
+    chosen n k p q ks ls same first second sound_first sound_second = subst (λ z. PicturesFrame script (placed g (m.chosen n p q)) (quiet a.values (m.chosen z ks ls))) same (by (int_eq n (pos 0)))
       where
         by : (b : Bool) → PicturesFrame script (placed g (if b then q else p)) (quiet a.values (if b then ls else ks))
         by true = moved q ls second sound_second
         by false = moved p ks first sound_first
 
-    module _ (below : List Frame) (acts : List Activation) (all : PicturesAll script below acts) (few : length below ≤ 63) where
+    module _ (below : List Frame) (acts : List Activation) (all : PicturesAll script below acts) (few : length below ≤ most_below) where
       abbrev Nested : List Statement → Turn
       Nested ks = m.list_turn script a.values acts ks
 
@@ -277,7 +239,7 @@ module _ (script : Script) (c : flat.Code) (is_code : compile.IsCodeOf script c)
           subst (λ t. TurnAlike (f.instruction_turn c g below (Some i)) t) (sym nested)
           (subst (λ j. TurnAlike (f.instruction_turn c g below (Some j)) (m.command_turn script a.values d.rest acts d.command)) d.code_is alike)
 
-      test_does : (operand : Operand) (if_not if_zero : ℕ) → DoesTest here code a.following operand if_not if_zero → TurnAlike (f.Goes (placed g (m.taken (operand_value g.values operand) if_not if_zero)) below) (Nested a.following)
+      test_does : (operand : Operand) (if_not if_zero : ℕ) → DoesTest here code a.following operand if_not if_zero → TurnAlike (f.Goes (placed g (m.chosen (operand_value g.values operand) if_not if_zero)) below) (Nested a.following)
       test_does operand if_not if_zero d =
           let listed = subst SoundList d.is pic.sound in
           let u = out-Statement d.statement in
@@ -287,17 +249,15 @@ module _ (script : Script) (c : flat.Code) (is_code : compile.IsCodeOf script c)
           let sound_ks = taken_sound script.declarations script.procedures (locals_of pic.procedure) d.statement d.rest listed in
           let sound_ls = passed_sound script.declarations script.procedures (locals_of pic.procedure) d.statement d.rest listed in
           let frame = chosen (operand_value g.values operand) (term_value a.values d.term) if_not if_zero ks ls n d.follows_taken d.follows_passed sound_ks sound_ls in
-          let nested : Nested a.following ≡ m.Goes (quiet a.values (m.taken (term_value a.values d.term) ks ls)) acts = ap Nested d.is ∙ tested script a.values d.rest acts d.statement u d.term d.tests in
-          subst (λ t. TurnAlike (f.Goes (placed g (m.taken (operand_value g.values operand) if_not if_zero)) below) t) (sym nested) (frame, all, few)
+          let nested : Nested a.following ≡ m.Goes (quiet a.values (m.chosen (term_value a.values d.term) ks ls)) acts = ap Nested d.is ∙ tested script a.values d.rest acts d.statement u d.term d.tests in
+          subst (λ t. TurnAlike (f.Goes (placed g (m.chosen (operand_value g.values operand) if_not if_zero)) below) t) (sym nested) (frame, all, few)
 
       pub does_alike : (i : Instruction) → jump_in (Some i) ≡ None → Does here code g.place a.following i → TurnAlike (f.instruction_turn c g below (Some i)) (Nested a.following)
-      does_alike (Ask b) j d = command_does (Ask b) d
-      does_alike (Let x e) j d = command_does (Let x e) d
-      does_alike (Call k os) j d = command_does (Call k os) d
       does_alike (SkipIfZero operand n) j d = test_does operand (g.place + 1) (g.place + 1 + n) d
       does_alike (BackUnlessZero operand n) j d = test_does operand (g.place - n) (g.place + 1) d.0
       does_alike (GoOn n) j d = absurd cc
       does_alike Return j d = subst (λ ks. TurnAlike (f.Asks ask.End) (Nested ks)) (sym d) tt
+      does_alike i j d = command_does i d
 
       pub list_alike : jump_in (instruction c g) ≡ None → TurnAlike (f.instruction_turn c g below (instruction c g)) (Nested a.following)
       list_alike landed =
@@ -317,7 +277,7 @@ module _ (script : Script) (c : flat.Code) (is_code : compile.IsCodeOf script c)
       more (d ∷ ds) calls = calls
 
   -- a turn of the code is one of the statements, where no jump stands at the place
-  pub turn_alike : (g : Frame) (a : Activation) (below : List Frame) (acts : List Activation) → PicturesFrame script g a → PicturesAll script below acts → length below ≤ 63 → jump_in (instruction c g) ≡ None → TurnAlike (f.frame_turn c g below g.events) (m.frame_turn script a acts a.events)
+  pub turn_alike : (g : Frame) (a : Activation) (below : List Frame) (acts : List Activation) → PicturesFrame script g a → PicturesAll script below acts → length below ≤ most_below → jump_in (instruction c g) ≡ None → TurnAlike (f.frame_turn c g below g.events) (m.frame_turn script a acts a.events)
   turn_alike g a below acts pic all few landed = subst (λ es. TurnAlike (f.frame_turn c g below es) (m.frame_turn script a acts a.events)) (sym pic.events) (by a.events refl)
     where
       by : (es : List Event) → a.events ≡ es → TurnAlike (f.frame_turn c g below es) (m.frame_turn script a acts es)

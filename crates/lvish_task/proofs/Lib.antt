@@ -1,9 +1,7 @@
-pub mod ReadFound
-pub mod Fitting
-pub mod Stored
-pub mod Inner
-pub mod Places
-pub mod Alike
-pub mod Meant
+mod ReadFound
+mod Stored
+mod Inner
+mod Places
+mod Alike
+mod Meant
 mod Freezing
-mod Standing

@@ -1,15 +1,11 @@
 -- What operators make of numbers of 64 bits.
-use Rattle.std.specs.Prelude.{ℤ, pos, negsuc, ◌^◌, ◌+ℤ◌, ◌-ℤ◌, ◌*ℤ◌, int_div, int_rem, int_lt, nat_lt, Bool, Result, Ok, Err, if◌then◌else◌}
+use Rattle.std.specs.Prelude.{ℤ, pos, ◌+ℤ◌, ◌-ℤ◌, ◌*ℤ◌, int_div, int_rem, int_lt, Bool, Result, Ok, Err, if◌then◌else◌}
 use Rattle.std.specs.Ordering.{int_eq}
+use Rattle.lvish_syntax.specs.Written.{is_within}
 use Rattle.lvish_syntax.specs.declared.operator.Operator.{Operator}
 use Rattle.lvish_syntax.specs.declared.operator.Operator.TheVariants.{Add, Subtract, Multiply, Divide, Remainder, Less, Equal}
 use Rattle.lvish_calculus.specs.declared.request.ErrorKind.{ErrorKind}
 use Rattle.lvish_calculus.specs.declared.request.ErrorKind.TheVariants.{Overflow, Zero}
-
--- whether a number lies within 64 bits
-abbrev pub is_within : ℤ → Bool
-is_within (pos n) = nat_lt n (2 ^ 63)
-is_within (negsuc n) = nat_lt n (2 ^ 63)
 
 -- the number, unless it lies outside
 abbrev pub fitting : ℤ → Result ℤ ErrorKind
@@ -19,6 +15,7 @@ fitting z = if is_within z then Ok z else Err Overflow
 abbrev pub dividing : ℤ → ℤ → ℤ → Result ℤ ErrorKind
 dividing a b z = if int_eq b (pos 0) then Err Zero else if is_within (int_div a b) then Ok z else Err Overflow
 
+-- 1 where it is true, and 0 where it isn't
 abbrev pub truth : Bool → ℤ
 truth b = if b then pos 1 else pos 0
 

@@ -4,22 +4,15 @@ use Rattle.std.specs.List.{list_any}
 use Rattle.lvish_calculus.specs.declared.label.Label.{Label}
 use Rattle.lvish_calculus.specs.declared.request.Request.TheVariants.{Freeze}
 use Rattle.lvish_calculus.specs.Machine.{Machine}
-use Rattle.lvish_calculus.specs.Calculus.{Name, Live, State}
+use Rattle.lvish_calculus.specs.Calculus.{Live, State}
+use Rattle.lvish_names.specs.Names.{Name}
 use Rattle.lvish_calculus.specs.Laws.{Reaches}
 use Rattle.lvish_syntax.specs.Nested.{statements, all_nested}
-use Rattle.lvish_syntax.specs.declared.command.Command.{Command}
+use Rattle.lvish_task.specs.Vocabulary.{Command, Statement, out-Statement, Block, Script, Action, Instruction, Ask, Routine}
 use Rattle.lvish_syntax.specs.declared.command.Command.TheVariants as line
-use Rattle.lvish_syntax.specs.declared.statement.Statement.{Statement}
-use Rattle.lvish_syntax.specs.declared.statement.Statement.TheViews.{out-Statement}
-use Rattle.lvish_syntax.specs.declared.statement.Statement.TheOpen.{Statement-F, Do, If, IfElse, While}
-use Rattle.lvish_syntax.specs.declared.statement.Block.{Block}
-use Rattle.lvish_syntax.specs.declared.script.Script.{Script}
-use Rattle.lvish_code.specs.declared.instruction.Action.{Action}
+use Rattle.lvish_syntax.specs.declared.statement.Statement.TheOpen.{Statement-F, Do}
 use Rattle.lvish_code.specs.declared.instruction.Action.TheVariants as action
-use Rattle.lvish_code.specs.declared.instruction.Instruction.{Instruction}
-use Rattle.lvish_code.specs.declared.instruction.Instruction.TheVariants.{Ask, Let, Call, SkipIfZero, BackUnlessZero, GoOn, Return}
-use Rattle.lvish_code.specs.declared.routine.Routine.{Routine}
-use Rattle.lvish_code.specs.declared.code.Code as flat
+use Rattle.lvish_code.specs.Flat as flat
 
 -- ---- lines
 
@@ -27,20 +20,12 @@ use Rattle.lvish_code.specs.declared.code.Code as flat
 abbrev pub is_freeze_command : Command → Bool
 is_freeze_command (line.Freeze x v ps) = true
 is_freeze_command (line.FreezeEach x v ps n) = true
-is_freeze_command (line.Let x v) = false
-is_freeze_command (line.Put v t) = false
-is_freeze_command (line.PutAt v k t) = false
-is_freeze_command (line.Get x v r) = false
-is_freeze_command (line.GetAt x v k r) = false
-is_freeze_command (line.Fork n ts) = false
-is_freeze_command (line.Call n ts) = false
-is_freeze_command (line.Handle p n) = false
+is_freeze_command c = false
 
+-- whether a statement is this line itself
 abbrev pub is_freeze_line : Statement-F Statement Block → Bool
 is_freeze_line (Do c) = is_freeze_command c
-is_freeze_line (If t a) = false
-is_freeze_line (IfElse t a b) = false
-is_freeze_line (While t a) = false
+is_freeze_line u = false
 
 -- whether one of the statements, or of those within them, is this line
 abbrev pub have_freeze : List Statement → Bool
@@ -52,22 +37,15 @@ has_freeze script = list_any (λ p. have_freeze (statements p.body)) script.proc
 
 -- ---- instructions
 
+-- whether an action asks to freeze
 abbrev pub is_freeze_action : Action → Bool
 is_freeze_action (action.Freeze x v ps each) = true
-is_freeze_action (action.Put v t a) = false
-is_freeze_action (action.Get x v t w) = false
-is_freeze_action (action.Fork k os) = false
-is_freeze_action (action.Handle p k) = false
+is_freeze_action a = false
 
 -- whether an instruction asks to freeze
 abbrev pub is_freeze : Instruction → Bool
 is_freeze (Ask a) = is_freeze_action a
-is_freeze (Let x e) = false
-is_freeze (Call k os) = false
-is_freeze (SkipIfZero a n) = false
-is_freeze (BackUnlessZero a n) = false
-is_freeze (GoOn n) = false
-is_freeze Return = false
+is_freeze i = false
 
 -- whether an instruction of a routine does
 abbrev pub routine_freezes : Routine → Bool

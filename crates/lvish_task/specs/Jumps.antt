@@ -1,8 +1,7 @@
 -- Where instructions lead.
 use Rattle.std.specs.Prelude.{◌≡◌, ℕ, ◌+◌, ◌<◌, ◌^◌, true, List, length, Some}
 use Rattle.std.specs.List.{slice_get}
-use Rattle.lvish_code.specs.declared.instruction.Instruction.{Instruction}
-use Rattle.lvish_code.specs.declared.instruction.Instruction.TheVariants.{SkipIfZero, GoOn}
+use Rattle.lvish_task.specs.Vocabulary.{Instruction, SkipIfZero, GoOn}
 use Rattle.lvish_code.specs.Sound.{lands}
 
 -- each jump leads to an instruction
@@ -14,6 +13,6 @@ abbrev pub AllLand : List Instruction → Type 0
 AllLand is = (place : ℕ) (i : Instruction) → slice_get is place ≡ Some i → lands (length is) place i ≡ true
 
 -- the places to which an instruction leads are numbers of 64 bits
-abbrev pub HasRoom : ℕ → Instruction → Type 0
-HasRoom place (SkipIfZero a n) = place + 1 + n < 2 ^ 64
-HasRoom place i = place + 1 < 2 ^ 64
+abbrev pub HasPlaces : ℕ → Instruction → Type 0
+HasPlaces place (SkipIfZero a n) = place + 1 + n < 2 ^ 64
+HasPlaces place i = place + 1 < 2 ^ 64

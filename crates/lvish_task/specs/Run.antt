@@ -1,45 +1,29 @@
 -- What flat code does.
 use Rattle.std.specs.Prelude.{ℕ, zero, suc, ℤ, pos, ◌+◌, ◌-◌, Bool, true, false, ◌&&◌, ◌||◌, ◌==◌, nat_lt, nat_le, List, [], ◌∷◌, ◌++◌, length, map, replicate, Option, Some, None, Result, Ok, Err, unwrap_or, if◌then◌else◌}
 use Rattle.std.specs.List.{slice_get, slice_set, slice_index_or, list_all}
-use Rattle.lvish_compound.specs.declared.event.Event.{Event}
-use Rattle.lvish_calculus.specs.declared.request.ErrorKind.{ErrorKind}
+use Rattle.lvish_task.specs.Vocabulary.{Event, ErrorKind, Request, Reply, Operand, Expression, Target, First, Second, Wanted, Action, Put, Get, Fork, Handle, Freeze, Instruction, Ask, Let, Call, SkipIfZero, BackUnlessZero, GoOn, Return, Routine, Place, Test, Any, AnyRead}
 use Rattle.lvish_calculus.specs.declared.request.ErrorKind.TheVariants as fault
-use Rattle.lvish_calculus.specs.declared.request.Request.{Request}
 use Rattle.lvish_calculus.specs.declared.request.Request.TheVariants as ask
-use Rattle.lvish_calculus.specs.declared.request.Reply.{Reply}
 use Rattle.lvish_calculus.specs.declared.request.Reply.TheVariants as reply
 use Rattle.lvish_calculus.specs.Program.{Functions}
-use Rattle.lvish_code.specs.declared.operand.Operand.{Operand}
 use Rattle.lvish_code.specs.declared.operand.Operand.TheVariants.{Local as InLocal, Number}
-use Rattle.lvish_code.specs.declared.expression.Expression.{Expression}
 use Rattle.lvish_code.specs.declared.expression.Expression.TheVariants.{Same, Combined}
-use Rattle.lvish_code.specs.declared.target.Target.{Target}
 use Rattle.lvish_code.specs.declared.target.Target.TheVariants as target
-use Rattle.lvish_code.specs.declared.target.Side.TheVariants.{First, Second}
-use Rattle.lvish_code.specs.declared.wanted.Wanted.{Wanted}
 use Rattle.lvish_code.specs.declared.wanted.Wanted.TheVariants as wanted
-use Rattle.lvish_code.specs.declared.instruction.Action.{Action}
-use Rattle.lvish_code.specs.declared.instruction.Action.TheVariants.{Put, Get, Fork, Handle, Freeze}
-use Rattle.lvish_code.specs.declared.instruction.Instruction.{Instruction}
-use Rattle.lvish_code.specs.declared.instruction.Instruction.TheVariants.{Ask, Let, Call, SkipIfZero, BackUnlessZero, GoOn, Return}
-use Rattle.lvish_code.specs.declared.routine.Routine.{Routine}
-use Rattle.lvish_code.specs.declared.code.Code as flat
-use Rattle.lvish_code.specs.Sound.{takes}
+use Rattle.lvish_code.specs.Flat as flat
+use Rattle.lvish_code.specs.Sound.{takes_count}
 use Rattle.lvish_task.specs.Arithmetic.{combined}
 use Rattle.lvish_task.specs.States.{put_at, read_at, events_below}
-use Rattle.lvish_compound.specs.declared.place.Place.{Place}
 use Rattle.lvish_compound.specs.declared.place.Place.TheVariants as place
-use Rattle.lvish_compound.specs.declared.number_test.Test.{Test}
 use Rattle.lvish_compound.specs.declared.number_test.Test.TheVariants as test
-use Rattle.lvish_compound.specs.declared.any.Any.{Any}
-use Rattle.lvish_compound.specs.declared.any_read.AnyRead.{AnyRead}
 use Rattle.lvish_task.specs.declared.frame.Frame.{Frame}
 use Rattle.lvish_task.specs.declared.stack.Stack.{Stack}
-use Rattle.lvish_task.specs.declared.code.Code.{Code}
-use Rattle.lvish_task.specs.Meaning.{turns, taken, whole_place, side_kind}
+use Rattle.lvish_task.specs.declared.script_code.ScriptCode.{ScriptCode}
+use Rattle.lvish_task.specs.Meaning.{turns, most_below, chosen, whole_place, kind_meant}
 
 -- ---- values
 
+-- the value of an operand
 abbrev pub operand_value : List ℤ → Operand → ℤ
 operand_value values (InLocal x) = slice_index_or values x (pos 0)
 operand_value values (Number n) = n
@@ -53,8 +37,8 @@ expression_value values (Combined a o b) = combined o (operand_value values a) (
 abbrev pub target_place : List ℤ → Target → Place
 target_place values (target.Whole k) = whole_place k
 target_place values (target.Entry a) = place.Key (operand_value values a)
-target_place values (target.Side First k) = place.Side 1 (side_kind k)
-target_place values (target.Side Second k) = place.Side 2 (side_kind k)
+target_place values (target.Side First k) = place.Side 1 (kind_meant k)
+target_place values (target.Side Second k) = place.Side 2 (kind_meant k)
 target_place values (target.Amount a) = place.Amount (operand_value values a)
 target_place values target.Total = place.Total
 
@@ -71,7 +55,7 @@ abbrev pub jump_in : Option Instruction → Option ℕ
 jump_in (Some (GoOn n)) = Some n
 jump_in i = None
 
--- past jumps, of a list that begins at this place: so many instructions are passed first, and the list begins at this place
+-- the place past the jumps of a list that begins at this place, where this many instructions are passed first
 abbrev pub beyond : List Instruction → ℕ → ℕ → ℕ
 beyond [] k place = place + k
 beyond (i ∷ is) (suc k) place = beyond is k (place + 1)
@@ -82,6 +66,7 @@ beyond (i ∷ is) zero place = place
 abbrev pub landing : List Instruction → ℕ → ℕ
 landing is place = beyond is place 0
 
+-- the instructions of a routine, none where there is no routine
 abbrev pub instructions_in : Option Routine → List Instruction
 instructions_in None = []
 instructions_in (Some r) = r.instructions
@@ -111,13 +96,15 @@ abbrev pub begun : ℕ → List ℤ → Routine → Frame
 begun k arguments r = record { place = 0; procedure = k; values = arguments ++ replicate (r.locals - length arguments) (pos 0); each = 0; events = [] }
 
 -- a task in one frame
-abbrev pub alone : Frame → Stack
-alone f = record { left = turns; top = f; below = [] }
+abbrev pub stack_alone : Frame → Stack
+stack_alone f = record { left = turns; top = f; below = [] }
 
+-- a put of a state, or a fault where no counter and no amount is this number
 abbrev pub putting : ℕ → Option Any → FlatTurn
 putting v (Some d) = Asks (ask.Put v d)
 putting v None = Asks (ask.Fault fault.Range)
 
+-- a get by a read, or a fault where a number is none of what is read there
 abbrev pub getting : ℕ → Option AnyRead → FlatTurn
 getting v (Some r) = Asks (ask.Get v r)
 getting v None = Asks (ask.Fault fault.Range)
@@ -142,14 +129,14 @@ moved l (Asks r) = l
 -- the frame after the reply to an action
 abbrev pub answered : Frame → Action → Reply Any ℤ → Frame
 answered f (Get x v t w) (reply.Answer n) = stepped f (slice_set f.values x n)
-answered f (Freeze x v ps None) (reply.Frozen d) = stepped f (slice_set f.values x (pos (length (events_below d))))
-answered f (Freeze x v ps (Some k)) (reply.Frozen d) = record { place = f.place + 1; procedure = f.procedure; values = slice_set f.values x (pos (length (events_below d))); each = k; events = events_below d }
+answered f (Freeze x v ps None) (reply.Content d) = stepped f (slice_set f.values x (pos (length (events_below d))))
+answered f (Freeze x v ps (Some k)) (reply.Content d) = record { place = f.place + 1; procedure = f.procedure; values = slice_set f.values x (pos (length (events_below d))); each = k; events = events_below d }
 answered f a _ = stepped f f.values
 
 -- the frame after the reply to the instruction at its place
-abbrev pub after : Frame → Reply Any ℤ → Option Instruction → Frame
-after f r (Some (Ask a)) = answered f a r
-after f r _ = f
+abbrev pub frame_after : Frame → Reply Any ℤ → Option Instruction → Frame
+frame_after f r (Some (Ask a)) = answered f a r
+frame_after f r _ = f
 
 -- whether an instruction ends its procedure
 abbrev pub is_end : Option Instruction → Bool
@@ -160,9 +147,11 @@ is_end (Some i) = false
 -- ---- the turns of code
 
 module _ (c : flat.Code) where
+  -- the routine with this number
   abbrev pub routine : ℕ → Option Routine
   routine k = slice_get c.routines k
 
+  -- the instructions of a frame's procedure
   abbrev pub instructions : Frame → List Instruction
   instructions f = instructions_in (routine f.procedure)
 
@@ -174,6 +163,7 @@ module _ (c : flat.Code) where
   abbrev pub nowhere : Frame
   nowhere = record { place = 0; procedure = length c.routines; values = []; each = 0; events = [] }
 
+  -- the frame in which a routine begins on the arguments, if it takes that many
   abbrev pub callee_in : ℕ → List ℤ → Option Routine → Option Frame
   callee_in k arguments None = None
   callee_in k arguments (Some r) = if length arguments == r.parameters then Some (begun k arguments r) else None
@@ -182,17 +172,18 @@ module _ (c : flat.Code) where
   abbrev pub callee : ℕ → List ℤ → Option Frame
   callee k arguments = callee_in k arguments (routine k)
 
-  -- a task that begins so; nowhere, if there is no procedure that takes the arguments
+  -- a task that begins in that frame; nowhere, if there is no procedure that takes the arguments
   abbrev pub started : ℕ → List ℤ → Stack
-  started k arguments = alone (unwrap_or (callee k arguments) nowhere)
+  started k arguments = stack_alone (unwrap_or (callee k arguments) nowhere)
 
+  -- into a frame of its own, above the caller's
   abbrev pub entered : Frame → List Frame → Option Frame → FlatTurn
   entered caller below None = Asks ask.End
   entered caller below (Some f) = Goes f (caller ∷ below)
 
   -- a call, which at 64 frames is too deep
   abbrev pub called : ℕ → List ℤ → Frame → List Frame → FlatTurn
-  called k arguments caller below = if nat_lt (length below) 63 then entered caller below (callee k arguments) else Asks (ask.Fault fault.Deep)
+  called k arguments caller below = if nat_lt (length below) most_below then entered caller below (callee k arguments) else Asks (ask.Fault fault.Deep)
 
   -- what an action asks for
   abbrev pub action_turn : List ℤ → Action → FlatTurn
@@ -207,8 +198,8 @@ module _ (c : flat.Code) where
   instruction_turn top below (Some (Ask a)) = action_turn top.values a
   instruction_turn top below (Some (Let x e)) = assigned top below x (expression_value top.values e)
   instruction_turn top below (Some (Call k os)) = called k (map (operand_value top.values) os) (placed top (top.place + 1)) below
-  instruction_turn top below (Some (SkipIfZero a n)) = Goes (placed top (taken (operand_value top.values a) (top.place + 1) (top.place + 1 + n))) below
-  instruction_turn top below (Some (BackUnlessZero a n)) = Goes (placed top (taken (operand_value top.values a) (top.place - n) (top.place + 1))) below
+  instruction_turn top below (Some (SkipIfZero a n)) = Goes (placed top (chosen (operand_value top.values a) (top.place + 1) (top.place + 1 + n))) below
+  instruction_turn top below (Some (BackUnlessZero a n)) = Goes (placed top (chosen (operand_value top.values a) (top.place - n) (top.place + 1))) below
   instruction_turn top below (Some (GoOn n)) = Asks ask.End
   instruction_turn top below (Some Return) = Asks ask.End
   instruction_turn top below None = Asks ask.End
@@ -222,67 +213,66 @@ module _ (c : flat.Code) where
   frame_turn top below [] = instruction_turn top below (instruction top)
   frame_turn top below (e ∷ es) = called top.each (e.key ∷ e.number ∷ []) (record top { events = es }) below
 
+  -- the next turn of a task
   abbrev pub flat_turn : Stack → FlatTurn
   flat_turn l = frame_turn l.top l.below l.top.events
 
   -- ---- up to the next request
 
   -- whether nothing follows in a frame
-  abbrev pub is_over : Frame → Bool
-  is_over f = (length f.events == 0) && is_end (instruction f)
+  abbrev pub is_frame_over : Frame → Bool
+  is_frame_over f = (length f.events == 0) && is_end (instruction f)
 
-  -- out of each frame in which nothing follows, but the first, and past jumps
+  -- the frames without those in which nothing follows, except the first, and past jumps
   abbrev pub returned : Frame → List Frame → ℕ → Stack
   returned top [] left = record { left = left; top = landed top; below = [] }
-  returned top (f ∷ below) left = if is_over (landed top) then returned f below left else record { left = left; top = landed top; below = f ∷ below }
+  returned top (f ∷ below) left = if is_frame_over (landed top) then returned f below left else record { left = left; top = landed top; below = f ∷ below }
 
+  -- the local state out of frames in which nothing follows
   abbrev pub settled : Stack → Stack
   settled l = returned l.top l.below l.left
 
+  -- what a turn asks: its request, or what is asked after its local statement
   abbrev pub went : Stack → (Frame → List Frame → FlatAsked) → FlatTurn → FlatAsked
   went l go (Goes top below) = go top below
   went l go (Asks r) = record { request = r; at = l }
 
-  -- so many local statements at most, and then Pause, whatever follows
+  -- this many local statements at most, and then Pause, whatever follows
   abbrev pub run : ℕ → Frame → List Frame → FlatAsked
   run zero top below = record { request = ask.Pause; at = returned top below zero }
   run (suc n) top below =
       let l = returned top below (suc n) in
       went l (run n) (flat_turn l)
 
-  -- the same from a settled local state
-  abbrev pub pending : ℕ → Stack → FlatAsked
-  pending zero l = record { request = ask.Pause; at = l }
-  pending (suc n) l = went l (run n) (flat_turn l)
-
   -- ---- local states that fit
 
   -- whether the place lies within the procedure, there is a value for each local, and an `each` calls a procedure of two parameters
   abbrev pub fits_in : Frame → Option Routine → Bool
   fits_in f None = false
-  fits_in f (Some r) = nat_lt f.place (length r.instructions) && (length f.values == r.locals) && ((length f.events == 0) || takes 2 (routine f.each))
+  fits_in f (Some r) = nat_lt f.place (length r.instructions) && (length f.values == r.locals) && ((length f.events == 0) || takes_count 2 (routine f.each))
 
+  -- whether the frame fits the code
   abbrev pub fits_frame : Frame → Bool
   fits_frame f = fits_in f (routine f.procedure)
 
   -- at most 64 frames that fit, and at most 1,000 local statements left
-  abbrev pub fits : Stack → Bool
-  fits l = fits_frame l.top && list_all fits_frame l.below && nat_le (length l.below) 63 && nat_le l.left turns
+  abbrev pub stack_fits : Stack → Bool
+  stack_fits l = fits_frame l.top && list_all fits_frame l.below && nat_le (length l.below) most_below && nat_le l.left turns
 
   -- the request that comes next, and the local state in which it is made; End at once where the local state doesn't fit
   abbrev pub asked : Stack → FlatAsked
-  asked l = if fits l then run l.left l.top l.below else record { request = ask.End; at = l }
+  asked l = if stack_fits l then run l.left l.top l.below else record { request = ask.End; at = l }
 
   -- ---- what follows a reply
 
   -- after a Pause, which comes where no local statement is left, the same follows
   abbrev pub resumed_top : Frame → Reply Any ℤ → ℕ → Frame
   resumed_top f r zero = f
-  resumed_top f r (suc n) = after f r (instruction f)
+  resumed_top f r (suc n) = frame_after f r (instruction f)
 
   -- the local state after the reply to the request that is made in this one; the same where it doesn't fit
   abbrev pub resumed : Stack → Reply Any ℤ → Stack
-  resumed l r = if fits l then record { left = turns; top = resumed_top l.top r l.left; below = l.below } else l
+  resumed l r = if stack_fits l then record { left = turns; top = resumed_top l.top r l.left; below = l.below } else l
 
 -- ---- code as a program
 
@@ -291,7 +281,7 @@ abbrev pub pool_variable : flat.Code → ℕ → Option ℕ
 pool_variable c p = slice_get c.pools p
 
 -- the functions of the code
-abbrev pub functions : Code → Functions Any Event AnyRead ℤ Stack
+abbrev pub functions : ScriptCode → Functions Any Event AnyRead ℤ Stack
 functions c = record {
   variables = length c.flat.kinds;
   pool_variable = pool_variable c.flat;
@@ -303,5 +293,5 @@ functions c = record {
 }
 
 -- whether a local state is one of the code
-abbrev pub is_fitting : Code → Stack → Bool
-is_fitting c l = fits c.flat l
+abbrev pub is_fitting : ScriptCode → Stack → Bool
+is_fitting c l = stack_fits c.flat l

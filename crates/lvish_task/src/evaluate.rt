@@ -1,6 +1,6 @@
 ghost use Rattle.std.specs.Prelude.{◌≡◌, IfOk, map};
 ghost use Rattle.lvish_task.specs.Run.{operand_value, expression_value, target_place, wanted_test};
-ghost use Rattle.lvish_task.specs.Meaning.{side_kind};
+ghost use Rattle.lvish_task.specs.Meaning.{kind_meant};
 
 use crate::arithmetic::combine;
 use crate::values::Values;
@@ -50,7 +50,7 @@ pub fn evaluate(values: &Values, expression: Expression) -> Result<i64, ErrorKin
 
 /// A side's kind, among those of events.
 fn side_kind(kind: SimpleKind) -> Kind
-    ensures { result ≡ side_kind kind }
+    ensures { result ≡ kind_meant kind }
 {
     match kind {
         SimpleKind::Cell => Kind::Cell,

@@ -1,18 +1,18 @@
 ghost use Rattle.std.specs.Prelude.{◌≡◌};
 ghost use Rattle.std.specs.List.{list_all};
 ghost use Rattle.lvish_task.specs.Run.{fits_frame, is_fitting, routine};
-ghost use Rattle.lvish_code.specs.Sound.{takes};
+ghost use Rattle.lvish_code.specs.Sound.{takes_count};
 
-use crate::code::Code;
 use crate::frame::Frame;
 use crate::frames::Frames;
 use crate::local::Local;
+use crate::script_code::ScriptCode;
 use crate::turn::{DEPTH, TURNS};
 
-impl Code {
-    /// Whether there is a procedure with this number, and it takes so many values.
+impl ScriptCode {
+    /// Whether there is a procedure with this number, and it takes this many values.
     fn takes(&self, procedure: usize, count: usize) -> bool
-        ensures { result ≡ takes count (routine self.now.flat procedure) }
+        ensures { result ≡ takes_count count (routine self.now.flat procedure) }
     {
         match self.routine(procedure) {
             Some(routine) => routine.parameters == count,

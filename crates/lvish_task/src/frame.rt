@@ -5,7 +5,7 @@ use crate::values::Values;
 use std::alloc::{AllocError, Global};
 
 /// Where a procedure is: its next instruction, its number, the values of its locals, and the
-/// procedure that an `each` calls with the events that it hasn't handed it yet.
+/// procedure that an `each` calls, with the events on which it hasn't called it yet.
 #[derive(Debug, Drop, PartialEq, Eq)]
 pub struct Frame {
     pub place: usize,

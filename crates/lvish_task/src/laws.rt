@@ -3,50 +3,50 @@
 ghost use Rattle.std.specs.Prelude.{◌≡◌, false};
 ghost use Rattle.lvish_calculus.specs.SameRuns.{IsMatch, HaveSameRuns};
 ghost use Rattle.lvish_syntax.specs.declared.script.Script.{Script};
-ghost use Rattle.lvish_task.specs.declared.code.Code.{Code};
-ghost use Rattle.lvish_task.specs.CodeOf.{IsCodeOf};
+ghost use Rattle.lvish_task.specs.declared.script_code.ScriptCode.{ScriptCode};
+ghost use Rattle.lvish_task.specs.CodeOf.{IsScriptCodeOf};
 ghost use Rattle.lvish_task.specs.Freezing.{AsksNoFreeze, NeverAsksFreeze, code_freezes, has_freeze};
-ghost use Rattle.lvish_task.specs.Laws.{KeepsFitting};
+ghost use Rattle.lvish_task.specs.Fitting.{KeepsFitting};
 ghost use Rattle.lvish_task.specs.Meaning.{script_functions};
 ghost use Rattle.lvish_task.specs.Pictures.{Pictures, BeginsOnTwo};
 
-use crate::code::Code;
 use crate::meaning::ScriptMeaning;
+use crate::script_code::ScriptCode;
 use lvish_calculus::{Meaning, Program};
 use lvish_syntax::Script;
 
 /// The code of a script means what the nested statements of the script mean.
 ///
-/// It has as many variables and the same pools, and starts alike; so does each procedure that a
-/// handler begins, which takes a key and a number. Wherever a local state stands for a state of the
+/// It has as many variables and the same pools. `main` starts alike, and so does each procedure that
+/// a handler begins, which takes a key and a number. Wherever a local state stands for a state of the
 /// nested statements, it asks for the same, the local state in which it asks stands for the state in
 /// which they ask, and after each reply it stands for what follows there.
 pub fn code_means()
-    ensures alike { (s : Script) (c : Code) → IsCodeOf s c → IsMatch (⟦<Code as Program>⟧.functions c) (script_functions s) (Pictures s) (BeginsOnTwo s) }
-    ensures variables { (s : Script) (c : Code) → IsCodeOf s c → (⟦<Code as Program>⟧.functions c).variables ≡ (script_functions s).variables }
+    ensures alike { (s : Script) (c : ScriptCode) → IsScriptCodeOf s c → IsMatch (⟦<ScriptCode as Program>⟧.functions c) (script_functions s) (Pictures s) (BeginsOnTwo s) }
+    ensures variables { (s : Script) (c : ScriptCode) → IsScriptCodeOf s c → (⟦<ScriptCode as Program>⟧.functions c).variables ≡ (script_functions s).variables }
 {}
 
 /// The code of a script has the runs of the script's nested statements: the same labels lead to
 /// equal contents, marks, handlers and errors, and to the same tasks with the same counts, at the
 /// same requests.
 pub fn same_runs()
-    ensures { (s : Script) (c : Code) → IsCodeOf s c → HaveSameRuns (⟦<Code as Meaning>⟧.machine c) (⟦<Script as ScriptMeaning>⟧.machine s) }
+    ensures { (s : Script) (c : ScriptCode) → IsScriptCodeOf s c → HaveSameRuns (⟦<ScriptCode as Meaning>⟧.machine c) (⟦<Script as ScriptMeaning>⟧.machine s) }
 {}
 
-/// Each local state that a start, an ask, a fork or a reply gives does fit, from one that fits; one
-/// that doesn't fit asks End, and stays.
+/// From a local state that fits, an ask, a fork and a reply lead to local states that fit, and each
+/// task starts in one. A local state that doesn't fit asks End, and a reply gives it back.
 pub fn keeps_fitting()
-    ensures { (c : Code) → KeepsFitting c }
+    ensures { (c : ScriptCode) → KeepsFitting c }
 {}
 
 /// A script without the line `freeze` asks for no freeze.
 pub fn asks_no_freeze()
     // Its code has an instruction that freezes exactly where it has the line.
-    ensures lines { (s : Script) (c : Code) → IsCodeOf s c → code_freezes c.flat ≡ has_freeze s }
+    ensures lines { (s : Script) (c : ScriptCode) → IsScriptCodeOf s c → code_freezes c.flat ≡ has_freeze s }
     // Without the line no local state of its code asks for one,
-    ensures code { (s : Script) (c : Code) → IsCodeOf s c → has_freeze s ≡ false → AsksNoFreeze (⟦<Code as Meaning>⟧.machine c) }
+    ensures code { (s : Script) (c : ScriptCode) → IsScriptCodeOf s c → has_freeze s ≡ false → AsksNoFreeze (⟦<ScriptCode as Meaning>⟧.machine c) }
     // and no task of the nested statements does, in any run.
-    ensures statements { (s : Script) (c : Code) → IsCodeOf s c → has_freeze s ≡ false → NeverAsksFreeze (⟦<Script as ScriptMeaning>⟧.machine s) }
+    ensures statements { (s : Script) (c : ScriptCode) → IsScriptCodeOf s c → has_freeze s ≡ false → NeverAsksFreeze (⟦<Script as ScriptMeaning>⟧.machine s) }
 {
     same_runs();
 }

@@ -2,7 +2,6 @@
 #![tactic(auto)]
 
 mod arithmetic;
-mod code;
 mod evaluate;
 mod fits;
 mod frame;
@@ -14,12 +13,13 @@ mod program;
 mod remaining;
 mod resume;
 mod run;
+mod script_code;
 mod stack;
 mod states;
 mod step;
 mod turn;
 mod values;
 
-pub use code::Code;
 pub use local::Local;
 pub use meaning::ScriptMeaning;
+pub use script_code::ScriptCode;

@@ -10,9 +10,9 @@ pub trait ScriptMeaning {
     ghost use Rattle.lvish_compound.specs.declared.any.Any.{Any};
     ghost use Rattle.lvish_compound.specs.declared.any_read.AnyRead.{AnyRead};
     ghost use Rattle.lvish_compound.specs.declared.event.Event.{Event};
-    ghost use Rattle.lvish_task.specs.Meaning.{State};
+    ghost use Rattle.lvish_task.specs.Meaning.{LocalState};
 
-    ghost machine: { Self → Machine Any Event AnyRead ℤ State };
+    ghost machine: { Self → Machine Any Event AnyRead ℤ LocalState };
 }
 
 impl ScriptMeaning for Script {

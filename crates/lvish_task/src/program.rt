@@ -1,14 +1,14 @@
 ghost use Rattle.std.specs.Prelude.{◌≡◌, IfOk};
 ghost use Rattle.lvish_task.specs.Run.{functions};
 
-use crate::code::Code;
 use crate::frame::Frame;
 use crate::local::Local;
+use crate::script_code::ScriptCode;
 use lvish_calculus::{Asks, Program, Reply};
 use lvish_compound::{Any, AnyRead, Event};
 use std::alloc::{AllocError, Global};
 
-impl Program for Code {
+impl Program for ScriptCode {
     ghost use Rattle.lvish_task.specs.Run.{functions};
 
     type Lat = Any;
@@ -54,8 +54,8 @@ impl Program for Code {
     }
 
     ghost use Rattle.std.specs.Prelude.{refl};
-    ghost use Rattle.lvish_compound.specs.Events.{events_identical};
-    ghost use Rattle.lvish_task.specs.ProgramLaws.{frame_identical, local_identical, code_is_program};
+    ghost use Rattle.lvish_compound.specs.laws.KindLaws.{events_identical};
+    ghost use Rattle.lvish_task.specs.laws.Program.{frame_identical, local_identical, code_is_program};
 
     ghost identical = { local_identical ⟦<Frame as PartialEq>⟧.eq (frame_identical ⟦<Event as PartialEq>⟧.eq (events_identical _ (λ d e. refl)) _ (λ a b. refl)) _ (λ a b. refl) };
 

@@ -6,7 +6,7 @@ use std::alloc::{AllocError, Global};
 use std::marker::Model;
 use std::sync::ArcSlice;
 
-/// The events that an `each` hasn't handed to its procedure yet.
+/// The events on which an `each` hasn't called its procedure yet.
 ///
 /// Copies share them.
 #[derive(Debug, Drop)]
@@ -19,13 +19,13 @@ impl Model for Remaining {
     ghost use Rattle.std.specs.Prelude.{List, ◌≤◌, option_map};
     ghost use Rattle.std.specs.Arc.{arc_slice_items};
     ghost use Rattle.lvish_compound.specs.declared.event.Event.{Event};
-    ghost use Rattle.lvish_task.specs.Remaining.{remaining, total};
+    ghost use Rattle.lvish_task.specs.Remaining.{remaining, event_count};
 
     ghost Value = { List Event };
 
     ghost view = { λ r. remaining (option_map arc_slice_items r.all) r.next };
 
-    ghost invariant = { λ r. r.next ≤ total (option_map arc_slice_items r.all) };
+    ghost invariant = { λ r. r.next ≤ event_count (option_map arc_slice_items r.all) };
 }
 
 impl PartialEq for Remaining {

@@ -1,10 +1,10 @@
 ghost use Rattle.std.specs.Prelude.{◌≡◌, ◌<◌, ◌+◌, ◌^◌, IfOk, OnOk};
 ghost use Rattle.lvish_task.specs.Run.{answered, asked, resumed, resumed_top};
 
-use crate::code::Code;
 use crate::frame::Frame;
 use crate::local::Local;
 use crate::remaining::Remaining;
+use crate::script_code::ScriptCode;
 use crate::states::events_below;
 use crate::turn::{Ask, TURNS};
 use lvish_calculus::{Reply, Request};
@@ -25,7 +25,7 @@ impl Frame {
     {
         match (action, reply) {
             (Action::Get(local, _, _, _), Reply::Answer(n)) => self.values.set(*local, n),
-            (Action::Freeze(local, _, _, each), Reply::Frozen(state)) => {
+            (Action::Freeze(local, _, _, each), Reply::Content(state)) => {
                 let events = events_below(alloc, &state)?;
                 self.values.set(*local, events.len() as i64);
                 if let Some(procedure) = each {
@@ -40,7 +40,7 @@ impl Frame {
     }
 }
 
-impl Code {
+impl ScriptCode {
     /// The next request, and the local state in which it is made.
     pub(crate) fn asked(&self, alloc: Global, local: &Local) -> Result<(Ask, Local), AllocError>
         ensures request { IfOk result (λ a. a.0 ≡ (asked self.now.flat local.now).request) }
@@ -76,8 +76,8 @@ impl Code {
         Local::new(alloc, next)
     }
 
-    /// Goes on after the reply, in the innermost frame, where so many local statements are left: the
-    /// same follows a pause, which comes where none is.
+    /// Goes on after the reply, in the innermost frame. Where no local statement is left, the
+    /// request is a pause, and the same follows after it as before it.
     fn go_on(
         &self,
         alloc: Global,

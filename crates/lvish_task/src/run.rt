@@ -1,10 +1,10 @@
 ghost use Rattle.std.specs.Prelude.{◌≡◌, ◌<◌, IfSome, slice_get};
 ghost use Rattle.std.specs.Option.{option_copied};
-ghost use Rattle.lvish_task.specs.Run.{landing, landed, settled, routine, instructions_in, instruction, is_end, is_over, jump_in};
-ghost use Rattle.lvish_task.specs.Jumps.{JumpsStay, AllLand, HasRoom};
+ghost use Rattle.lvish_task.specs.Run.{landing, landed, settled, routine, instructions_in, instruction, is_end, is_frame_over, jump_in};
+ghost use Rattle.lvish_task.specs.Jumps.{JumpsStay, AllLand, HasPlaces};
 
-use crate::code::Code;
 use crate::frame::Frame;
+use crate::script_code::ScriptCode;
 use crate::stack::Stack;
 use lvish_code::{Instruction, Routine};
 use std::alloc::{AllocError, Global};
@@ -36,7 +36,7 @@ fn ends_at(instructions: &[Instruction], place: usize) -> bool
     }
 }
 
-/// Past the jumps that stand at a place.
+/// The place past the jumps that stand at a place.
 fn landing(instructions: &[Instruction], place: usize) -> usize
     requires { JumpsStay instructions.now }
     ensures { result ≡ landing instructions.now place }
@@ -48,7 +48,7 @@ fn landing(instructions: &[Instruction], place: usize) -> usize
     at
 }
 
-impl Code {
+impl ScriptCode {
     pub(crate) fn routine(&self, procedure: usize) -> Option<&Routine>
         ensures { option_copied result ≡ routine self.now.flat procedure }
     {
@@ -69,22 +69,22 @@ impl Code {
     /// The instruction at the frame's place.
     pub(crate) fn instruction(&self, frame: &Frame) -> Option<&Instruction>
         ensures value { option_copied result ≡ instruction self.now.flat frame.now }
-        ensures room { IfSome result (λ i. HasRoom frame.now.place i.now) }
+        ensures room { IfSome result (λ i. HasPlaces frame.now.place i.now) }
     {
         at(self.instructions(frame.procedure), frame.place)
     }
 
-    /// Past the jumps that stand at the frame's place, and whether nothing follows there.
+    /// Moves past the jumps at the frame's place, and answers whether nothing follows there.
     fn lands_at_its_end(&self, frame: &mut Frame) -> bool
         ensures lands { frame.new ≡ landed self.now.flat frame.old }
-        ensures ends { result ≡ is_over self.now.flat frame.new }
+        ensures ends { result ≡ is_frame_over self.now.flat frame.new }
     {
         let instructions = self.instructions(frame.procedure);
         frame.place = landing(instructions, frame.place);
         frame.events.is_empty() && ends_at(instructions, frame.place)
     }
 
-    /// Out of each frame in which nothing follows, but the first, and past jumps.
+    /// Leaves each frame in which nothing follows, except the first, and moves past jumps.
     pub(crate) fn settle(&self, local: &mut Stack)
         ensures { local.new ≡ settled self.now.flat local.old }
     {

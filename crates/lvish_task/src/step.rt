@@ -1,10 +1,10 @@
 ghost use Rattle.std.specs.Prelude.{◌≡◌, ◌<◌, ◌+◌, ◌-◌, ◌^◌, IfOk, IfSome};
 ghost use Rattle.lvish_task.specs.Run.{operand_value, expression_value, assigned, placed, instruction_turn, flat_turn, requested, moved, run};
-ghost use Rattle.lvish_task.specs.Jumps.{HasRoom};
-ghost use Rattle.lvish_task.specs.Meaning.{taken};
+ghost use Rattle.lvish_task.specs.Jumps.{HasPlaces};
+ghost use Rattle.lvish_task.specs.Meaning.{chosen};
 
-use crate::code::Code;
 use crate::evaluate::{evaluate, value_of};
+use crate::script_code::ScriptCode;
 use crate::stack::Stack;
 use crate::turn::Ask;
 use lvish_calculus::Request;
@@ -33,7 +33,7 @@ impl Stack {
     /// A test, which leads to the one place where the operand isn't 0 and to the other where it is.
     fn test(&mut self, operand: Operand, if_not: usize, if_zero: usize)
         requires { 0 < self.old.left }
-        ensures { self.new ≡ record { left = self.old.left - 1; top = placed self.old.top (taken (operand_value self.old.top.values operand) if_not if_zero); below = self.old.below } }
+        ensures { self.new ≡ record { left = self.old.left - 1; top = placed self.old.top (chosen (operand_value self.old.top.values operand) if_not if_zero); below = self.old.below } }
     {
         self.top.place = if value_of(&self.top.values, operand) == 0 {
             if_zero
@@ -44,7 +44,7 @@ impl Stack {
     }
 }
 
-impl Code {
+impl ScriptCode {
     /// What an instruction does at the innermost frame's place.
     fn execute(
         &self,
@@ -53,7 +53,7 @@ impl Code {
         instruction: &Instruction,
     ) -> Result<Option<Ask>, AllocError>
         requires left { 0 < local.old.left }
-        requires room { HasRoom local.old.top.place instruction.now }
+        requires room { HasPlaces local.old.top.place instruction.now }
         ensures asks { IfOk result (λ r. r ≡ requested (instruction_turn self.now.flat local.old.top local.old.below (Some instruction.now))) }
         ensures moves { IfOk result (λ _. local.new ≡ moved local.old (instruction_turn self.now.flat local.old.top local.old.below (Some instruction.now))) }
     {
@@ -86,7 +86,7 @@ impl Code {
         ensures moves { IfOk result (λ _. local.new ≡ moved local.old (flat_turn self.now.flat local.old)) }
     {
         match local.top.events.first() {
-            Some(event) => self.hand(alloc, local, event),
+            Some(event) => self.call_on_event(alloc, local, event),
             None => match self.instruction(&local.top) {
                 Some(instruction) => self.execute(alloc, local, instruction),
                 None => Ok(Some(Request::End)),

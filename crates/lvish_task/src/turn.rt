@@ -2,12 +2,12 @@ ghost use Rattle.std.specs.Prelude.{◌≡◌, ◌<◌, ◌-◌, ◌∷◌, [], 
 ghost use Rattle.lvish_task.specs.Run.{Asks, operand_value, callee, started, called, placed, action_turn, instruction_turn, instruction, flat_turn, frame_turn, requested, moved};
 ghost use Rattle.lvish_compound.specs.declared.event.Event.{Event};
 
-use crate::code::Code;
 use crate::evaluate::{evaluate, place_of, test_of, value_of, values_of};
 use crate::frame::Frame;
 use crate::frames::Frames;
 use crate::local::Local;
 use crate::remaining::Remaining;
+use crate::script_code::ScriptCode;
 use crate::stack::Stack;
 use crate::states::{put_at, read_at};
 use crate::values::Values;
@@ -27,7 +27,7 @@ pub const DEPTH: usize = 63;
 pub const TURNS: usize = 1000;
 
 impl Stack {
-    /// Into a frame above the others: a local statement.
+    /// Goes into a frame above the others, as a local statement.
     fn enter(&mut self, callee: Frame) -> Result<(), AllocError>
         requires { 0 < self.old.left }
         ensures { OnOk result (self.new ≡ record { left = self.old.left - 1; top = callee; below = self.old.top ∷ self.old.below }) }
@@ -39,7 +39,7 @@ impl Stack {
     }
 }
 
-impl Code {
+impl ScriptCode {
     /// The frame of a procedure that begins on the arguments, if there is one that takes them.
     fn callee(&self, procedure: usize, arguments: Vec<i64>) -> Result<Option<Frame>, AllocError>
         ensures { IfOk result (λ f. f ≡ callee self.now.flat procedure arguments.items) }
@@ -151,7 +151,7 @@ impl Code {
     }
 
     /// The call that an `each` makes on its next event.
-    pub(crate) fn hand(
+    pub(crate) fn call_on_event(
         &self,
         alloc: Global,
         local: &mut Stack,

@@ -19,12 +19,13 @@ impl Model for Values {
 }
 
 impl PartialEq for Values {
-    ghost use Rattle.lvish_task.specs.Equality.{values_eq, values_equivalence};
-    ghost use Rattle.std.specs.Cmp.{partial_equiv_from_equiv};
+    ghost use Rattle.std.specs.Ordering.{int_eq};
+    ghost use Rattle.std.specs.Cmp.{int_eq_equiv, partial_equiv_from_equiv};
+    ghost use Rattle.std.specs.Cmp.Lexicographic.{lists_equiv, pointwise};
 
-    ghost eq = { values_eq };
+    ghost eq = { pointwise int_eq };
 
-    ghost laws = { partial_equiv_from_equiv values_equivalence };
+    ghost laws = { partial_equiv_from_equiv (lists_equiv int_eq_equiv) };
 
     fn eq(&self, other: &Values) -> bool {
         self.items.as_slice() == other.items.as_slice()
@@ -32,13 +33,14 @@ impl PartialEq for Values {
 }
 
 impl Eq for Values {
-    ghost use Rattle.lvish_task.specs.Equality.{values_equivalence};
+    ghost use Rattle.std.specs.Cmp.{int_eq_equiv};
+    ghost use Rattle.std.specs.Cmp.Lexicographic.{lists_equiv};
 
-    ghost laws = { values_equivalence };
+    ghost laws = { lists_equiv int_eq_equiv };
 }
 
 impl Values {
-    /// These values, and zeros after them, so many in all.
+    /// These values, and zeros after them, `count` in all.
     pub fn new(mut values: Vec<i64>, count: usize) -> Result<Values, AllocError>
         requires { length values.items ≤ count }
         ensures { IfOk result (λ v. v ≡ values.items ++ replicate (count - length values.items) (pos 0)) }

@@ -5,10 +5,10 @@ use crate::request::request_text;
 use lvish_calculus::{Asks, Reply, Request};
 use lvish_compound::{Any, AnyRead};
 use lvish_lattice::Lattice;
-use lvish_task::{Code, Local};
+use lvish_task::{Local, ScriptCode};
 use std::alloc::{AllocError, Global};
 
-/// What a task is told: the answer of each get, and the state of each freeze.
+/// The replies that a task gets: the answer of each get, and the state of each freeze.
 #[derive(Drop)]
 pub struct Replies {
     pub answer: i64,
@@ -17,7 +17,7 @@ pub struct Replies {
 
 /// A task on its way.
 #[derive(Drop)]
-struct Task {
+struct RunningTask {
     /// What it asked for so far.
     text: String,
     local: Local,
@@ -26,11 +26,11 @@ struct Task {
 /// What a task asks for up to its end or fault.
 pub fn asked(
     alloc: Global,
-    code: &Code,
+    code: &ScriptCode,
     start: Local,
     replies: &Replies,
 ) -> Result<String, AllocError> {
-    let mut task = Task {
+    let mut task = RunningTask {
         text: String::new(alloc),
         local: start,
     };
@@ -42,12 +42,12 @@ pub fn asked(
     String::from_str(alloc, "no end")
 }
 
-impl Task {
+impl RunningTask {
     /// Adds what the task asks for, and goes on after the reply. Answers false at the end.
     fn goes_on(
         &mut self,
         alloc: Global,
-        code: &Code,
+        code: &ScriptCode,
         replies: &Replies,
     ) -> Result<bool, AllocError> {
         if !fits(code, &self.local) {
@@ -62,7 +62,7 @@ impl Task {
     fn goes_on_after(
         &mut self,
         alloc: Global,
-        code: &Code,
+        code: &ScriptCode,
         asks: &Asks<Any, AnyRead, Local>,
         replies: &Replies,
     ) -> Result<bool, AllocError> {
@@ -92,7 +92,7 @@ impl Task {
 
 fn replied(
     alloc: Global,
-    code: &Code,
+    code: &ScriptCode,
     asks: &Asks<Any, AnyRead, Local>,
     replies: &Replies,
 ) -> Result<Local, AllocError> {
@@ -107,7 +107,7 @@ fn reply_to(
 ) -> Result<Reply<Any, i64>, AllocError> {
     match request {
         Request::Get(_, _) => Ok(Reply::Answer(replies.answer)),
-        Request::Freeze(_, _) => Ok(Reply::Frozen(replies.frozen.copy(alloc)?)),
+        Request::Freeze(_, _) => Ok(Reply::Content(replies.frozen.copy(alloc)?)),
         _ => Ok(Reply::Done),
     }
 }

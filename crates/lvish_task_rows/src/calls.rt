@@ -2,18 +2,18 @@
 
 use lvish_calculus::{Asks, Program, Reply, Request};
 use lvish_compound::{Any, AnyRead, Event};
-use lvish_task::{Code, Local};
+use lvish_task::{Local, ScriptCode};
 use std::alloc::{AllocError, Global};
 
 /// The local state in which the first task starts.
-pub fn start_of(alloc: Global, code: &Code) -> Result<Local, AllocError> {
+pub fn start_of(alloc: Global, code: &ScriptCode) -> Result<Local, AllocError> {
     code.start(alloc)
 }
 
 /// The local state in which a procedure starts on an event.
 pub fn handled(
     alloc: Global,
-    code: &Code,
+    code: &ScriptCode,
     procedure: usize,
     event: &Event,
 ) -> Result<Local, AllocError> {
@@ -23,7 +23,7 @@ pub fn handled(
 /// What a task asks for in a local state.
 pub fn asks_of(
     alloc: Global,
-    code: &Code,
+    code: &ScriptCode,
     local: &Local,
 ) -> Result<Asks<Any, AnyRead, Local>, AllocError> {
     code.ask(alloc, local)
@@ -32,7 +32,7 @@ pub fn asks_of(
 /// The request that a task makes in a local state.
 pub fn request_of(
     alloc: Global,
-    code: &Code,
+    code: &ScriptCode,
     local: &Local,
 ) -> Result<Request<Any, AnyRead, Local>, AllocError> {
     let Asks { request, at: _ } = asks_of(alloc, code, local)?;
@@ -40,7 +40,7 @@ pub fn request_of(
 }
 
 /// The local state in which that request is made.
-pub fn at_of(alloc: Global, code: &Code, local: &Local) -> Result<Local, AllocError> {
+pub fn at_of(alloc: Global, code: &ScriptCode, local: &Local) -> Result<Local, AllocError> {
     let Asks { request: _, at } = asks_of(alloc, code, local)?;
     Ok(at)
 }
@@ -48,18 +48,18 @@ pub fn at_of(alloc: Global, code: &Code, local: &Local) -> Result<Local, AllocEr
 /// The local state after a reply.
 pub fn resumed(
     alloc: Global,
-    code: &Code,
+    code: &ScriptCode,
     at: &Local,
     reply: Reply<Any, i64>,
 ) -> Result<Local, AllocError> {
     code.resume(alloc, at, reply)
 }
 
-pub fn copied(alloc: Global, code: &Code, local: &Local) -> Result<Local, AllocError> {
+pub fn copied(alloc: Global, code: &ScriptCode, local: &Local) -> Result<Local, AllocError> {
     code.copy_local(alloc, local)
 }
 
-pub fn fits(code: &Code, local: &Local) -> bool {
+pub fn fits(code: &ScriptCode, local: &Local) -> bool {
     code.fits(local)
 }
 

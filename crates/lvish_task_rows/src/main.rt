@@ -12,17 +12,17 @@ mod flat;
 mod reader;
 mod refused;
 mod request;
-mod row;
 mod same;
 mod state;
 mod task;
+mod task_row;
 mod text;
 
 use reader::rows_of;
 use refused::refuse_file;
-use row::Row;
 use std::process::ExitCode;
 use std::{env, fs, io};
+use task_row::TaskRow;
 
 fn main(rt: HostRuntime) -> ExitCode {
     match run_all(&rt) {
@@ -69,8 +69,8 @@ fn is_file_as_expected(rt: &HostRuntime, name: &str) -> io::Result<bool> {
     let text = fs::read_to_string(rt, name)?;
     let rows = rows_of(rt.alloc(), text.as_str())?;
     let mut all = true;
-    for row in &rows {
-        let is_good = is_row_as_expected(rt, name, row)?;
+    for task_row in &rows {
+        let is_good = is_row_as_expected(rt, name, task_row)?;
         all = all && is_good;
     }
     if all {
@@ -82,11 +82,14 @@ fn is_file_as_expected(rt: &HostRuntime, name: &str) -> io::Result<bool> {
 }
 
 /// Whether the row is as expected, with a line for it if it isn't.
-fn is_row_as_expected(rt: &HostRuntime, file: &str, row: &Row) -> io::Result<bool> {
-    let answer = row.answer(rt.alloc())?;
-    if answer.as_str() == row.expected.as_str() {
+fn is_row_as_expected(rt: &HostRuntime, file: &str, task_row: &TaskRow) -> io::Result<bool> {
+    let answer = task_row.answer(rt.alloc())?;
+    if answer.as_str() == task_row.expected.as_str() {
         return Ok(true);
     }
-    rt.println(format_args!("{file}: {} -- {}: {answer}", row.name, row.question))?;
+    rt.println(format_args!(
+        "{file}: {} -- {}: {answer}",
+        task_row.name, task_row.question
+    ))?;
     Ok(false)
 }

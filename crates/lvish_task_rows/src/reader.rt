@@ -1,12 +1,12 @@
 //! Files of rows, line by line.
 
-use crate::row::Row;
+use crate::task_row::TaskRow;
 use crate::text::push_line;
 use std::alloc::{AllocError, Global};
 
 /// Where a line of a file belongs.
 #[derive(Clone, Copy)]
-enum Place {
+enum LinePlace {
     /// Above the lines of each row's script.
     Above,
     /// Below them.
@@ -20,8 +20,8 @@ enum Place {
 /// What was read of a file so far.
 #[derive(Drop)]
 struct Reader {
-    rows: Vec<Row>,
-    place: Place,
+    rows: Vec<TaskRow>,
+    place: LinePlace,
     above: String,
     below: String,
     name: String,
@@ -29,10 +29,10 @@ struct Reader {
 }
 
 /// The rows of a file.
-pub fn rows_of(alloc: Global, text: &str) -> Result<Vec<Row>, AllocError> {
+pub fn rows_of(alloc: Global, text: &str) -> Result<Vec<TaskRow>, AllocError> {
     let mut reader = Reader {
         rows: Vec::new(alloc),
-        place: Place::Above,
+        place: LinePlace::Above,
         above: String::new(alloc),
         below: String::new(alloc),
         name: String::new(alloc),
@@ -59,7 +59,7 @@ impl Reader {
 
     /// Begins an example: the lines of its script follow.
     fn begin(&mut self, alloc: Global, name: &str) -> Result<(), AllocError> {
-        self.place = Place::Script;
+        self.place = LinePlace::Script;
         self.name = String::from_str(alloc, name)?;
         self.script = String::new(alloc);
         Ok(())
@@ -67,8 +67,8 @@ impl Reader {
 
     /// Begins a row about the example's script: the lines of the answer follow.
     fn ask(&mut self, alloc: Global, question: &str) -> Result<(), AllocError> {
-        self.place = Place::Answer;
-        let row = Row {
+        self.place = LinePlace::Answer;
+        let row = TaskRow {
             name: self.name.clone()?,
             script: self.whole_script(alloc)?,
             question: String::from_str(alloc, question)?,
@@ -93,14 +93,14 @@ impl Reader {
     /// Keeps a line where it belongs.
     fn keep(&mut self, line: &str) -> Result<(), AllocError> {
         match self.place {
-            Place::Above if line == ".." => {
-                self.place = Place::Below;
+            LinePlace::Above if line == ".." => {
+                self.place = LinePlace::Below;
                 Ok(())
             }
-            Place::Above => push_line(&mut self.above, line),
-            Place::Below => push_line(&mut self.below, line),
-            Place::Script => push_line(&mut self.script, line),
-            Place::Answer => self.expect(line),
+            LinePlace::Above => push_line(&mut self.above, line),
+            LinePlace::Below => push_line(&mut self.below, line),
+            LinePlace::Script => push_line(&mut self.script, line),
+            LinePlace::Answer => self.expect(line),
         }
     }
 

@@ -3,7 +3,7 @@
 //! expected.
 
 use crate::reader::rows_of;
-use crate::row::Row;
+use crate::task_row::TaskRow;
 use lvish_refusals::{is_spared, refuse};
 use std::alloc::AllocError;
 use std::rt::Files;
@@ -35,7 +35,7 @@ pub fn refuse_file<R: AllocGlobal + Files + Print>(rt: &R, name: &str) -> io::Re
 fn refuse_row<R: AllocGlobal + Files + Print>(
     rt: &R,
     file: &str,
-    row: &Row,
+    row: &TaskRow,
 ) -> io::Result<(u64, u64)> {
     let mut others = 0u64;
     for number in 1..MOST_GROWTHS {
@@ -57,7 +57,7 @@ fn refuse_row<R: AllocGlobal + Files + Print>(
 /// then what is expected.
 fn is_right<R: AllocGlobal>(
     rt: &R,
-    row: &Row,
+    row: &TaskRow,
     answer: Result<String, AllocError>,
     is_last: bool,
 ) -> Result<bool, AllocError> {

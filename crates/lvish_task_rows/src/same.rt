@@ -3,12 +3,12 @@
 use crate::calls::{at_of, copied, fits, is_equal, request_of, resumed};
 use crate::request::request_text;
 use lvish_calculus::Reply;
-use lvish_task::{Code, Local};
+use lvish_task::{Local, ScriptCode};
 use std::alloc::{AllocError, Global};
 
 /// Whether a copy of a task's start equals it, and whether the local state does in which it asks a
 /// second time.
-pub fn copy_answer(alloc: Global, code: &Code, start: &Local) -> Result<String, AllocError> {
+pub fn copy_answer(alloc: Global, code: &ScriptCode, start: &Local) -> Result<String, AllocError> {
     let copy = is_copy_equal(alloc, code, start)?;
     let second = is_second_equal(alloc, code, start)?;
     format!(in alloc; "{}, then {}", equality(copy), equality(second))
@@ -18,25 +18,25 @@ fn equality(is_equal: bool) -> &'static str {
     if is_equal { "equal" } else { "different" }
 }
 
-fn is_copy_equal(alloc: Global, code: &Code, start: &Local) -> Result<bool, AllocError> {
+fn is_copy_equal(alloc: Global, code: &ScriptCode, start: &Local) -> Result<bool, AllocError> {
     let copy = copied(alloc, code, start)?;
     Ok(is_equal(&copy, start))
 }
 
-fn is_second_equal(alloc: Global, code: &Code, start: &Local) -> Result<bool, AllocError> {
+fn is_second_equal(alloc: Global, code: &ScriptCode, start: &Local) -> Result<bool, AllocError> {
     let next = after_done(alloc, code, start)?;
     let second = at_of(alloc, code, &next)?;
     Ok(is_equal(&second, start))
 }
 
 /// The local state after the request that a task makes, where the reply is Done.
-fn after_done(alloc: Global, code: &Code, local: &Local) -> Result<Local, AllocError> {
+fn after_done(alloc: Global, code: &ScriptCode, local: &Local) -> Result<Local, AllocError> {
     let at = at_of(alloc, code, local)?;
     resumed(alloc, code, &at, Reply::Done)
 }
 
 /// What a task asks for that doesn't fit, and stays as it is.
-pub fn stays(alloc: Global, code: &Code, local: &Local) -> Result<String, AllocError> {
+pub fn stays(alloc: Global, code: &ScriptCode, local: &Local) -> Result<String, AllocError> {
     if fits(code, local) {
         return String::from_str(alloc, "it fits");
     }
@@ -47,7 +47,7 @@ pub fn stays(alloc: Global, code: &Code, local: &Local) -> Result<String, AllocE
     request_text(alloc, &request)
 }
 
-fn is_next_equal(alloc: Global, code: &Code, local: &Local) -> Result<bool, AllocError> {
+fn is_next_equal(alloc: Global, code: &ScriptCode, local: &Local) -> Result<bool, AllocError> {
     let next = after_done(alloc, code, local)?;
     Ok(is_equal(&next, local))
 }

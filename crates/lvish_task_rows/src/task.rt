@@ -9,16 +9,16 @@ use crate::text::no_such_question;
 use lvish_calculus::{Program, Request};
 use lvish_compound::{Any, AnyRead, Event};
 use lvish_syntax::Script;
-use lvish_task::{Code, Local};
+use lvish_task::{Local, ScriptCode};
 use std::alloc::{AllocError, Global};
 
 /// The answer to a question about the tasks of a script.
 pub fn task_answer(alloc: Global, script: &Script, words: &[&str]) -> Result<String, AllocError> {
-    let code = Code::new(alloc, script)?;
+    let code = ScriptCode::new(alloc, script)?;
     answer_about(alloc, &code, words)
 }
 
-fn answer_about(alloc: Global, code: &Code, words: &[&str]) -> Result<String, AllocError> {
+fn answer_about(alloc: Global, code: &ScriptCode, words: &[&str]) -> Result<String, AllocError> {
     match words {
         [word] => plain_answer(alloc, code, word),
         ["pool", pool] => pool_answer(alloc, code, pool),
@@ -38,7 +38,7 @@ fn answer_about(alloc: Global, code: &Code, words: &[&str]) -> Result<String, Al
     }
 }
 
-fn plain_answer(alloc: Global, code: &Code, word: &str) -> Result<String, AllocError> {
+fn plain_answer(alloc: Global, code: &ScriptCode, word: &str) -> Result<String, AllocError> {
     match word {
         "variables" => format!(in alloc; "{}", code.variables()),
         "copy" => copy_answer(alloc, code, &start_of(alloc, code)?),
@@ -47,7 +47,7 @@ fn plain_answer(alloc: Global, code: &Code, word: &str) -> Result<String, AllocE
 }
 
 /// The variable of a pool.
-fn pool_answer(alloc: Global, code: &Code, word: &str) -> Result<String, AllocError> {
+fn pool_answer(alloc: Global, code: &ScriptCode, word: &str) -> Result<String, AllocError> {
     match number_of(word) {
         Some(pool) => format!(in alloc; "{:?}", code.pool_variable(pool)),
         None => no_such_question(alloc),
@@ -56,7 +56,7 @@ fn pool_answer(alloc: Global, code: &Code, word: &str) -> Result<String, AllocEr
 
 /// What the first task asks for, or the one that it forks first. Gets are answered by 7, and freezes
 /// by a cell with 7.
-fn first_answer(alloc: Global, code: &Code, which: &str) -> Result<String, AllocError> {
+fn first_answer(alloc: Global, code: &ScriptCode, which: &str) -> Result<String, AllocError> {
     let replies = Replies {
         answer: 7,
         frozen: Any::cell(7),
@@ -68,14 +68,17 @@ fn first_answer(alloc: Global, code: &Code, which: &str) -> Result<String, Alloc
     }
 }
 
-fn fork_answer(alloc: Global, code: &Code, replies: &Replies) -> Result<String, AllocError> {
+fn fork_answer(alloc: Global, code: &ScriptCode, replies: &Replies) -> Result<String, AllocError> {
     match forked(first_request(alloc, code)?) {
         Some(local) => asked(alloc, code, local, replies),
         None => String::from_str(alloc, "no fork"),
     }
 }
 
-fn first_request(alloc: Global, code: &Code) -> Result<Request<Any, AnyRead, Local>, AllocError> {
+fn first_request(
+    alloc: Global,
+    code: &ScriptCode,
+) -> Result<Request<Any, AnyRead, Local>, AllocError> {
     let start = start_of(alloc, code)?;
     request_of(alloc, code, &start)
 }
@@ -91,7 +94,7 @@ fn forked(request: Request<Any, AnyRead, Local>) -> Option<Local> {
 /// by 9, and freezes by a state.
 fn asks_answer(
     alloc: Global,
-    code: &Code,
+    code: &ScriptCode,
     event: Option<Event>,
     state: &[&str],
 ) -> Result<String, AllocError> {
@@ -113,7 +116,7 @@ fn replies_of(alloc: Global, state: &[&str]) -> Result<Option<Replies>, AllocErr
 /// What a task of a procedure that is no handler's asks for, where it doesn't fit, and stays as it is.
 fn nowhere_answer(
     alloc: Global,
-    code: &Code,
+    code: &ScriptCode,
     procedure: Option<usize>,
     event: Option<Event>,
 ) -> Result<String, AllocError> {

@@ -11,7 +11,7 @@ pub fn push_line(text: &mut String, line: &str) -> Result<(), AllocError> {
     Ok(())
 }
 
-/// The answer to a question that isn't there.
+/// The answer to a question that does not exist.
 pub fn no_such_question(alloc: Global) -> Result<String, AllocError> {
     String::from_str(alloc, "no such question")
 }

@@ -15,11 +15,11 @@ use Rattle.std.proofs.lemmas.Map.Made.{is_member-Decides, is_member-filter}
 use Rattle.lvish_lattice.specs.Lattice.{IsIdentity, HasEvents, fresh_of}
 use Rattle.lvish_names.specs.Names.{Name}
 use Rattle.lvish_variable.specs.declared.entry.Entry.{Entry}
-use Rattle.lvish_variable.specs.Variable.{View, logged, entries, IsKept, IsPut}
+use Rattle.lvish_variable.specs.Variable.{VariableView, logged, entries, IsLogOf, IsPut}
 
 -- ---- lists
 
-append_pairs : {X : Type 0} (R : X → X → Type 0) (xs ys : List X) → AllPairs R xs → AllPairs R ys → ((x y : X) → Contains xs x → Contains ys y → R x y) → AllPairs R (xs ++ ys)
+pub append_pairs : {X : Type 0} (R : X → X → Type 0) (xs ys : List X) → AllPairs R xs → AllPairs R ys → ((x y : X) → Contains xs x → Contains ys y → R x y) → AllPairs R (xs ++ ys)
 append_pairs R [] ys a b h i j d lt ins = b i j d lt ins
 append_pairs R (x ∷ xs) ys a b h i zero d lt ins = absurd (omega arith)
 append_pairs R (x ∷ xs) ys a b h zero (suc j) d lt ins =
@@ -38,7 +38,7 @@ logged-entries : {E : Type 0} (task : Name E) (number : ℕ) (es : List E) → l
 logged-entries task number [] = refl
 logged-entries task number (e ∷ es) = ap (λ z. e ∷ z) (logged-entries task number es)
 
-logged-append : {E : Type 0} (log : List (Entry E)) (task : Name E) (number : ℕ) (es : List E) → logged (log ++ entries task number es) ≡ logged log ++ es
+pub logged-append : {E : Type 0} (log : List (Entry E)) (task : Name E) (number : ℕ) (es : List E) → logged (log ++ entries task number es) ≡ logged log ++ es
 logged-append log task number es = map-append _ log (entries task number es) ∙ ap (λ z. logged log ++ z) (logged-entries task number es)
 
 -- a log with room made and the entries of one put appended
@@ -112,7 +112,7 @@ module _ {E : Type 0} {eq : E → E → Bool} (same : IsIdentity eq) (laws : IsE
 
     -- an accepted put keeps the log: each event of the state once and no other
     pub kept : {least : S} {cmp : E → E → Ordering} → IsTotalOrder cmp → HasEvents least join eq cmp events → (old put new : S) (log all : List (Entry E)) (task : Name E) (number : ℕ)
-        → join old put ≡ Some new → IsKept events old log → all ≡ log ++ entries task number (fresh_of join eq events old put) → IsKept events new all
+        → join old put ≡ Some new → IsLogOf events old log → all ≡ log ++ entries task number (fresh_of join eq events old put) → IsLogOf events new all
     kept {cmp = cmp} total law old put new log all task number j k is_all =
         let r = grown cmp total (logged log) (events old) (events put) (events new) (law.union old put new j) (law.ascending new) k.same k.once in
         let e : logged all ≡ logged log ++ beyond eq (events old) (events new) = ap (λ z. logged z) is_all ∙ logged-append log task number (fresh_of join eq events old put) ∙ ap (λ z. logged log ++ z) (fresh_is old put new j) in
@@ -126,7 +126,7 @@ module _ {E : Type 0} {eq : E → E → Bool} (same : IsIdentity eq) (laws : IsE
     none_fresh old put j = fresh_is old put old j ∙ none_of (is_member eq (events old)) (events old) (λ x c. (has (events old) x).1 c)
 
     -- a put that changes nothing is accepted, and the variable stays as it is
-    pub unchanged : (task : Name E) (number : ℕ) (put : S) (v : View S E) → join v.state put ≡ Some v.state → IsPut join eq events task number put v v
+    pub unchanged : (task : Name E) (number : ℕ) (put : S) (v : VariableView S E) → join v.state put ≡ Some v.state → IsPut join eq events task number put v v
     unchanged task number put v j = record {
       joined = j;
       mark = refl;

@@ -2,8 +2,8 @@
 //!
 //! A put joins to the state. The events that it brings, and that weren't there before, go onto
 //! the log in ascending order, each with the task that put it and the number of this put among
-//! that task's. So the log has each event of the state once, in the order in which they came: who
-//! handles events one by one goes along the log, and never looks at the state. After a freeze
+//! that task's. So the log has each event of the state once, in the order in which they came:
+//! whoever handles events one by one follows the log, and never looks at the state. After a freeze
 //! only puts that change nothing are accepted (Kuper, Turon, Krishnaswami, Newton, POPL 2014).
 //!
 //! ```text

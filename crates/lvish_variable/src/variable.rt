@@ -1,5 +1,5 @@
 ghost use Rattle.std.specs.Prelude.{◌≡◌, [], false, true, Some, IsTrue, IfOk, IfErr};
-ghost use Rattle.lvish_variable.specs.Variable.{IsKept, IsPut, IsRefused};
+ghost use Rattle.lvish_variable.specs.Variable.{IsLogOf, IsPut, IsPutRefused};
 
 use crate::entry::{Entry, entries_of};
 use crate::put_fault::PutFault;
@@ -17,13 +17,13 @@ pub struct Variable<L: Lattice> {
 }
 
 impl<L: Lattice> Model for Variable<L> {
-    ghost use Rattle.lvish_variable.specs.Variable.{View, IsKept};
+    ghost use Rattle.lvish_variable.specs.Variable.{VariableView, IsLogOf};
 
-    ghost Value = { View L L.Event };
+    ghost Value = { VariableView L L.Event };
 
     ghost view = { λ v. record { state = v.state; frozen = v.frozen; log = v.log.items } };
 
-    ghost invariant = { λ v. IsKept L.events_of v.state v.log.items };
+    ghost invariant = { λ v. IsLogOf L.events_of v.state v.log.items };
 }
 
 impl<L: Lattice> Variable<L> {
@@ -38,7 +38,8 @@ impl<L: Lattice> Variable<L> {
         }
     }
 
-    /// Joins `put` to the state, and logs the events that it brings: the task's put of this number.
+    /// Joins `put` to the state, and logs the events that it brings, as the task's put of that
+    /// number.
     ///
     /// # Errors
     ///
@@ -52,7 +53,7 @@ impl<L: Lattice> Variable<L> {
         put: &L,
     ) -> Result<(), PutFault>
         ensures ok { IfOk result (λ _. IsPut L.joined L.Event.eq L.events_of task.now number put.now self.old self.new) }
-        ensures why { IfErr result (λ f. IsRefused L.joined put.now self.old f) }
+        ensures why { IfErr result (λ f. IsPutRefused L.joined put.now self.old f) }
         ensures refused { IfErr result (λ _. self.new ≡ self.old) }
     {
         if self.frozen {
@@ -73,7 +74,7 @@ impl<L: Lattice> Variable<L> {
     fn allow(&self, alloc: Global, put: &L) -> Result<(), PutFault>
         requires { IsTrue self.now.frozen }
         ensures ok { IfOk result (λ _. L.joined self.now.state put.now ≡ Some self.now.state) }
-        ensures why { IfErr result (λ f. IsRefused L.joined put.now self.now f) }
+        ensures why { IfErr result (λ f. IsPutRefused L.joined put.now self.now f) }
     {
         if put.leq(&self.state) {
             return Ok(());
@@ -114,7 +115,7 @@ impl<L: Lattice> Variable<L> {
     /// The events of the state, each once, in the order in which they came.
     pub fn log(&self) -> &[Entry<L::Event>]
         ensures log { result.now ≡ self.now.log }
-        ensures kept { IsKept L.events_of self.now.state self.now.log }
+        ensures kept { IsLogOf L.events_of self.now.state self.now.log }
     {
         &self.log
     }

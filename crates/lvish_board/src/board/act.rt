@@ -1,84 +1,84 @@
 //! A task's step.
 
 ghost use Rattle.std.specs.Prelude.{◌≡◌, ◌≢◌, ◌++◌, ◌∷◌, ◌↔◌, ◌⊎◌, [], true, false, None, Some, IsSome, IsTrue};
-ghost use Rattle.lvish_calculus.specs.declared.label.Label.TheVariants.{Task};
+ghost use Rattle.lvish_calculus.specs.declared.label.Label.TheVariants.{Act};
 ghost use Rattle.lvish_board.specs.declared.work.Work.TheVariants.{Act as ActOn};
 ghost use Rattle.lvish_board.specs.Acts.{entry_of, is_step, is_gone, is_over, is_stale, is_parked, GivesBack, IsDone, ListsWork, KeepsAtMemory};
 ghost use Rattle.lvish_board.specs.Woken.{IsParkedBeside};
 
 use super::Board;
-use crate::act::Act;
+use crate::acted::Acted;
 use crate::asked::Asked;
 use crate::named::Named;
 use crate::outcome::Outcome;
 use crate::work::Work;
 use lvish_calculus::{Meaning, Program};
-use lvish_core::Runs;
+use lvish_core::CoreMeaning;
 use std::alloc::Global;
 
 impl<'p, P: Program, J: Named<P>> Board<'p, P, J> {
     /// Makes what the task asks for, by this worker.
-    pub fn act(&mut self, alloc: Global, worker: usize, asked: Asked<P, J>) -> Act<P, J>
+    pub fn act(&mut self, alloc: Global, worker: usize, asked: Asked<P, J>) -> Acted<P, J>
         // Without a step neither the trace nor the core changes.
         ensures stays { is_step result ≡ false → (self.new.trace ≡ self.old.trace) × (self.new.core ≡ self.old.core) }
         // A step adds itself to the trace.
-        ensures step { is_step result ≡ true → self.new.trace ≡ self.old.trace ++ entry_of worker (Task asked.task) ∷ [] }
+        ensures step { is_step result ≡ true → self.new.trace ≡ self.old.trace ++ entry_of worker (Act asked.task) ∷ [] }
         // The task has ended by it or met an error.
         ensures gone { is_step result ≡ true → (is_gone result ≡ true) ↔ IsDone (⟦<P as Meaning>⟧.machine J.program) self.new.core asked.task }
-        ensures list { ListsWork P.Lat.Event.cmp (⟦<P as Meaning>⟧.machine J.program) self.old (Task asked.task) self.new result }
+        ensures list { ListsWork P.Lat.Event.cmp (⟦<P as Meaning>⟧.machine J.program) self.old (Act asked.task) self.new result }
         // A board that is over stays as it is.
         ensures over { is_over result ≡ true → IsSome self.new.over }
-        ensures done { IsSome self.old.over → (result ≡ Act.Over) × (self.new ≡ self.old) }
-        ensures stale { is_stale result ≡ true → (⟦<P as Runs>⟧.local_in self.old.core asked.task ≢ Some asked.from) × (self.new ≡ self.old) }
-        ensures parked { is_parked result ≡ true → (⟦<P as Runs>⟧.can_take self.old.core (Task asked.task) → ⊥) × IsParkedBeside self.old.parked asked self.new.parked }
+        ensures done { IsSome self.old.over → (result ≡ Acted.Over) × (self.new ≡ self.old) }
+        ensures stale { is_stale result ≡ true → (⟦<P as CoreMeaning>⟧.local_in self.old.core asked.task ≢ Some asked.from) × (self.new ≡ self.old) }
+        ensures parked { is_parked result ≡ true → (⟦<P as CoreMeaning>⟧.can_take self.old.core (Act asked.task) → ⊥) × IsParkedBeside self.old.parked asked self.new.parked }
         ensures memory { GivesBack (ActOn asked) result × KeepsAtMemory self.old self.new result }
     {
         if self.over.is_some() {
-            return Act::Over;
+            return Acted::Over;
         }
         if !self.is_current(&asked) {
-            return Act::Stale;
+            return Acted::Stale;
         }
         if !self.can_go_on(&asked) {
             return self.park(alloc, asked);
         }
         if self.trace.len() as u64 >= self.budget {
             self.over = Some(Outcome::Budget);
-            return Act::Over;
+            return Acted::Over;
         }
         self.make(alloc, worker, asked)
     }
 
     /// Whether the task is there, in the local state in which it asks.
     fn is_current(&self, asked: &Asked<P, J>) -> bool
-        ensures { IsTrue result ↔ (⟦<P as Runs>⟧.local_in self.now.core asked.now.task ≡ Some asked.now.from) }
+        ensures { IsTrue result ↔ (⟦<P as CoreMeaning>⟧.local_in self.now.core asked.now.task ≡ Some asked.now.from) }
     {
         self.core.local_of(asked.task()) == Some(asked.from())
     }
 
     /// Whether the step of a task can be made.
     fn can_go_on(&self, asked: &Asked<P, J>) -> bool
-        requires current { ⟦<P as Runs>⟧.local_in self.now.core asked.now.task ≡ Some asked.now.from }
-        ensures { IsTrue result ↔ ⟦<P as Runs>⟧.can_take self.now.core (Task asked.now.task) }
+        requires current { ⟦<P as CoreMeaning>⟧.local_in self.now.core asked.now.task ≡ Some asked.now.from }
+        ensures { IsTrue result ↔ ⟦<P as CoreMeaning>⟧.can_take self.now.core (Act asked.now.task) }
     {
         self.core.can(asked.task(), &asked.asks().request)
     }
 
-    /// Keeps a task that can't go on.
-    fn park(&mut self, alloc: Global, asked: Asked<P, J>) -> Act<P, J>
+    /// Parks a blocked task.
+    fn park(&mut self, alloc: Global, asked: Asked<P, J>) -> Acted<P, J>
         requires running { self.old.over ≡ None }
-        requires current { ⟦<P as Runs>⟧.local_in self.old.core asked.task ≡ Some asked.from }
-        requires blocked { ⟦<P as Runs>⟧.can_take self.old.core (Task asked.task) → ⊥ }
+        requires current { ⟦<P as CoreMeaning>⟧.local_in self.old.core asked.task ≡ Some asked.from }
+        requires blocked { ⟦<P as CoreMeaning>⟧.can_take self.old.core (Act asked.task) → ⊥ }
         ensures stays { (self.new.trace ≡ self.old.trace) × (self.new.core ≡ self.old.core) }
-        ensures parked { (result ≡ Act.Parked) → IsParkedBeside self.old.parked asked self.new.parked }
-        ensures memory { (result ≡ Act.Parked) ⊎ ((result ≡ Act.Memory (ActOn asked)) × (self.new ≡ self.old)) }
+        ensures parked { (result ≡ Acted.Parked) → IsParkedBeside self.old.parked asked self.new.parked }
+        ensures memory { (result ≡ Acted.Parked) ⊎ ((result ≡ Acted.Memory (ActOn asked)) × (self.new ≡ self.old)) }
     {
         match self.parked.park(alloc, asked) {
             Ok(()) => {
                 self.settle();
-                Act::Parked
+                Acted::Parked
             }
-            Err(asked) => Act::Memory(Work::Act(asked)),
+            Err(asked) => Acted::Memory(Work::Act(asked)),
         }
     }
 }

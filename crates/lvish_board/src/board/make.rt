@@ -1,67 +1,58 @@
 //! The making of a task's step.
 
-ghost use Rattle.std.specs.Prelude.{◌≡◌, ◌<◌, ◌++◌, ◌∷◌, ◌↔◌, [], true, false, length, None, Some, option_and_then};
-ghost use Rattle.lvish_calculus.specs.declared.label.Label.TheVariants.{Task};
+ghost use Rattle.std.specs.Prelude.{◌≡◌, ◌<◌, ◌++◌, ◌∷◌, ◌↔◌, [], true, false, length, None, Some, IfOk, MatchResult, option_and_then, vec_len, vec_capacity};
+ghost use Rattle.lvish_calculus.specs.declared.label.Label.TheVariants.{Act};
 ghost use Rattle.lvish_board.specs.declared.work.Work.TheVariants.{Act as ActOn};
 ghost use Rattle.lvish_board.specs.Acts.{entry_of, is_step, is_gone, IsDone, ListsWork};
 
 use super::Board;
-use crate::act::Act;
+use crate::acted::Acted;
 use crate::asked::Asked;
-use crate::entry::Entry;
 use crate::list::{leave, left_by};
 use crate::named::Named;
 use crate::outcome::Outcome;
+use crate::trace_entry::TraceEntry;
 use crate::work::Work;
 use lvish_calculus::laws::lawful;
-use lvish_calculus::{Label, Meaning, Program};
+use lvish_calculus::{ErrorKind, Label, Meaning, Program};
 use lvish_core::laws::{passes_at_its_spot, waiting_tasks};
-use lvish_core::{Core, Runs, Stepped};
-use std::alloc::Global;
+use lvish_core::{Core, CoreMeaning, Moved, StepFault, Stepped};
+use lvish_lattice::{Lattice, Plain};
+use lvish_names::TaskName;
+use std::alloc::{AllocError, Global};
 
 impl<'p, P: Program, J: Named<P>> Board<'p, P, J> {
     /// Makes the step of a task that can go on.
-    pub(super) fn make(&mut self, alloc: Global, worker: usize, asked: Asked<P, J>) -> Act<P, J>
+    pub(super) fn make(&mut self, alloc: Global, worker: usize, asked: Asked<P, J>) -> Acted<P, J>
         requires running { self.old.over ≡ None }
         requires room { length self.old.trace < J.budget }
-        requires current { ⟦<P as Runs>⟧.local_in self.old.core asked.task ≡ Some asked.from }
-        requires can { ⟦<P as Runs>⟧.can_take self.old.core (Task asked.task) }
-        ensures kept { is_step result ≡ false → (result ≡ Act.Memory (ActOn asked)) × (self.new ≡ self.old) }
-        ensures step { is_step result ≡ true → self.new.trace ≡ self.old.trace ++ entry_of worker (Task asked.task) ∷ [] }
+        requires current { ⟦<P as CoreMeaning>⟧.local_in self.old.core asked.task ≡ Some asked.from }
+        requires can { ⟦<P as CoreMeaning>⟧.can_take self.old.core (Act asked.task) }
+        ensures kept { is_step result ≡ false → (result ≡ Acted.Memory (ActOn asked)) × (self.new ≡ self.old) }
+        ensures step { is_step result ≡ true → self.new.trace ≡ self.old.trace ++ entry_of worker (Act asked.task) ∷ [] }
         ensures gone { is_step result ≡ true → (is_gone result ≡ true) ↔ IsDone (⟦<P as Meaning>⟧.machine J.program) self.new.core asked.task }
-        ensures list { ListsWork P.Lat.Event.cmp (⟦<P as Meaning>⟧.machine J.program) self.old (Task asked.task) self.new result }
+        ensures list { ListsWork P.Lat.Event.cmp (⟦<P as Meaning>⟧.machine J.program) self.old (Act asked.task) self.new result }
     {
         lawful::<P>();
         waiting_tasks::<P>();
         passes_at_its_spot::<P>();
         let Ok(logged) = self.room.reserve_for(&self.core, self.parked.len(), &asked) else {
-            return Act::Memory(Work::Act(asked));
+            return Acted::Memory(Work::Act(asked));
         };
-        let Ok(name) = asked.task().copy() else {
-            return Act::Memory(Work::Act(asked));
-        };
-        let Ok(()) = self.trace.reserve(1) else {
-            return Act::Memory(Work::Act(asked));
+        let Ok(entry) = task_entry(&mut self.trace, worker, asked.task()) else {
+            return Acted::Memory(Work::Act(asked));
         };
         has_all_variables(&self.core);
-        let Ok((stepped, moved)) = self.core.step_asked(alloc, asked.task(), asked.asks()) else {
-            return Act::Memory(Work::Act(asked));
+        let Ok((stepped, moved)) = step(alloc, &mut self.core, &mut self.trace, entry, &asked)
+        else {
+            return Acted::Memory(Work::Act(asked));
         };
         has_all_variables(&self.core);
-        self.trace.push_reserved(Entry {
-            worker,
-            label: Label::Task(name),
-        });
         match stepped {
             Stepped::Error(kind) => {
                 drop(moved);
-                let nothing = Vec::new(alloc);
-                self.over = Some(Outcome::Error {
-                    kind,
-                    variable: variable_of(&self.core),
-                    task: asked.into_task(),
-                });
-                Act::Gone(nothing)
+                self.over = Some(error_outcome(&self.core, kind, asked));
+                Acted::Gone(Vec::new(alloc))
             }
             Stepped::Done => {
                 let left = left_by(asked, moved);
@@ -76,20 +67,74 @@ impl<'p, P: Program, J: Named<P>> Board<'p, P, J> {
                 );
                 self.settle();
                 if goes_on {
-                    Act::Next(list)
+                    Acted::Next(list)
                 } else {
-                    Act::Gone(list)
+                    Acted::Gone(list)
                 }
             }
         }
     }
 }
 
-/// The variable of the core's error, if it has one.
-fn variable_of<P: Program>(core: &Core<'_, P>) -> Option<usize>
-    ensures { result ≡ option_and_then (λ f. f.variable) core.now.fault }
+/// The entry of a task's step, for which the trace has room.
+///
+/// # Errors
+///
+/// Where there is no room for it, or for a copy of the name; the trace is as it was.
+fn task_entry<E: Plain>(
+    trace: &mut Vec<TraceEntry<E>>,
+    worker: usize,
+    task: &TaskName<E>,
+) -> Result<TraceEntry<E>, AllocError>
+    ensures entry { IfOk result (λ e. e ≡ entry_of worker (Act task.now)) }
+    ensures room { IfOk result (λ _. vec_len trace.new < vec_capacity trace.new) }
+    ensures same { trace.new.items ≡ trace.old.items }
 {
-    core.fault().and_then(|fault| fault.variable)
+    let name = task.copy()?;
+    trace.reserve(1)?;
+    Ok(TraceEntry {
+        worker,
+        label: Label::Act(name),
+    })
+}
+
+/// Makes the task's step, and writes it down.
+///
+/// # Errors
+///
+/// Where there is no room for it; nothing has changed.
+fn step<P: Program, J: Named<P>>(
+    alloc: Global,
+    core: &mut Core<'_, P>,
+    trace: &mut Vec<TraceEntry<<P::Lat as Lattice>::Event>>,
+    entry: TraceEntry<<P::Lat as Lattice>::Event>,
+    asked: &Asked<P, J>,
+) -> Result<(Stepped, Moved<<P::Lat as Lattice>::Event, P::Local>), StepFault>
+    requires program { core.old.program ≡ J.program }
+    requires current { ⟦<P as CoreMeaning>⟧.local_in core.old asked.now.task ≡ Some asked.now.from }
+    requires room { vec_len trace.old < vec_capacity trace.old }
+    ensures stepped { MatchResult result (λ s. ⟦<P as CoreMeaning>⟧.is_step core.old (Act asked.now.task) core.new s.0) (λ _. core.new ≡ core.old) }
+    ensures moved { IfOk result (λ s. ⟦<P as CoreMeaning>⟧.is_moved core.old (Act asked.now.task) s.1) }
+    ensures written { MatchResult result (λ _. trace.new.items ≡ trace.old.items ++ entry ∷ []) (λ _. trace.new ≡ trace.old) }
+{
+    let stepped = core.step_asked(alloc, asked.task(), asked.asks())?;
+    trace.push_reserved(entry);
+    Ok(stepped)
+}
+
+/// How a run is over whose last step, the task's, gave an error.
+fn error_outcome<P: Program, J: Named<P>>(
+    core: &Core<'_, P>,
+    kind: ErrorKind,
+    asked: Asked<P, J>,
+) -> Outcome<<P::Lat as Lattice>::Event>
+    ensures { result ≡ Outcome.Error kind (option_and_then (λ f. f.variable) core.now.fault) asked.task }
+{
+    Outcome::Error {
+        kind,
+        variable: core.fault().and_then(|fault| fault.variable),
+        task: asked.into_task(),
+    }
 }
 
 /// A core has the variables of its program, whatever steps it has made.

@@ -9,8 +9,8 @@ use crate::line::Line;
 use crate::version::{is_line_in, is_told, version_of};
 use lvish_syntax::Version;
 
-/// Whether a line has none of the forms, or stands below one that it may not stand below: a line with
-/// words above the line of the version, or a procedure above a declaration.
+/// Whether a line has none of the forms, or stands where it may not: the line of the version below
+/// a line with words, or a declaration below a procedure.
 fn is_out_of_place(told: bool, begun: bool, line: &Line) -> bool
     ensures { (before : List Line) → told ≡ list_any is_told before → begun ≡ list_any is_procedure before → result ≡ is_out_of_place before line.now }
 {

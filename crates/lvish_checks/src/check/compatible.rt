@@ -8,7 +8,7 @@ ghost use Rattle.lvish_checks.specs.Checks.{command_mixes, declarations, mixes, 
 ghost use Rattle.lvish_checks.specs.Known.{AreKinds};
 
 use crate::fit::is_apart;
-use crate::kinds::{Kinds, kinds_of};
+use crate::kinds_by_name::{KindsByName, kinds_of};
 use crate::line::Line;
 use lvish_syntax::{Command, SimpleKind, Threshold};
 use std::alloc::{AllocError, Global};
@@ -23,7 +23,7 @@ fn keeps_apart(kind: Option<SimpleKind>, threshold: &Threshold) -> bool
     }
 }
 
-fn command_mixes(kinds: &Kinds, command: &Command) -> bool
+fn command_mixes(kinds: &KindsByName, command: &Command) -> bool
     ensures { (ds : List Declaration) → AreKinds kinds.now.variables ds → result ≡ command_mixes ds command.now }
 {
     match command {
@@ -35,7 +35,7 @@ fn command_mixes(kinds: &Kinds, command: &Command) -> bool
     }
 }
 
-fn mixes(kinds: &Kinds, line: &Line) -> bool
+fn mixes(kinds: &KindsByName, line: &Line) -> bool
     ensures { (lines : List Line) → AreKinds kinds.now.variables (declarations lines) → result ≡ mixes lines line.now }
 {
     match line {

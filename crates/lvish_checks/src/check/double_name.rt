@@ -8,11 +8,11 @@ ghost use Rattle.lvish_checks.specs.Known.{AreVariables, ArePools, AreProcedures
 use crate::declared::Declared;
 use crate::line::Line;
 use crate::name_set::NameSet;
-use lvish_syntax::{Declaration, Name};
+use lvish_syntax::{Declaration, Identifier};
 use std::alloc::{AllocError, Global};
 
 /// Whether a name stands twice.
-fn has_repeat(alloc: Global, names: &[Name]) -> Result<bool, AllocError>
+fn has_repeat(alloc: Global, names: &[Identifier]) -> Result<bool, AllocError>
     ensures { IfOk result (λ found. found ≡ has_repeat names.now) }
 {
     let mut seen = NameSet::new(alloc);

@@ -9,11 +9,12 @@ use crate::open_blocks::OpenBlocks;
 use lvish_syntax::Declaration;
 use std::alloc::{AllocError, Global};
 
+/// How many variables, pools and procedures there may be, and how many blocks may be open.
 const MOST: usize = 64;
 
 /// How many variables, pools and procedures lines declare, and what is open below them.
 #[derive(Drop)]
-struct Tally {
+struct LineCounts {
     variables: usize,
     pools: usize,
     procedures: usize,
@@ -21,7 +22,7 @@ struct Tally {
 }
 
 /// Whether a line passes a limit below lines with this tally.
-fn is_past_limit(tally: &Tally, line: &Line) -> bool
+fn is_past_limit(tally: &LineCounts, line: &Line) -> bool
     ensures { (before : List Line) → tally.now.variables ≡ count_by is_variable before → tally.now.pools ≡ count_by is_pool before → tally.now.procedures ≡ count_by is_procedure before → tally.now.opened ≡ open_after [] before → result ≡ is_past_limit before line.now }
 {
     match line {
@@ -48,7 +49,7 @@ fn counted(count: usize, one_more: bool) -> usize
 pub fn first_too_many(alloc: Global, lines: &[Line]) -> Result<Option<usize>, AllocError>
     ensures { IfOk result (λ found. IsFirstOn (on_line (line_fails TooMany lines.now) lines.now) found) }
 {
-    let mut tally = Tally {
+    let mut tally = LineCounts {
         variables: 0,
         pools: 0,
         procedures: 0,

@@ -12,11 +12,11 @@ ghost use Rattle.lvish_checks.specs.Known.{AreVariables, ArePools, AreProcedures
 use crate::declared::{Declared, declared_by, is_procedure};
 use crate::line::Line;
 use crate::name_set::NameSet;
-use lvish_syntax::{Command, Declaration, Name, Term, Threshold, Value};
+use lvish_syntax::{Command, Declaration, Identifier, LetValue, Term, Threshold};
 use std::alloc::{AllocError, Global};
 
 /// The local to which a statement gives a value.
-fn command_bound(command: &Command) -> Option<&Name>
+fn command_bound(command: &Command) -> Option<&Identifier>
     ensures { option_map_or (λ x. x.now ∷ []) result [] ≡ command_binds command.now }
 {
     match command {
@@ -30,7 +30,7 @@ fn command_bound(command: &Command) -> Option<&Name>
 }
 
 /// The local to which a line gives a value.
-fn bound(line: &Line) -> Option<&Name>
+fn bound(line: &Line) -> Option<&Identifier>
     ensures { option_map_or (λ x. x.now ∷ []) result [] ≡ binds line.now }
 {
     match line {
@@ -42,7 +42,7 @@ fn bound(line: &Line) -> Option<&Name>
 /// The locals of a procedure with these parameters, whose statements begin the lines.
 fn locals_of<'a>(
     alloc: Global,
-    parameters: &'a [Name],
+    parameters: &'a [Identifier],
     lines: &'a [Line],
 ) -> Result<NameSet<'a>, AllocError>
     ensures { IfOk result (λ locals. HaveSameNames locals (parameters.now ++ binds_until_procedure lines.now)) }
@@ -82,12 +82,12 @@ fn are_known(locals: &NameSet, terms: &[Term]) -> bool
     true
 }
 
-fn is_value_known(locals: &NameSet, value: &Value) -> bool
+fn is_value_known(locals: &NameSet, value: &LetValue) -> bool
     ensures { (names : List Word) → HaveSameNames locals.now names → result ≡ is_value_known names value.now }
 {
     match value {
-        Value::Same(term) => is_known(locals, term),
-        Value::Combined(left, _, right) => is_known(locals, left) && is_known(locals, right),
+        LetValue::Same(term) => is_known(locals, term),
+        LetValue::Combined(left, _, right) => is_known(locals, left) && is_known(locals, right),
     }
 }
 
@@ -102,7 +102,7 @@ fn is_threshold_known(locals: &NameSet, threshold: &Threshold) -> bool
     }
 }
 
-fn are_pools(declared: &Declared, names: &[Name]) -> bool
+fn are_pools(declared: &Declared, names: &[Identifier]) -> bool
     ensures { (lines : List Line) → ArePools declared.now.pools lines → result ≡ list_all (λ p. has_pool p lines) names.now }
 {
     for name in names {
@@ -195,7 +195,8 @@ fn locals_below<'a>(
     Ok(locals)
 }
 
-/// The first of these lines that names what isn't among those declared, or a local that its procedure hasn't.
+/// The first of these lines that names what isn't among those declared, or a local that its
+/// procedure does not have.
 fn first_unknown_of(
     alloc: Global,
     lines: &[Line],
@@ -219,7 +220,7 @@ fn first_unknown_of(
     Ok(None)
 }
 
-/// The first line that names what isn't declared, or a local that its procedure hasn't.
+/// The first line that names what isn't declared, or a local that its procedure does not have.
 pub fn first_unknown_name(alloc: Global, lines: &[Line]) -> Result<Option<usize>, AllocError>
     ensures { IfOk result (λ found. IsFirstOn (on_line (line_fails UnknownName lines.now) lines.now) found) }
 {

@@ -6,12 +6,12 @@ ghost use Rattle.lvish_checks.specs.Known.{AreArities};
 
 use crate::declared::arities_of;
 use crate::line::Line;
-use crate::table::Table;
-use lvish_syntax::{Command, Name};
+use crate::name_table::NameTable;
+use lvish_syntax::{Command, Identifier};
 use std::alloc::{AllocError, Global};
 
 /// Whether the procedure is declared, and has another number of parameters.
-fn has_other_count(arities: &Table<usize>, procedure: &Name, count: usize) -> bool
+fn has_other_count(arities: &NameTable<usize>, procedure: &Identifier, count: usize) -> bool
     ensures { (lines : List Line) → AreArities arities.now lines → result ≡ has_other_count lines procedure.now count }
 {
     match arities.get(procedure) {
@@ -20,7 +20,7 @@ fn has_other_count(arities: &Table<usize>, procedure: &Name, count: usize) -> bo
     }
 }
 
-fn command_miscounts(arities: &Table<usize>, command: &Command) -> bool
+fn command_miscounts(arities: &NameTable<usize>, command: &Command) -> bool
     ensures { (lines : List Line) → AreArities arities.now lines → result ≡ command_miscounts lines command.now }
 {
     match command {
@@ -34,7 +34,7 @@ fn command_miscounts(arities: &Table<usize>, command: &Command) -> bool
     }
 }
 
-fn miscounts(arities: &Table<usize>, line: &Line) -> bool
+fn miscounts(arities: &NameTable<usize>, line: &Line) -> bool
     ensures { (lines : List Line) → AreArities arities.now lines → result ≡ miscounts lines line.now }
 {
     match line {

@@ -5,12 +5,12 @@ ghost use Rattle.lvish_checks.specs.declared.fault.Fault.TheVariants.{WrongKind}
 ghost use Rattle.lvish_checks.specs.Checks.{command_misfits, declarations, misfits, line_fails, on_line, IsFirstOn};
 ghost use Rattle.lvish_checks.specs.Known.{AreKinds, AreOfPools};
 
-use crate::kinds::{Kinds, kinds_of};
+use crate::kinds_by_name::{KindsByName, kinds_of};
 use crate::line::Line;
 use lvish_syntax::Command;
 use std::alloc::{AllocError, Global};
 
-fn command_misfits(kinds: &Kinds, command: &Command) -> bool
+fn command_misfits(kinds: &KindsByName, command: &Command) -> bool
     ensures { (ds : List Declaration) → AreKinds kinds.now.variables ds → AreOfPools kinds.now.pools ds → result ≡ command_misfits ds command.now }
 {
     match command {
@@ -28,7 +28,7 @@ fn command_misfits(kinds: &Kinds, command: &Command) -> bool
     }
 }
 
-fn misfits(kinds: &Kinds, line: &Line) -> bool
+fn misfits(kinds: &KindsByName, line: &Line) -> bool
     ensures { (lines : List Line) → AreKinds kinds.now.variables (declarations lines) → AreOfPools kinds.now.pools (declarations lines) → result ≡ misfits lines line.now }
 {
     match line {

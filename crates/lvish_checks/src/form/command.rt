@@ -13,7 +13,7 @@ use crate::form::term::{operator_of, term_of, terms_of};
 use crate::form::threshold::threshold_of;
 use crate::line::Line;
 use crate::word::is_name;
-use lvish_syntax::{Command, Name, Terms, Value};
+use lvish_syntax::{Command, Identifier, LetValue, Terms};
 use std::alloc::{AllocError, Global};
 
 /// The line of a statement, where there is one.
@@ -32,7 +32,7 @@ fn combined(
     left: &[u8],
     operator: &[u8],
     right: &[u8],
-) -> Result<Option<Value>, AllocError>
+) -> Result<Option<LetValue>, AllocError>
     ensures { IfOk result (λ v. v ≡ value_of (left.now ∷ operator.now ∷ right.now ∷ [])) }
 {
     let Some(left) = term_of(alloc, left)? else {
@@ -42,17 +42,17 @@ fn combined(
         return Ok(None);
     };
     match term_of(alloc, right)? {
-        Some(right) => Ok(Some(Value::Combined(left, operator, right))),
+        Some(right) => Ok(Some(LetValue::Combined(left, operator, right))),
         None => Ok(None),
     }
 }
 
-fn value_of(alloc: Global, words: &[&[u8]]) -> Result<Option<Value>, AllocError>
+fn value_of(alloc: Global, words: &[&[u8]]) -> Result<Option<LetValue>, AllocError>
     ensures { IfOk result (λ v. v ≡ value_of (map (λ w. w.now) words.now)) }
 {
     match words {
         [word] => match term_of(alloc, word)? {
-            Some(term) => Ok(Some(Value::Same(term))),
+            Some(term) => Ok(Some(LetValue::Same(term))),
             None => Ok(None),
         },
         [left, operator, right] => combined(alloc, left, operator, right),
@@ -72,7 +72,7 @@ fn let_line(alloc: Global, words: &[&[u8]]) -> Result<Line, AllocError>
             }
             match value_of(alloc, rest)? {
                 Some(value) => {
-                    let command = Command::Let(Name::new(alloc, local)?, value);
+                    let command = Command::Let(Identifier::new(alloc, local)?, value);
                     Ok(Line::Do(Boxed::new(alloc, command)?))
                 }
                 None => Ok(Line::Bad),
@@ -84,7 +84,7 @@ fn let_line(alloc: Global, words: &[&[u8]]) -> Result<Line, AllocError>
 /// What puts a term's value at a place of the variable.
 fn put_at(
     alloc: Global,
-    variable: Name,
+    variable: Identifier,
     place: &[u8],
     word: &[u8],
 ) -> Result<Option<Command>, AllocError>
@@ -99,7 +99,11 @@ fn put_at(
     }
 }
 
-fn put_of(alloc: Global, variable: Name, words: &[&[u8]]) -> Result<Option<Command>, AllocError>
+fn put_of(
+    alloc: Global,
+    variable: Identifier,
+    words: &[&[u8]],
+) -> Result<Option<Command>, AllocError>
     ensures { IfOk result (λ c. c ≡ put_of variable (map (λ w. w.now) words.now)) }
 {
     match words {
@@ -122,7 +126,7 @@ fn put_line(alloc: Global, words: &[&[u8]]) -> Result<Line, AllocError>
             if !is_name(variable) {
                 return Ok(Line::Bad);
             }
-            let variable = Name::new(alloc, variable)?;
+            let variable = Identifier::new(alloc, variable)?;
             command_line(alloc, put_of(alloc, variable, rest)?)
         }
     }
@@ -131,8 +135,8 @@ fn put_line(alloc: Global, words: &[&[u8]]) -> Result<Line, AllocError>
 /// What waits for the place of a variable that the first word names.
 fn get_at(
     alloc: Global,
-    local: Name,
-    variable: Name,
+    local: Identifier,
+    variable: Identifier,
     words: &[&[u8]],
 ) -> Result<Option<Command>, AllocError>
     ensures { IfOk result (λ c. c ≡ get_at local variable (map (λ w. w.now) words.now)) }
@@ -154,8 +158,8 @@ fn get_at(
 /// What waits for a variable, or for the place of it that the first word may name.
 fn get_of(
     alloc: Global,
-    local: Name,
-    variable: Name,
+    local: Identifier,
+    variable: Identifier,
     words: &[&[u8]],
 ) -> Result<Option<Command>, AllocError>
     ensures { IfOk result (λ c. c ≡ get_of local variable (map (λ w. w.now) words.now)) }
@@ -175,8 +179,8 @@ fn get_line(alloc: Global, words: &[&[u8]]) -> Result<Line, AllocError>
             if !is_name(local) || !is_name(variable) {
                 return Ok(Line::Bad);
             }
-            let local = Name::new(alloc, local)?;
-            let variable = Name::new(alloc, variable)?;
+            let local = Identifier::new(alloc, local)?;
+            let variable = Identifier::new(alloc, variable)?;
             command_line(alloc, get_of(alloc, local, variable, rest)?)
         }
         _ => Ok(Line::Bad),
@@ -185,7 +189,7 @@ fn get_line(alloc: Global, words: &[&[u8]]) -> Result<Line, AllocError>
 
 /// A procedure and the terms on which it is to run.
 #[tactic(auto, unfolding(crate::specs::Form::run_line))]
-fn run_of(alloc: Global, words: &[&[u8]]) -> Result<Option<(Name, Terms)>, AllocError>
+fn run_of(alloc: Global, words: &[&[u8]]) -> Result<Option<(Identifier, Terms)>, AllocError>
     ensures { IfOk result (λ p. (f : Word → List Term → Command) → or_bad (option_map (λ q. Do (f q.0 q.1)) p) ≡ run_line f (map (λ w. w.now) words.now)) }
 {
     match words {
@@ -195,7 +199,7 @@ fn run_of(alloc: Global, words: &[&[u8]]) -> Result<Option<(Name, Terms)>, Alloc
                 return Ok(None);
             }
             match terms_of(alloc, rest)? {
-                Some(terms) => Ok(Some((Name::new(alloc, name)?, terms))),
+                Some(terms) => Ok(Some((Identifier::new(alloc, name)?, terms))),
                 None => Ok(None),
             }
         }
@@ -230,8 +234,8 @@ fn handle_line(alloc: Global, words: &[&[u8]]) -> Result<Line, AllocError>
 {
     match words {
         [pool, procedure] if is_name(pool) && is_name(procedure) => {
-            let pool = Name::new(alloc, pool)?;
-            let procedure = Name::new(alloc, procedure)?;
+            let pool = Identifier::new(alloc, pool)?;
+            let procedure = Identifier::new(alloc, procedure)?;
             Ok(Line::Do(Boxed::new(alloc, Command::Handle(pool, procedure))?))
         }
         _ => Ok(Line::Bad),

@@ -7,7 +7,7 @@ use crate::boxed::Boxed;
 use crate::form::term::simple_kind;
 use crate::line::Line;
 use crate::word::is_name;
-use lvish_syntax::{Declaration, Name, Names, SimpleKind, VariableKind};
+use lvish_syntax::{Declaration, Identifier, Identifiers, SimpleKind, VariableKind};
 use std::alloc::{AllocError, Global};
 
 fn are_names(words: &[&[u8]]) -> bool
@@ -22,15 +22,15 @@ fn are_names(words: &[&[u8]]) -> bool
 }
 
 /// The names that words write.
-pub fn names_of(alloc: Global, words: &[&[u8]]) -> Result<Names, AllocError>
+pub fn names_of(alloc: Global, words: &[&[u8]]) -> Result<Identifiers, AllocError>
     requires { list_all is_name (map (λ w. w.now) words.now) ≡ true }
     ensures { IfOk result (λ n. n ≡ map (λ w. w.now) words.now) }
 {
     let mut names = Vec::new(alloc);
     for word in words {
-        names.push(Name::new(alloc, word)?)?;
+        names.push(Identifier::new(alloc, word)?)?;
     }
-    Ok(Names::from(names))
+    Ok(Identifiers::from(names))
 }
 
 #[tactic(auto, unfolding(crate::specs::Form::variable_line))]
@@ -39,7 +39,7 @@ fn variable_line(alloc: Global, kind: VariableKind, words: &[&[u8]]) -> Result<L
 {
     match words {
         [name] if is_name(name) => {
-            let name = Name::new(alloc, name)?;
+            let name = Identifier::new(alloc, name)?;
             Ok(Line::Declare(Boxed::new(alloc, Declaration::Variable(name, kind))?))
         }
         _ => Ok(Line::Bad),
@@ -63,7 +63,7 @@ fn pair_line(alloc: Global, words: &[&[u8]]) -> Result<Line, AllocError>
     match words {
         [name, first, second] if is_name(name) => match pair_kind(first, second) {
             Some(kind) => {
-                let name = Name::new(alloc, name)?;
+                let name = Identifier::new(alloc, name)?;
                 Ok(Line::Declare(Boxed::new(alloc, Declaration::Variable(name, kind))?))
             }
             None => Ok(Line::Bad),
@@ -78,8 +78,8 @@ fn pool_line(alloc: Global, words: &[&[u8]]) -> Result<Line, AllocError>
 {
     match words {
         [pool, variable] if is_name(pool) && is_name(variable) => {
-            let pool = Name::new(alloc, pool)?;
-            let variable = Name::new(alloc, variable)?;
+            let pool = Identifier::new(alloc, pool)?;
+            let variable = Identifier::new(alloc, variable)?;
             Ok(Line::Declare(Boxed::new(alloc, Declaration::Pool(pool, variable))?))
         }
         _ => Ok(Line::Bad),
@@ -94,7 +94,7 @@ fn proc_line(alloc: Global, words: &[&[u8]]) -> Result<Line, AllocError>
         [] => Ok(Line::Bad),
         [name, rest @ ..] => {
             if is_name(name) && are_names(rest) {
-                let name = Name::new(alloc, name)?;
+                let name = Identifier::new(alloc, name)?;
                 let parameters = names_of(alloc, rest)?;
                 Ok(Line::Proc(Boxed::new(alloc, name)?, Boxed::new(alloc, parameters)?))
             } else {

@@ -8,7 +8,7 @@ use crate::boxed::Boxed;
 use crate::form::declaration::names_of;
 use crate::line::Line;
 use crate::word::is_name;
-use lvish_syntax::{Command, Name, Names};
+use lvish_syntax::{Command, Identifier, Identifiers};
 use std::alloc::{AllocError, Global};
 
 /// How many words at the front are names.
@@ -21,9 +21,9 @@ fn name_count(words: &[&[u8]]) -> usize
 /// A freeze after these pools, with what may follow them.
 fn freeze_each(
     alloc: Global,
-    local: Name,
-    variable: Name,
-    pools: Names,
+    local: Identifier,
+    variable: Identifier,
+    pools: Identifiers,
     words: &[&[u8]],
 ) -> Result<Option<Command>, AllocError>
     ensures { IfOk result (λ c. c ≡ freeze_each local variable pools (map (λ w. w.now) words.now)) }
@@ -32,7 +32,7 @@ fn freeze_each(
         [] => Ok(Some(Command::Freeze(local, variable, pools))),
         [word, procedure] => {
             if *word == b"each".as_slice() && is_name(procedure) {
-                let procedure = Name::new(alloc, procedure)?;
+                let procedure = Identifier::new(alloc, procedure)?;
                 Ok(Some(Command::FreezeEach(local, variable, pools, procedure)))
             } else {
                 Ok(None)
@@ -45,8 +45,8 @@ fn freeze_each(
 /// A freeze with what stands after `after`.
 fn freeze_after(
     alloc: Global,
-    local: Name,
-    variable: Name,
+    local: Identifier,
+    variable: Identifier,
     words: &[&[u8]],
 ) -> Result<Option<Command>, AllocError>
     ensures { IfOk result (λ c. c ≡ freeze_after local variable (map (λ w. w.now) words.now)) }
@@ -61,8 +61,8 @@ fn freeze_after(
 
 fn freeze_of(
     alloc: Global,
-    local: Name,
-    variable: Name,
+    local: Identifier,
+    variable: Identifier,
     words: &[&[u8]],
 ) -> Result<Option<Command>, AllocError>
     ensures { IfOk result (λ c. c ≡ freeze_of local variable (map (λ w. w.now) words.now)) }
@@ -71,7 +71,13 @@ fn freeze_of(
         [word, rest @ ..] if *word == b"after".as_slice() => {
             freeze_after(alloc, local, variable, rest)
         }
-        _ => freeze_each(alloc, local, variable, Names::from(Vec::new(alloc)), words),
+        _ => freeze_each(
+            alloc,
+            local,
+            variable,
+            Identifiers::from(Vec::new(alloc)),
+            words,
+        ),
     }
 }
 
@@ -85,8 +91,8 @@ pub fn freeze_line(alloc: Global, words: &[&[u8]]) -> Result<Line, AllocError>
             if !is_name(local) || !is_name(variable) {
                 return Ok(Line::Bad);
             }
-            let local = Name::new(alloc, local)?;
-            let variable = Name::new(alloc, variable)?;
+            let local = Identifier::new(alloc, local)?;
+            let variable = Identifier::new(alloc, variable)?;
             match freeze_of(alloc, local, variable, rest)? {
                 Some(command) => Ok(Line::Do(Boxed::new(alloc, command)?)),
                 None => Ok(Line::Bad),

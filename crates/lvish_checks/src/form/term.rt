@@ -2,7 +2,7 @@ ghost use Rattle.std.specs.Prelude.{◌≡◌, IfOk, map};
 ghost use Rattle.lvish_checks.specs.Form.{number_word, numbers_of, term_of, terms_of, only, simple_kind, operator_of};
 
 use crate::word::{is_name, is_number_word, value_of_number};
-use lvish_syntax::{Name, Numbers, Operator, SimpleKind, Term, Terms};
+use lvish_syntax::{Identifier, Numbers, Operator, SimpleKind, Term, Terms};
 use std::alloc::{AllocError, Global};
 
 /// The number for which a word stands, if it stands for one.
@@ -23,7 +23,7 @@ pub fn term_of(alloc: Global, word: &[u8]) -> Result<Option<Term>, AllocError>
     if is_number_word(word) {
         Ok(Some(Term::Number(value_of_number(word))))
     } else if is_name(word) {
-        Ok(Some(Term::Local(Name::new(alloc, word)?)))
+        Ok(Some(Term::Local(Identifier::new(alloc, word)?)))
     } else {
         Ok(None)
     }

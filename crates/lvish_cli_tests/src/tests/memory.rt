@@ -1,7 +1,7 @@
 //! Growths that are refused.
 
 ghost use Rattle.std.specs.Prelude.{◌<◌, ◌≤◌};
-ghost use Rattle.lvish_cli.specs.Orders.{IsWithin};
+ghost use Rattle.lvish_cli.specs.Orders.{IsInBounds};
 
 use super::{COUNTING, willing};
 use lvish_cli::{Order, Picks, Status, command, perform};
@@ -23,7 +23,7 @@ fn prints_or_wants_memory<R: Threads + Wait + Sync>(
     script: &[u8],
     text: &str,
 ) -> bool
-    requires { IsWithin order.now }
+    requires { IsInBounds order.now }
 {
     let mut reader = script;
     let mut writer = willing();

@@ -24,7 +24,7 @@ const SCRIPTS: [&[u8]; 4] = [COUNTING, UNENDED, CONFLICT, BLOCKED];
 
 /// What is asked for.
 #[derive(Clone, Copy, Debug)]
-enum Asked {
+enum StreamsAsked {
     Check,
     /// A run by one worker.
     Alone,
@@ -34,27 +34,32 @@ enum Asked {
     Pick,
 }
 
-const ASKED: [Asked; 4] = [Asked::Check, Asked::Alone, Asked::Both, Asked::Pick];
+const ASKED: [StreamsAsked; 4] = [
+    StreamsAsked::Check,
+    StreamsAsked::Alone,
+    StreamsAsked::Both,
+    StreamsAsked::Pick,
+];
 
 /// How this ends.
 fn end<T: Threads + Wait + Sync, R: Read>(
     rt: &T,
     alloc: Global,
-    asked: Asked,
+    asked: StreamsAsked,
     reader: &mut R,
     writer: &mut ShortWriter,
 ) -> Status {
     match asked {
-        Asked::Check => {
+        StreamsAsked::Check => {
             let order = Order::Check {
                 ends: true,
                 budget: 100,
             };
             perform(rt, alloc, &order, reader, writer)
         }
-        Asked::Alone => run(rt, alloc, 1, reader, writer),
-        Asked::Both => run(rt, alloc, 2, reader, writer),
-        Asked::Pick => pick(rt, alloc, reader, writer),
+        StreamsAsked::Alone => run(rt, alloc, 1, reader, writer),
+        StreamsAsked::Both => run(rt, alloc, 2, reader, writer),
+        StreamsAsked::Pick => pick(rt, alloc, reader, writer),
     }
 }
 
@@ -90,11 +95,11 @@ fn pick<T: Threads + Wait + Sync, R: Read>(
     perform(rt, alloc, &order, reader, writer)
 }
 
-/// How this ends whose reader gives so many bytes, `step` of them a read, and fails.
+/// How this ends where the reader gives this many bytes, `step` of them a read, and fails.
 fn read_end<T: Threads + Wait + Sync>(
     rt: &T,
     alloc: Global,
-    asked: Asked,
+    asked: StreamsAsked,
     (count, step): (usize, usize),
     kind: ErrorKind,
 ) -> Result<String, AllocError> {
@@ -134,11 +139,11 @@ fn a_read_that_fails_is_not_tried_again(rt: HostRuntime) {
     }
 }
 
-/// How this ends whose reader gives the script, `step` bytes a read, and ends.
+/// How this ends where the reader gives the script, `step` bytes a read, and ends.
 fn slow_end<T: Threads + Wait + Sync>(
     rt: &T,
     alloc: Global,
-    asked: Asked,
+    asked: StreamsAsked,
     script: &[u8],
     step: usize,
     writer: &mut ShortWriter,
@@ -152,11 +157,11 @@ fn slow_end<T: Threads + Wait + Sync>(
     end(rt, alloc, asked, &mut reader, writer)
 }
 
-/// Whether the writer's text and status are those of what a reader gives that gives all at once.
+/// Whether the writer's text and status are those with a reader that gives all at once.
 fn is_the_same<T: Threads + Wait + Sync>(
     rt: &T,
     alloc: Global,
-    asked: Asked,
+    asked: StreamsAsked,
     script: &[u8],
     step: usize,
 ) -> bool {
@@ -188,7 +193,7 @@ fn a_slow_reader_changes_nothing(rt: HostRuntime) {
 fn stops_at<T: Threads + Wait + Sync>(
     rt: &T,
     alloc: Global,
-    asked: Asked,
+    asked: StreamsAsked,
     script: &[u8],
     writer: &mut ShortWriter,
     whole: &[u8],
@@ -238,11 +243,11 @@ fn a_flush_that_fails_is_not_done(rt: HostRuntime) {
     }
 }
 
-/// How this ends whose reader has more than a script may have, and how many bytes it gave.
+/// How this ends where the reader has more than a script may have, and how many bytes it gave.
 fn long_end<T: Threads + Wait + Sync>(
     rt: &T,
     alloc: Global,
-    asked: Asked,
+    asked: StreamsAsked,
     step: usize,
 ) -> (Status, usize) {
     let mut reader = LongReader { given: 0, step };

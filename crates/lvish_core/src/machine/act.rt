@@ -5,7 +5,7 @@ ghost use Rattle.lvish_core.specs.Acts.{IsActing, Acts};
 use super::Core;
 use crate::fault::{StepFault, Stepped};
 use crate::moved::Moved;
-use crate::stage::Numbers;
+use crate::stage::TaskCounts;
 use lvish_calculus::{Meaning, Program, Reply, Request};
 use lvish_lattice::{Lattice, Reads};
 use lvish_names::TaskName;
@@ -18,7 +18,7 @@ impl<'p, P: Program> Core<'p, P> {
         alloc: Global,
         name: &TaskName<<P::Lat as Lattice>::Event>,
         at: &P::Local,
-        numbers: Numbers,
+        numbers: TaskCounts,
         request: &Request<P::Lat, <P::Lat as Reads>::Read, P::Local>,
     ) -> Result<(Stepped, Moved<<P::Lat as Lattice>::Event, P::Local>), StepFault>
         requires { IsActing (⟦<P as Meaning>⟧.machine self.old.program) self.old name.now at.now numbers.forks numbers.adds numbers.puts request.now }

@@ -1,14 +1,17 @@
 //! The adding of a handler.
 
+ghost use Rattle.std.specs.Prelude.{◌≡◌, ◌<◌};
 ghost use Rattle.lvish_calculus.specs.declared.request.Request.TheVariants.{Add};
 ghost use Rattle.lvish_core.specs.Acts.{IsActing, Acts};
+ghost use Rattle.lvish_core.specs.Core.{state};
 
 use super::Core;
+use crate::ending::close;
 use crate::fault::{StepFault, Stepped};
+use crate::handler_place::HandlerPlace;
 use crate::moved::Moved;
-use crate::place::Place;
 use crate::seat::seat;
-use crate::stage::{Numbers, Stage};
+use crate::stage::{Stage, TaskCounts};
 use crate::touched::Touched;
 use lvish_calculus::laws::lawful;
 use lvish_calculus::{ErrorKind, Meaning, Program, Reply};
@@ -25,7 +28,7 @@ impl<'p, P: Program> Core<'p, P> {
         alloc: Global,
         name: &TaskName<<P::Lat as Lattice>::Event>,
         at: &P::Local,
-        numbers: Numbers,
+        numbers: TaskCounts,
         pool: usize,
         procedure: usize,
     ) -> Result<(Stepped, Moved<<P::Lat as Lattice>::Event, P::Local>), StepFault>
@@ -48,16 +51,12 @@ impl<'p, P: Program> Core<'p, P> {
         let Some(variable) = self.program.pool_variable(pool) else {
             unreachable!("a task names pools that there are")
         };
-        let on = &self.variables[variable];
-        if on.is_frozen() {
+        if self.is_late(variable) {
             return self.fail(name, ErrorKind::Late, Some(variable));
         }
+        let on = &self.variables[variable];
         let added = handler.copy()?;
-        let place = Place {
-            variable,
-            pool,
-            procedure,
-        };
+        let place = HandlerPlace::new(variable, pool, procedure);
         seat(
             &mut self.places,
             &mut self.handlers,
@@ -66,20 +65,23 @@ impl<'p, P: Program> Core<'p, P> {
             handler,
             place,
         )?;
-        let stage = Stage::Live {
-            local,
-            forks: numbers.forks,
-            adds,
-            puts: numbers.puts,
-        };
-        self.tasks.replace(name, stage);
-        self.steps += 1;
-        self.touched = Some(Touched::Other);
-        let moved = Moved {
-            own: Some(own),
-            made: None,
-            added: Some(added),
-        };
-        Ok((Stepped::Done, moved))
+        let stage = Stage::live(local, TaskCounts { adds, ..numbers });
+        close(
+            &mut self.tasks,
+            &mut self.steps,
+            &mut self.touched,
+            name,
+            stage,
+            Touched::Other,
+        );
+        Ok((Stepped::Done, Moved::added(own, added)))
+    }
+
+    /// Whether a handler comes too late to the variable, which is frozen.
+    fn is_late(&self, variable: usize) -> bool
+        requires { variable < (P.functions self.now.program).variables }
+        ensures { result ≡ (state (⟦<P as Meaning>⟧.machine self.now.program) self.now).frozen variable }
+    {
+        self.variables[variable].is_frozen()
     }
 }

@@ -1,13 +1,13 @@
 //! A task's step.
 
 ghost use Rattle.std.specs.Prelude.{◌≡◌, MatchResult, IfOk, IfErr};
-ghost use Rattle.lvish_calculus.specs.declared.label.Label.TheVariants.{Task as Act};
+ghost use Rattle.lvish_calculus.specs.declared.label.Label.TheVariants.{Act};
 
 use super::Core;
+use crate::core_meaning::CoreMeaning;
 use crate::fault::{StepFault, Stepped};
 use crate::moved::Moved;
-use crate::runs::Runs;
-use crate::stage::{Numbers, Stage};
+use crate::stage::{Stage, TaskCounts};
 use lvish_calculus::{Asks, Meaning, Program};
 use lvish_lattice::{Lattice, Reads};
 use lvish_names::TaskName;
@@ -25,10 +25,10 @@ impl<'p, P: Program> Core<'p, P> {
         name: &TaskName<<P::Lat as Lattice>::Event>,
         asks: &Asks<P::Lat, <P::Lat as Reads>::Read, P::Local>,
     ) -> Result<(Stepped, Moved<<P::Lat as Lattice>::Event, P::Local>), StepFault>
-        requires request { ⟦<P as Runs>⟧.is_its_request self.old name.now asks.now.request }
-        requires at { ⟦<P as Runs>⟧.is_its_place self.old name.now asks.now.at }
-        ensures stepped { MatchResult result (λ s. ⟦<P as Runs>⟧.is_step self.old (Act name.now) self.new s.0) (λ e. ⟦<P as Runs>⟧.is_refused self.old (Act name.now) e × (self.new ≡ self.old)) }
-        ensures moved { IfOk result (λ s. ⟦<P as Runs>⟧.is_moved self.old (Act name.now) s.1) }
+        requires request { ⟦<P as CoreMeaning>⟧.is_its_request self.old name.now asks.now.request }
+        requires at { ⟦<P as CoreMeaning>⟧.is_its_place self.old name.now asks.now.at }
+        ensures stepped { MatchResult result (λ s. ⟦<P as CoreMeaning>⟧.is_step self.old (Act name.now) self.new s.0) (λ e. ⟦<P as CoreMeaning>⟧.is_refused self.old (Act name.now) e × (self.new ≡ self.old)) }
+        ensures moved { IfOk result (λ s. ⟦<P as CoreMeaning>⟧.is_moved self.old (Act name.now) s.1) }
     {
         if self.fault.is_some() {
             return Err(StepFault::NotEnabled);
@@ -44,7 +44,7 @@ impl<'p, P: Program> Core<'p, P> {
         else {
             return Err(StepFault::NotEnabled);
         };
-        let numbers = Numbers {
+        let numbers = TaskCounts {
             forks: *forks,
             adds: *adds,
             puts: *puts,

@@ -6,9 +6,10 @@ ghost use Rattle.lvish_core.specs.Acts.{IsActing, Acts};
 
 use super::Core;
 use crate::beside::end_at;
+use crate::ending::close;
 use crate::fault::{StepFault, Stepped};
 use crate::moved::Moved;
-use crate::stage::{Numbers, Stage};
+use crate::stage::{Stage, TaskCounts};
 use crate::touched::Touched;
 use lvish_calculus::laws::lawful;
 use lvish_calculus::{Meaning, Program};
@@ -22,7 +23,7 @@ impl<'p, P: Program> Core<'p, P> {
         &mut self,
         name: &TaskName<<P::Lat as Lattice>::Event>,
         at: &P::Local,
-        numbers: Numbers,
+        numbers: TaskCounts,
     ) -> Result<(Stepped, Moved<<P::Lat as Lattice>::Event, P::Local>), StepFault>
         requires { IsActing (⟦<P as Meaning>⟧.machine self.old.program) self.old name.now at.now numbers.forks numbers.adds numbers.puts End }
         ensures { Acts (⟦<P as Meaning>⟧.machine self.old.program) self.old name.now self.new result }
@@ -33,11 +34,17 @@ impl<'p, P: Program> Core<'p, P> {
         counts_follow::<P>();
         running_counts::<P>();
         let place = self.place_of(name)?;
-        self.tasks.replace(name, Stage::Ended);
         end_at(&mut self.handlers, place);
         self.running -= 1;
-        self.steps += 1;
-        self.touched = Some(Touched::ended_in(place));
+        let on = Touched::ended_in(place);
+        close(
+            &mut self.tasks,
+            &mut self.steps,
+            &mut self.touched,
+            name,
+            Stage::Ended,
+            on,
+        );
         Ok((Stepped::Done, Moved::nothing()))
     }
 }

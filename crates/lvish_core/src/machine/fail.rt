@@ -3,7 +3,7 @@
 ghost use Rattle.lvish_core.specs.Acts.{IsFailing, Acts};
 
 use super::Core;
-use crate::fault::{Fault, StepFault, Stepped};
+use crate::fault::{RunError, StepFault, Stepped};
 use crate::moved::Moved;
 use crate::touched::Touched;
 use lvish_calculus::laws::lawful;
@@ -26,7 +26,7 @@ impl<'p, P: Program> Core<'p, P> {
         lawful::<P>();
         errors_are_steps::<P>();
         let task = name.copy()?;
-        self.fault = Some(Fault {
+        self.fault = Some(RunError {
             kind,
             variable,
             task,

@@ -5,9 +5,10 @@ ghost use Rattle.lvish_core.specs.Acts.{IsActing, Acts};
 
 use super::Core;
 use crate::beside::start_at;
+use crate::ending::close;
 use crate::fault::{StepFault, Stepped};
 use crate::moved::{Made, Moved};
-use crate::stage::{Numbers, Stage};
+use crate::stage::{Stage, TaskCounts};
 use crate::touched::Touched;
 use lvish_calculus::laws::lawful;
 use lvish_calculus::{ErrorKind, Meaning, Program, Reply};
@@ -23,7 +24,7 @@ impl<'p, P: Program> Core<'p, P> {
         alloc: Global,
         name: &TaskName<<P::Lat as Lattice>::Event>,
         at: &P::Local,
-        numbers: Numbers,
+        numbers: TaskCounts,
         child: &P::Local,
     ) -> Result<(Stepped, Moved<<P::Lat as Lattice>::Event, P::Local>), StepFault>
         requires { IsActing (⟦<P as Meaning>⟧.machine self.old.program) self.old name.now at.now numbers.forks numbers.adds numbers.puts (Fork child.now) }
@@ -50,17 +51,17 @@ impl<'p, P: Program> Core<'p, P> {
         let started = Stage::started(self.program.copy_local(alloc, child)?);
         let place = self.place_of(name)?;
         self.tasks.insert(task, started)?;
-        let stage = Stage::Live {
-            local,
-            forks,
-            adds: numbers.adds,
-            puts: numbers.puts,
-        };
-        self.tasks.replace(name, stage);
         start_at(&mut self.handlers, place);
         self.running += 1;
-        self.steps += 1;
-        self.touched = Some(Touched::Other);
+        let stage = Stage::live(local, TaskCounts { forks, ..numbers });
+        close(
+            &mut self.tasks,
+            &mut self.steps,
+            &mut self.touched,
+            name,
+            stage,
+            Touched::Other,
+        );
         let moved = Moved {
             own: Some(own),
             made: Some(made),

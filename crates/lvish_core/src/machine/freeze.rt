@@ -6,9 +6,10 @@ ghost use Rattle.lvish_core.specs.Acts.{IsActing, Acts};
 
 use super::Core;
 use crate::beside::freeze_at;
+use crate::ending::close;
 use crate::fault::{StepFault, Stepped};
 use crate::moved::Moved;
-use crate::stage::{Numbers, Stage};
+use crate::stage::{Stage, TaskCounts};
 use crate::touched::Touched;
 use lvish_calculus::laws::lawful;
 use lvish_calculus::{Meaning, Program, Reply};
@@ -18,13 +19,13 @@ use lvish_picture::laws::{counts_kept, freeze_kept};
 use std::alloc::Global;
 
 impl<'p, P: Program> Core<'p, P> {
-    /// Marks the variable, and tells its state.
+    /// Marks the variable, and gives the task its state.
     pub(super) fn freeze(
         &mut self,
         alloc: Global,
         name: &TaskName<<P::Lat as Lattice>::Event>,
         at: &P::Local,
-        numbers: Numbers,
+        numbers: TaskCounts,
         variable: usize,
     ) -> Result<(Stepped, Moved<<P::Lat as Lattice>::Event, P::Local>), StepFault>
         requires { (pools : List ℕ) × IsActing (⟦<P as Meaning>⟧.machine self.old.program) self.old name.now at.now numbers.forks numbers.adds numbers.puts (Freeze variable pools) }
@@ -34,18 +35,18 @@ impl<'p, P: Program> Core<'p, P> {
         freeze_kept::<P>();
         counts_kept::<P>();
         let state = self.variables[variable].state().copy(alloc)?;
-        let local = self.program.resume(alloc, at, Reply::Frozen(state))?;
+        let local = self.program.resume(alloc, at, Reply::Content(state))?;
         let own = self.program.copy_local(alloc, &local)?;
         freeze_at(&mut self.variables, alloc, variable)?;
-        let stage = Stage::Live {
-            local,
-            forks: numbers.forks,
-            adds: numbers.adds,
-            puts: numbers.puts,
-        };
-        self.tasks.replace(name, stage);
-        self.steps += 1;
-        self.touched = Some(Touched::Other);
+        let stage = Stage::live(local, numbers);
+        close(
+            &mut self.tasks,
+            &mut self.steps,
+            &mut self.touched,
+            name,
+            stage,
+            Touched::Other,
+        );
         Ok((Stepped::Done, Moved::own(own)))
     }
 }

@@ -6,20 +6,20 @@ ghost use Rattle.lvish_core.specs.Acts.{IsActing, Acts};
 use super::Core;
 use crate::fault::{StepFault, Stepped};
 use crate::moved::Moved;
-use crate::stage::Numbers;
+use crate::stage::TaskCounts;
 use lvish_calculus::{Meaning, Program, Reply};
 use lvish_lattice::{Lattice, Reads};
 use lvish_names::TaskName;
 use std::alloc::Global;
 
 impl<'p, P: Program> Core<'p, P> {
-    /// Tells the answer of the read, which there is.
+    /// Gives the task the answer of its read, which has one.
     pub(super) fn get(
         &mut self,
         alloc: Global,
         name: &TaskName<<P::Lat as Lattice>::Event>,
         at: &P::Local,
-        numbers: Numbers,
+        numbers: TaskCounts,
         variable: usize,
         read: &<P::Lat as Reads>::Read,
     ) -> Result<(Stepped, Moved<<P::Lat as Lattice>::Event, P::Local>), StepFault>

@@ -1,11 +1,12 @@
 //! A step that changes nothing but the task's local state.
 
-ghost use Rattle.lvish_core.specs.Acts.{IsAnswered, Acts};
+ghost use Rattle.lvish_core.specs.Acts.{IsReplied, Acts};
 
 use super::Core;
+use crate::ending::close;
 use crate::fault::{StepFault, Stepped};
 use crate::moved::Moved;
-use crate::stage::{Numbers, Stage};
+use crate::stage::{Stage, TaskCounts};
 use crate::touched::Touched;
 use lvish_calculus::laws::lawful;
 use lvish_calculus::{Meaning, Program, Reply};
@@ -21,10 +22,10 @@ impl<'p, P: Program> Core<'p, P> {
         alloc: Global,
         name: &TaskName<<P::Lat as Lattice>::Event>,
         at: &P::Local,
-        numbers: Numbers,
+        numbers: TaskCounts,
         reply: Reply<P::Lat, <P::Lat as Reads>::Answer>,
     ) -> Result<(Stepped, Moved<<P::Lat as Lattice>::Event, P::Local>), StepFault>
-        requires { IsAnswered (⟦<P as Meaning>⟧.machine self.old.program) self.old name.now at.now numbers.forks numbers.adds numbers.puts reply }
+        requires { IsReplied (⟦<P as Meaning>⟧.machine self.old.program) self.old name.now at.now numbers.forks numbers.adds numbers.puts reply }
         ensures { Acts (⟦<P as Meaning>⟧.machine self.old.program) self.old name.now self.new result }
     {
         lawful::<P>();
@@ -33,15 +34,15 @@ impl<'p, P: Program> Core<'p, P> {
         counts_follow::<P>();
         let local = self.program.resume(alloc, at, reply)?;
         let own = self.program.copy_local(alloc, &local)?;
-        let stage = Stage::Live {
-            local,
-            forks: numbers.forks,
-            adds: numbers.adds,
-            puts: numbers.puts,
-        };
-        self.tasks.replace(name, stage);
-        self.steps += 1;
-        self.touched = Some(Touched::Other);
+        let stage = Stage::live(local, numbers);
+        close(
+            &mut self.tasks,
+            &mut self.steps,
+            &mut self.touched,
+            name,
+            stage,
+            Touched::Other,
+        );
         Ok((Stepped::Done, Moved::own(own)))
     }
 }

@@ -6,8 +6,8 @@ ghost use Rattle.lvish_core.specs.Handed.{IsHanded, IsNotHanded, IsHanding, Hand
 use super::Core;
 use crate::beside::hand_at;
 use crate::fault::{StepFault, Stepped};
+use crate::handler_place::HandlerPlace;
 use crate::moved::{Made, Moved};
-use crate::place::Place;
 use crate::stage::Stage;
 use crate::touched::Touched;
 use lvish_calculus::laws::lawful;
@@ -62,7 +62,7 @@ impl<'p, P: Program> Core<'p, P> {
         &mut self,
         alloc: Global,
         name: &HandlerName<<P::Lat as Lattice>::Event>,
-        place: Place,
+        place: HandlerPlace,
         event: <P::Lat as Lattice>::Event,
     ) -> Result<(Stepped, Moved<<P::Lat as Lattice>::Event, P::Local>), StepFault>
         requires { IsHanding (⟦<P as Meaning>⟧.machine self.old.program) self.old name.now place event }

@@ -6,7 +6,7 @@ ghost use Rattle.lvish_core.specs.Core.{state};
 ghost use Rattle.lvish_core.specs.Places.{IsPlaceOf};
 
 use super::Core;
-use crate::place::Place;
+use crate::handler_place::HandlerPlace;
 use lvish_calculus::{Meaning, Program};
 use lvish_lattice::Lattice;
 use lvish_names::TaskName;
@@ -17,7 +17,7 @@ impl<'p, P: Program> Core<'p, P> {
     pub(super) fn place_of(
         &self,
         name: &TaskName<<P::Lat as Lattice>::Event>,
-    ) -> Result<Option<Place>, AllocError>
+    ) -> Result<Option<HandlerPlace>, AllocError>
         ensures { IfOk result (λ o. IsPlaceOf (⟦<P as Meaning>⟧.machine self.now.program) (state (⟦<P as Meaning>⟧.machine self.now.program) self.now) name.now o) }
     {
         match name.pool_of()? {

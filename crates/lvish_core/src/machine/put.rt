@@ -5,9 +5,10 @@ ghost use Rattle.lvish_core.specs.Acts.{IsActing, Acts};
 
 use super::Core;
 use crate::beside::put_at;
+use crate::ending::close;
 use crate::fault::{StepFault, Stepped};
 use crate::moved::Moved;
-use crate::stage::{Numbers, Stage};
+use crate::stage::{Stage, TaskCounts};
 use crate::touched::Touched;
 use lvish_calculus::laws::lawful;
 use lvish_calculus::{ErrorKind, Meaning, Program, Reply};
@@ -24,7 +25,7 @@ impl<'p, P: Program> Core<'p, P> {
         alloc: Global,
         name: &TaskName<<P::Lat as Lattice>::Event>,
         at: &P::Local,
-        numbers: Numbers,
+        numbers: TaskCounts,
         variable: usize,
         state: &P::Lat,
     ) -> Result<(Stepped, Moved<<P::Lat as Lattice>::Event, P::Local>), StepFault>
@@ -45,15 +46,16 @@ impl<'p, P: Program> Core<'p, P> {
             };
             return self.fail(name, kind, Some(variable));
         }
-        let stage = Stage::Live {
-            local,
-            forks: numbers.forks,
-            adds: numbers.adds,
-            puts,
-        };
-        self.tasks.replace(name, stage);
-        self.steps += 1;
-        self.touched = Some(Touched::Put(variable));
+        let stage = Stage::live(local, TaskCounts { puts, ..numbers });
+        let on = Touched::Put(variable);
+        close(
+            &mut self.tasks,
+            &mut self.steps,
+            &mut self.touched,
+            name,
+            stage,
+            on,
+        );
         Ok((Stepped::Done, Moved::own(own)))
     }
 }

@@ -1,10 +1,11 @@
-//! What a core tells of itself.
+//! What a core says of itself.
 
 ghost use Rattle.std.specs.Prelude.{◌≡◌, ◌↔◌, IsTrue, IfOk};
-ghost use Rattle.lvish_calculus.specs.declared.label.Label.TheVariants.{Task as Act};
+ghost use Rattle.lvish_calculus.specs.declared.label.Label.TheVariants.{Act};
+ghost use Rattle.lvish_core.specs.Reads.{NoneIsReady};
 
 use super::Core;
-use crate::runs::Runs;
+use crate::core_meaning::CoreMeaning;
 use crate::stage::Stage;
 use lvish_calculus::laws::lawful;
 use lvish_calculus::{Label, Meaning, Program, Request};
@@ -21,7 +22,7 @@ impl<'p, P: Program> Core<'p, P> {
         alloc: Global,
         label: &Label<<P::Lat as Lattice>::Event>,
     ) -> Result<bool, AllocError>
-        ensures { IfOk result (λ b. IsTrue b ↔ ⟦<P as Runs>⟧.can_take self.now label.now) }
+        ensures { IfOk result (λ b. IsTrue b ↔ ⟦<P as CoreMeaning>⟧.can_take self.now label.now) }
     {
         lawful::<P>();
         handed_next::<P>();
@@ -30,7 +31,7 @@ impl<'p, P: Program> Core<'p, P> {
             return Ok(false);
         }
         match label {
-            Label::Task(name) => match self.tasks.get(name) {
+            Label::Act(name) => match self.tasks.get(name) {
                 Some(stage) => self.is_at_ready(alloc, stage),
                 None => Ok(false),
             },
@@ -47,7 +48,7 @@ impl<'p, P: Program> Core<'p, P> {
         &self,
         alloc: Global,
     ) -> Result<Vec<Label<<P::Lat as Lattice>::Event>>, AllocError>
-        ensures { IfOk result (λ ls. ⟦<P as Runs>⟧.are_labels self.now ls.items) }
+        ensures { IfOk result (λ ls. ⟦<P as CoreMeaning>⟧.are_labels self.now ls.items) }
     {
         lawful::<P>();
         handed_next::<P>();
@@ -60,7 +61,7 @@ impl<'p, P: Program> Core<'p, P> {
         for entry in tasks.iter() {
             let (task, stage) = *entry;
             if self.is_at_ready(alloc, stage)? {
-                labels.push(Label::Task(task.copy()?))?;
+                labels.push(Label::Act(task.copy()?))?;
             }
         }
         for (handler, place) in self.places.iter() {
@@ -78,8 +79,8 @@ impl<'p, P: Program> Core<'p, P> {
         name: &TaskName<<P::Lat as Lattice>::Event>,
         request: &Request<P::Lat, <P::Lat as Reads>::Read, P::Local>,
     ) -> bool
-        requires { ⟦<P as Runs>⟧.is_its_request self.now name.now request.now }
-        ensures { IsTrue result ↔ ⟦<P as Runs>⟧.can_take self.now (Act name.now) }
+        requires { ⟦<P as CoreMeaning>⟧.is_its_request self.now name.now request.now }
+        ensures { IsTrue result ↔ ⟦<P as CoreMeaning>⟧.can_take self.now (Act name.now) }
     {
         if self.fault.is_some() {
             return false;
@@ -96,7 +97,7 @@ impl<'p, P: Program> Core<'p, P> {
         alloc: Global,
         name: &TaskName<<P::Lat as Lattice>::Event>,
     ) -> Result<Option<Request<P::Lat, <P::Lat as Reads>::Read, P::Local>>, AllocError>
-        ensures { IfOk result (λ r. r ≡ ⟦<P as Runs>⟧.request_in self.now name.now) }
+        ensures { IfOk result (λ r. r ≡ ⟦<P as CoreMeaning>⟧.request_in self.now name.now) }
     {
         match self.local_of(name) {
             Some(local) => Ok(Some(self.program.ask(alloc, local)?.request)),
@@ -106,19 +107,34 @@ impl<'p, P: Program> Core<'p, P> {
 
     /// Whether this is an end: no label is enabled, and no step gave an error.
     ///
-    /// The cursors tell what is still to hand, and the count of running tasks that none is left.
-    /// Where some are left they are asked, by name, up to the first that can go on.
+    /// The cursors say whether an event is still to be handed, the count whether a task is left.
+    /// The tasks that are left are asked, in any order, up to the first that can go on.
     pub fn is_ended(&self, alloc: Global) -> Result<bool, AllocError>
-        ensures { IfOk result (λ b. IsTrue b ↔ ⟦<P as Runs>⟧.is_ended self.now) }
+        ensures { IfOk result (λ b. IsTrue b ↔ ⟦<P as CoreMeaning>⟧.is_ended self.now) }
     {
         lawful::<P>();
         ends_by_cursors::<P>();
         if self.fault.is_some() || !self.is_drained() {
             return Ok(false);
         }
+        self.are_all_blocked(alloc)
+    }
+
+    /// Whether no task can step: none is left, or each is blocked.
+    fn are_all_blocked(&self, alloc: Global) -> Result<bool, AllocError>
+        ensures { IfOk result (λ b. IsTrue b ↔ NoneIsReady (⟦<P as Meaning>⟧.machine self.now.program) self.now) }
+    {
         if self.running == 0 {
             return Ok(true);
         }
+        self.is_each_blocked(alloc)
+    }
+
+    /// Whether each task is blocked, asked of each, up to the first that isn't.
+    fn is_each_blocked(&self, alloc: Global) -> Result<bool, AllocError>
+        ensures { IfOk result (λ b. IsTrue b ↔ NoneIsReady (⟦<P as Meaning>⟧.machine self.now.program) self.now) }
+    {
+        lawful::<P>();
         for (_task, stage) in self.tasks.iter() {
             if self.is_at_ready(alloc, stage)? {
                 return Ok(false);

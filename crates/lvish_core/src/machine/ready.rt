@@ -6,21 +6,19 @@ ghost use Rattle.lvish_core.specs.Core.{state};
 ghost use Rattle.lvish_core.specs.Tasks.{standing};
 
 use super::Core;
+use crate::limits::MOST_STEPS;
 use crate::stage::Stage;
 use lvish_calculus::{Meaning, Program, Request};
 use lvish_lattice::{Lattice, Reads};
 use lvish_picture::laws::freezes_by_counts;
 use std::alloc::{AllocError, Global};
 
-/// The most steps of a run.
-const MAX_STEPS: u64 = 1_000_000;
-
 impl<'p, P: Program> Core<'p, P> {
-    /// Whether no step more is made.
+    /// Whether no further step is made.
     pub(super) fn is_full(&self) -> bool
-        ensures { IsTrue result ↔ (1000000 ≤ self.now.steps) }
+        ensures { IsTrue result ↔ (MOST_STEPS ≤ self.now.steps) }
     {
-        self.steps >= MAX_STEPS
+        self.steps >= MOST_STEPS
     }
 
     /// Whether the request of a task can be made: a get has its answer; for a freeze every cursor

@@ -4,8 +4,8 @@ ghost use Rattle.std.specs.Prelude.{◌≡◌, ◌<◌, ◌↔◌, IsTrue, Match
 ghost use Rattle.lvish_handlers.specs.Handlers.{IsByName};
 
 use super::Core;
-use crate::fault::Fault;
-use crate::runs::Runs;
+use crate::core_meaning::CoreMeaning;
+use crate::fault::RunError;
 use crate::stage::Stage;
 use crate::touched::Touched;
 use lvish_calculus::laws::lawful;
@@ -19,7 +19,7 @@ use lvish_variable::Variable;
 impl<'p, P: Program> Core<'p, P> {
     /// The task's local state; `None` where it has ended or isn't there.
     pub fn local_of(&self, name: &TaskName<<P::Lat as Lattice>::Event>) -> Option<&P::Local>
-        ensures { option_copied result ≡ ⟦<P as Runs>⟧.local_in self.now name.now }
+        ensures { option_copied result ≡ ⟦<P as CoreMeaning>⟧.local_in self.now name.now }
     {
         match self.tasks.get(name) {
             Some(Stage::Live { local, .. }) => Some(local),
@@ -33,7 +33,7 @@ impl<'p, P: Program> Core<'p, P> {
         &self,
         name: &HandlerName<<P::Lat as Lattice>::Event>,
     ) -> Option<<P::Lat as Lattice>::Event>
-        ensures { MatchOption result ((e : P.Lat.Event) → ⟦<P as Runs>⟧.is_next self.now name.now e → ⊥) (λ e. ⟦<P as Runs>⟧.is_next self.now name.now e) }
+        ensures { MatchOption result ((e : P.Lat.Event) → ⟦<P as CoreMeaning>⟧.is_next self.now name.now e → ⊥) (λ e. ⟦<P as CoreMeaning>⟧.is_next self.now name.now e) }
     {
         lawful::<P>();
         handlers_are_held::<P>();
@@ -45,14 +45,14 @@ impl<'p, P: Program> Core<'p, P> {
 
     /// Whether there is a handler of this name.
     pub fn holds(&self, name: &HandlerName<<P::Lat as Lattice>::Event>) -> bool
-        ensures { IsTrue result ↔ ⟦<P as Runs>⟧.is_held self.now name.now }
+        ensures { IsTrue result ↔ ⟦<P as CoreMeaning>⟧.is_held self.now name.now }
     {
         self.places.get(name).is_some()
     }
 
     /// Whether every handler was handed the whole log of its variable.
     pub fn is_drained(&self) -> bool
-        ensures { IsTrue result ↔ ⟦<P as Runs>⟧.are_drained self.now }
+        ensures { IsTrue result ↔ ⟦<P as CoreMeaning>⟧.are_drained self.now }
     {
         for (variable, handlers) in self.variables.iter().zip(self.handlers.iter()) {
             if !handlers.drained(variable) {
@@ -65,7 +65,7 @@ impl<'p, P: Program> Core<'p, P> {
     /// The variable's handlers, by name.
     pub fn handlers(&self, variable: usize) -> &[Held<<P::Lat as Lattice>::Event>]
         requires { variable < (P.functions self.now.program).variables }
-        ensures are { ⟦<P as Runs>⟧.are_handlers self.now variable result.now }
+        ensures are { ⟦<P as CoreMeaning>⟧.are_handlers self.now variable result.now }
         ensures by_name { IsByName P.Lat.Event.cmp result.now }
     {
         lawful::<P>();
@@ -75,14 +75,14 @@ impl<'p, P: Program> Core<'p, P> {
 
     /// The number of tasks that haven't ended; where there is an error, of those before it.
     pub fn running(&self) -> usize
-        ensures { ⟦<P as Runs>⟧.has_running self.now result }
+        ensures { ⟦<P as CoreMeaning>⟧.has_running self.now result }
     {
         self.running
     }
 
     /// The variables; where there is an error, as they were before it.
     pub fn states(&self) -> &[Variable<P::Lat>]
-        ensures { ⟦<P as Runs>⟧.are_states self.now result.now }
+        ensures { ⟦<P as CoreMeaning>⟧.are_states self.now result.now }
     {
         &self.variables
     }
@@ -90,13 +90,13 @@ impl<'p, P: Program> Core<'p, P> {
     /// The number of steps made.
     pub fn steps(&self) -> u64
         ensures count { result ≡ self.now.steps }
-        ensures reached { ⟦<P as Runs>⟧.is_reached self.now }
+        ensures reached { ⟦<P as CoreMeaning>⟧.is_reached self.now }
     {
         self.steps
     }
 
     /// The error that a step gave.
-    pub fn fault(&self) -> Option<&Fault<<P::Lat as Lattice>::Event>>
+    pub fn fault(&self) -> Option<&RunError<<P::Lat as Lattice>::Event>>
         ensures { option_copied result ≡ self.now.fault }
     {
         self.fault.as_ref()

@@ -4,7 +4,7 @@
 ghost use Rattle.std.specs.Prelude.{◌≡◌};
 
 use lvish_calculus::{Label, Program, Request};
-use lvish_core::{Core, Fault, Moved, StepFault, Stepped};
+use lvish_core::{Core, Moved, RunError, StepFault, Stepped};
 use lvish_handlers::Held;
 use lvish_lattice::{Lattice, Numbered};
 use lvish_names::{HandlerName, TaskName};
@@ -23,8 +23,8 @@ pub enum Call<E> {
     Hand(HandlerName<E>),
 }
 
-/// What a call answers: what the step led to, and what it moved where that is told.
-type Answer<E, L> = Result<(Stepped, Option<Moved<E, L>>), StepFault>;
+/// What a call answers: what the step led to, and what it moved where it says so.
+type StepAnswer<E, L> = Result<(Stepped, Option<Moved<E, L>>), StepFault>;
 
 /// A program's core.
 #[derive(Drop)]
@@ -38,7 +38,7 @@ pub struct Bench<'p, P: Program> {
 fn write_labels<E: Numbered>(text: &mut String, labels: &[Label<E>]) -> Result<(), AllocError> {
     for label in labels {
         match label {
-            Label::Task(name) => write!(text, " {name}")?,
+            Label::Act(name) => write!(text, " {name}")?,
             Label::Hand(name, event) => write!(text, " {name} with {}", event.number())?,
         }
     }
@@ -75,7 +75,7 @@ fn write_handlers<E: Numbered>(text: &mut String, held: &[Held<E>]) -> Result<()
     Ok(())
 }
 
-fn write_fault<E: Numbered>(text: &mut String, fault: &Fault<E>) -> Result<(), AllocError> {
+fn write_fault<E: Numbered>(text: &mut String, fault: &RunError<E>) -> Result<(), AllocError> {
     write!(text, " | {:?} by {}", fault.kind, fault.task)?;
     if let Some(variable) = fault.variable {
         write!(text, " at {variable}")?;
@@ -101,7 +101,7 @@ fn write_request<S, R, L>(text: &mut String, request: &Request<S, R, L>) -> Resu
 
 fn write_answer<E: Numbered, L>(
     text: &mut String,
-    answer: &Answer<E, L>,
+    answer: &StepAnswer<E, L>,
 ) -> Result<(), AllocError> {
     match answer {
         Ok((stepped, moved)) => {
@@ -186,7 +186,7 @@ where
         &mut self,
         alloc: Global,
         call: &Call<<P::Lat as Lattice>::Event>,
-    ) -> Answer<<P::Lat as Lattice>::Event, P::Local> {
+    ) -> StepAnswer<<P::Lat as Lattice>::Event, P::Local> {
         match call {
             Call::Step(label) => Ok((self.core.step(alloc, label)?, None)),
             Call::Asked(name) => self.asked(alloc, name),
@@ -201,7 +201,7 @@ where
         &mut self,
         alloc: Global,
         name: &TaskName<<P::Lat as Lattice>::Event>,
-    ) -> Answer<<P::Lat as Lattice>::Event, P::Local> {
+    ) -> StepAnswer<<P::Lat as Lattice>::Event, P::Local> {
         let Some(local) = self.core.local_of(name) else {
             return Err(StepFault::NotEnabled);
         };
@@ -216,7 +216,7 @@ where
         rt: &impl Abort,
         alloc: Global,
         call: &Call<<P::Lat as Lattice>::Event>,
-    ) -> Result<Answer<<P::Lat as Lattice>::Event, P::Local>, AllocError> {
+    ) -> Result<StepAnswer<<P::Lat as Lattice>::Event, P::Local>, AllocError> {
         let before = self.seen_at_last(alloc)?;
         let steps = self.core.steps();
         match self.called(alloc, call) {
@@ -311,7 +311,7 @@ fn stepped<P: Program>(
     }
 }
 
-/// How many of so many steps with the label are made, and what one more answers.
+/// How many of this many steps with the label are made, and what one more answers.
 pub fn many<P: Program>(
     rt: &impl Abort,
     alloc: Global,

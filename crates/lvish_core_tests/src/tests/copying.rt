@@ -112,7 +112,7 @@ fn hand(alloc: Global, number: i64) -> Result<Call<Event>, NameFault> {
 /// A step of the task that handles the number.
 fn copy(alloc: Global, number: i64) -> Result<Call<Event>, NameFault> {
     let task = TaskName::handled(alloc, &first(alloc)?, &event(number))?;
-    Ok(Call::Step(Label::Task(task)))
+    Ok(Call::Step(Label::Act(task)))
 }
 
 /// 3 comes before 1, since it was put first, and then nothing comes next.

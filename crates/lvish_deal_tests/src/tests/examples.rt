@@ -9,7 +9,7 @@ use std::test::Fail;
 
 /// A call of a seat, and what it answers.
 #[derive(Clone, Copy)]
-enum Call {
+enum SeatCall {
     /// Which seat it is, of how many.
     Seat(usize, usize),
     /// It pushes the item, which isn't given back.
@@ -32,25 +32,26 @@ fn push_below(seats: &mut Seats, at: usize, n: u32) -> bool
     all
 }
 
-/// Whether the call is answered so.
-fn is_answered(seats: &mut Seats, call: &Call) -> bool
+/// Whether the call has the expected answer.
+fn is_answered(seats: &mut Seats, call: &SeatCall) -> bool
     requires { IsWholeDeal seats.old.items }
     ensures { IsWholeDeal seats.new.items × (length seats.new.items ≡ length seats.old.items) }
 {
     let len = seats.len();
     match call {
-        Call::Seat(at, of) if *at < len => seats[*at].number() == *at && seats[*at].seats() == *of,
-        Call::Push(at, item) if *at < len => push(seats, *at, *item).is_ok(),
-        Call::PushBelow(at, n) if *at < len => push_below(seats, *at, *n),
-        Call::Pop(at, answer) if *at < len => pop(seats, *at) == *answer,
-        Call::Steal(at, from, answer) if *at < len && *from < len && *from != *at => {
+        SeatCall::Seat(at, of) if *at < len => seats[*at].number() == *at
+            && seats[*at].seats() == *of,
+        SeatCall::Push(at, item) if *at < len => push(seats, *at, *item).is_ok(),
+        SeatCall::PushBelow(at, n) if *at < len => push_below(seats, *at, *n),
+        SeatCall::Pop(at, answer) if *at < len => pop(seats, *at) == *answer,
+        SeatCall::Steal(at, from, answer) if *at < len && *from < len && *from != *at => {
             steal(seats, *at, *from) == *answer
         }
         _ => false,
     }
 }
 
-fn are_answered(seats: &mut Seats, calls: &[Call]) -> bool
+fn are_answered(seats: &mut Seats, calls: &[SeatCall]) -> bool
     requires { IsWholeDeal seats.old.items }
     ensures { IsWholeDeal seats.new.items }
 {
@@ -70,8 +71,8 @@ fn is_left(alloc: Global, seats: Seats, deques: &[&[u32]]) -> Result<bool, Alloc
     Ok(left.len() == deques.len() && left.iter().zip(deques).all(|(a, b)| a.as_slice() == *b))
 }
 
-/// Whether the calls of so many seats are answered so, and this is left.
-fn holds(alloc: Global, n: usize, calls: &[Call], left: &[&[u32]]) -> Result<bool, AllocError>
+/// Whether the calls of `n` seats have the expected answers, and this is left.
+fn holds(alloc: Global, n: usize, calls: &[SeatCall], left: &[&[u32]]) -> Result<bool, AllocError>
     requires { (0 < n) × (n ≤ 8) }
 {
     let mut seats = dealt(alloc, n)?;
@@ -81,12 +82,12 @@ fn holds(alloc: Global, n: usize, calls: &[Call], left: &[&[u32]]) -> Result<boo
 #[test]
 fn a_pop_and_a_steal_share_what_was_pushed(rt: HostRuntime) -> Result<(), Fail> {
     let calls = [
-        Call::Push(0, 1),
-        Call::Push(0, 2),
-        Call::Push(0, 3),
-        Call::Pop(0, Some(1)),
-        Call::Steal(1, 0, Steal::Taken(2)),
-        Call::Pop(1, None),
+        SeatCall::Push(0, 1),
+        SeatCall::Push(0, 2),
+        SeatCall::Push(0, 3),
+        SeatCall::Pop(0, Some(1)),
+        SeatCall::Steal(1, 0, Steal::Taken(2)),
+        SeatCall::Pop(1, None),
     ];
     assert!(rt; holds(rt.alloc(), 2, &calls, &[&[3], &[]])?);
     Ok(())
@@ -95,14 +96,14 @@ fn a_pop_and_a_steal_share_what_was_pushed(rt: HostRuntime) -> Result<(), Fail> 
 #[test]
 fn a_lone_seat_pops_what_it_pushed(rt: HostRuntime) -> Result<(), Fail> {
     let calls = [
-        Call::Seat(0, 1),
-        Call::Pop(0, None),
-        Call::Push(0, 1),
-        Call::Push(0, 2),
-        Call::Pop(0, Some(1)),
-        Call::Pop(0, Some(2)),
-        Call::Pop(0, None),
-        Call::Push(0, 3),
+        SeatCall::Seat(0, 1),
+        SeatCall::Pop(0, None),
+        SeatCall::Push(0, 1),
+        SeatCall::Push(0, 2),
+        SeatCall::Pop(0, Some(1)),
+        SeatCall::Pop(0, Some(2)),
+        SeatCall::Pop(0, None),
+        SeatCall::Push(0, 3),
     ];
     assert!(rt; holds(rt.alloc(), 1, &calls, &[&[3]])?);
     Ok(())
@@ -111,13 +112,13 @@ fn a_lone_seat_pops_what_it_pushed(rt: HostRuntime) -> Result<(), Fail> {
 #[test]
 fn a_thief_empties_one_deque_and_turns_to_another(rt: HostRuntime) -> Result<(), Fail> {
     let calls = [
-        Call::Seat(1, 3),
-        Call::Push(0, 1),
-        Call::Push(0, 2),
-        Call::Push(2, 3),
-        Call::Steal(1, 2, Steal::Taken(3)),
-        Call::Steal(1, 2, Steal::Nothing),
-        Call::Steal(1, 0, Steal::Taken(1)),
+        SeatCall::Seat(1, 3),
+        SeatCall::Push(0, 1),
+        SeatCall::Push(0, 2),
+        SeatCall::Push(2, 3),
+        SeatCall::Steal(1, 2, Steal::Taken(3)),
+        SeatCall::Steal(1, 2, Steal::Nothing),
+        SeatCall::Steal(1, 0, Steal::Taken(1)),
     ];
     assert!(rt; holds(rt.alloc(), 3, &calls, &[&[2], &[], &[]])?);
     Ok(())
@@ -136,9 +137,9 @@ fn from_two() -> [u32; 38] {
 #[test]
 fn a_deque_that_grew_gives_its_items_in_their_order(rt: HostRuntime) -> Result<(), Fail> {
     let calls = [
-        Call::PushBelow(0, 40),
-        Call::Pop(0, Some(0)),
-        Call::Steal(1, 0, Steal::Taken(1)),
+        SeatCall::PushBelow(0, 40),
+        SeatCall::Pop(0, Some(0)),
+        SeatCall::Steal(1, 0, Steal::Taken(1)),
     ];
     assert!(rt; holds(rt.alloc(), 2, &calls, &[&from_two(), &[]])?);
     Ok(())

@@ -176,7 +176,8 @@ fn take_first(seat: &mut Seat<u32>) -> Steal<u32> {
     }
 }
 
-// Takes from the first deque again and again. Whether it took an item after it was told that nothing was there.
+// Takes from the first deque again and again, and answers whether it took an item after it was
+// told that nothing was there.
 fn takes_after_nothing(mut seat: Seat<u32>) -> bool {
     let mut told = false;
     for _ in 0..2 * ITEMS {
@@ -189,7 +190,8 @@ fn takes_after_nothing(mut seat: Seat<u32>) -> bool {
     false
 }
 
-// How many seats took an item after they were told that nothing was there, where nobody pushes any more.
+// How many seats took an item after they were told that nothing was there, where nobody pushes any
+// more.
 fn misinformed<R: Threads + Sync>(rt: &R, alloc: Global, n: usize) -> Result<usize, AllocError>
     requires { (0 < n) × (n ≤ 8) }
 {

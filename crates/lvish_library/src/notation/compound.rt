@@ -1,8 +1,8 @@
 //! Maps: the puts that make them, as `1:5,2:7`, and `_` without any. Pairs: both sides, as `1,3|2`;
 //! what is of one side begins with its number, as `2/4`.
 
-use super::{Notation, ReadNotation, Value};
-use crate::fault::Fault;
+use super::{Notation, ReadNotation, RowValue};
+use crate::row_fault::RowFault;
 use crate::words::{halves, integer, items_of};
 use lvish_compound::{AtKey, MapOf, Pair, SideOf};
 use lvish_lattice::{Lattice, Plain};
@@ -14,13 +14,13 @@ fn empty<K: Plain, L: Lattice>(alloc: Global) -> MapOf<K, L> {
 }
 
 /// The map of the one entry that the item spells.
-fn entry<L: Notation>(alloc: Global, item: &str) -> Result<MapOf<i64, L>, Fault> {
+fn entry<L: Notation>(alloc: Global, item: &str) -> Result<MapOf<i64, L>, RowFault> {
     let (key, part) = halves(item, ':')?;
     Ok(MapOf::one(alloc, integer(key)?, L::state(alloc, part)?)?)
 }
 
 impl<L: Notation> Notation for MapOf<i64, L> {
-    fn state(alloc: Global, text: &str) -> Result<MapOf<i64, L>, Fault> {
+    fn state(alloc: Global, text: &str) -> Result<MapOf<i64, L>, RowFault> {
         let items = items_of(alloc, text)?;
         let Some((first, others)) = items.as_slice().split_first() else {
             return Ok(empty(alloc));
@@ -55,7 +55,7 @@ impl<L: Notation> Notation for MapOf<i64, L> {
 }
 
 impl<L: ReadNotation> ReadNotation for MapOf<i64, L> {
-    fn read(alloc: Global, text: &str) -> Result<AtKey<i64, L::Read>, Fault> {
+    fn read(alloc: Global, text: &str) -> Result<AtKey<i64, L::Read>, RowFault> {
         let (key, read) = halves(text, ':')?;
         Ok(AtKey {
             key: integer(key)?,
@@ -74,7 +74,7 @@ impl<L: ReadNotation> ReadNotation for MapOf<i64, L> {
 }
 
 impl<A: Notation, B: Notation> Notation for Pair<A, B> {
-    fn state(alloc: Global, text: &str) -> Result<Pair<A, B>, Fault> {
+    fn state(alloc: Global, text: &str) -> Result<Pair<A, B>, RowFault> {
         let (one, two) = halves(text, '|')?;
         Ok(Pair::new(A::state(alloc, one)?, B::state(alloc, two)?))
     }
@@ -100,11 +100,11 @@ impl<A: Notation, B: Notation> Notation for Pair<A, B> {
 }
 
 impl<A: ReadNotation, B: ReadNotation> ReadNotation for Pair<A, B> {
-    fn read(alloc: Global, text: &str) -> Result<SideOf<A::Read, B::Read>, Fault> {
+    fn read(alloc: Global, text: &str) -> Result<SideOf<A::Read, B::Read>, RowFault> {
         match halves(text, '/')? {
             ("1", read) => Ok(SideOf::One(A::read(alloc, read)?)),
             ("2", read) => Ok(SideOf::Two(B::read(alloc, read)?)),
-            _ => Err(Fault::Unreadable),
+            _ => Err(RowFault::Unreadable),
         }
     }
 

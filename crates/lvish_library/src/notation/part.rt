@@ -1,7 +1,7 @@
 //! Parts: `_`, or a kind and what it holds, as `cell=5`, `set=1,3` and `max=4`.
 
 use super::Notation;
-use crate::fault::Fault;
+use crate::row_fault::RowFault;
 use crate::words::{halves, integer};
 use lvish_compound::{Part, PartEvent, SideOf};
 use lvish_lattice::{GrowSet, MaxCounter};
@@ -9,17 +9,17 @@ use std::alloc::{AllocError, Global};
 use std::fmt::Write;
 
 /// The part of this kind that the text spells.
-fn part(alloc: Global, kind: &str, text: &str) -> Result<Part, Fault> {
+fn part(alloc: Global, kind: &str, text: &str) -> Result<Part, RowFault> {
     match kind {
         "cell" => Ok(Part::Cell(integer(text)?)),
         "set" => Ok(Part::of_set(alloc, GrowSet::state(alloc, text)?)),
         "max" => Ok(Part::of_max(alloc, MaxCounter::state(alloc, text)?)),
-        _ => Err(Fault::Unreadable),
+        _ => Err(RowFault::Unreadable),
     }
 }
 
 impl Notation for Part {
-    fn state(alloc: Global, text: &str) -> Result<Part, Fault> {
+    fn state(alloc: Global, text: &str) -> Result<Part, RowFault> {
         if text == "_" {
             return Ok(Part::Empty);
         }

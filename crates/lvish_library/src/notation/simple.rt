@@ -1,15 +1,15 @@
 //! Cells: `_` or a value. Sets: their elements, as `1,3`, and `_` without any. Counters: a number.
 
-use super::{Notation, ReadNotation, Value};
-use crate::fault::Fault;
+use super::{Notation, ReadNotation, RowValue};
+use crate::row_fault::RowFault;
 use crate::words::{halves, integer, integers, items_of};
 use lvish_lattice::{Flat, FlatRead, GrowSet, Items, Levels, MaxCounter, Members, Whole};
 use std::alloc::{AllocError, Global};
 use std::fmt::Write;
 use std::hash::Hash;
 
-impl Value for i64 {
-    fn value(text: &str) -> Result<i64, Fault> {
+impl RowValue for i64 {
+    fn value(text: &str) -> Result<i64, RowFault> {
         integer(text)
     }
 
@@ -18,8 +18,8 @@ impl Value for i64 {
     }
 }
 
-impl<A: Value, B: Value> Value for (A, B) {
-    fn value(text: &str) -> Result<(A, B), Fault> {
+impl<A: RowValue, B: RowValue> RowValue for (A, B) {
+    fn value(text: &str) -> Result<(A, B), RowFault> {
         let (first, second) = halves(text, ':')?;
         Ok((A::value(first)?, B::value(second)?))
     }
@@ -32,7 +32,7 @@ impl<A: Value, B: Value> Value for (A, B) {
 }
 
 /// The values that the items of a text spell.
-fn values<V: Value>(alloc: Global, text: &str) -> Result<Vec<V>, Fault> {
+fn values<V: RowValue>(alloc: Global, text: &str) -> Result<Vec<V>, RowFault> {
     let mut values = Vec::new(alloc);
     for item in items_of(alloc, text)?.iter() {
         values.push(V::value(item)?)?;
@@ -41,7 +41,7 @@ fn values<V: Value>(alloc: Global, text: &str) -> Result<Vec<V>, Fault> {
 }
 
 /// The values with commas between them.
-fn write_values<V: Value>(values: &[V], out: &mut String) -> Result<(), AllocError> {
+fn write_values<V: RowValue>(values: &[V], out: &mut String) -> Result<(), AllocError> {
     if values.is_empty() {
         out.push('_')?;
     }
@@ -55,7 +55,7 @@ fn write_values<V: Value>(values: &[V], out: &mut String) -> Result<(), AllocErr
 }
 
 /// The elements of the set that is made of these values.
-pub fn elements<V: Value>(alloc: Global, text: &str) -> Result<String, Fault> {
+pub fn elements<V: RowValue>(alloc: Global, text: &str) -> Result<String, RowFault> {
     let values = values::<V>(alloc, text)?;
     let set = GrowSet::of(alloc, values.as_slice())?;
     let mut told = String::new(alloc);
@@ -63,8 +63,8 @@ pub fn elements<V: Value>(alloc: Global, text: &str) -> Result<String, Fault> {
     Ok(told)
 }
 
-impl<V: Value + Hash> Notation for Flat<V> {
-    fn state(_alloc: Global, text: &str) -> Result<Flat<V>, Fault> {
+impl<V: RowValue + Hash> Notation for Flat<V> {
+    fn state(_alloc: Global, text: &str) -> Result<Flat<V>, RowFault> {
         if text == "_" {
             return Ok(Flat::Bottom);
         }
@@ -83,8 +83,8 @@ impl<V: Value + Hash> Notation for Flat<V> {
     }
 }
 
-impl<V: Value + Hash> ReadNotation for Flat<V> {
-    fn read(alloc: Global, text: &str) -> Result<FlatRead<V>, Fault> {
+impl<V: RowValue + Hash> ReadNotation for Flat<V> {
+    fn read(alloc: Global, text: &str) -> Result<FlatRead<V>, RowFault> {
         if text == "any" {
             return Ok(FlatRead::Any);
         }
@@ -100,9 +100,9 @@ impl<V: Value + Hash> ReadNotation for Flat<V> {
     }
 }
 
-impl<V: Value + Hash> Notation for GrowSet<V> {
+impl<V: RowValue + Hash> Notation for GrowSet<V> {
     /// `new` is the set that is made with no elements.
-    fn state(alloc: Global, text: &str) -> Result<GrowSet<V>, Fault> {
+    fn state(alloc: Global, text: &str) -> Result<GrowSet<V>, RowFault> {
         if text == "new" {
             return Ok(GrowSet::new(alloc));
         }
@@ -118,8 +118,8 @@ impl<V: Value + Hash> Notation for GrowSet<V> {
     }
 }
 
-impl<V: Value + Hash> ReadNotation for GrowSet<V> {
-    fn read(alloc: Global, text: &str) -> Result<Members<V>, Fault> {
+impl<V: RowValue + Hash> ReadNotation for GrowSet<V> {
+    fn read(alloc: Global, text: &str) -> Result<Members<V>, RowFault> {
         Ok(Members::In(Items::new(values(alloc, text)?)))
     }
 
@@ -133,7 +133,7 @@ impl<V: Value + Hash> ReadNotation for GrowSet<V> {
 }
 
 impl Notation for MaxCounter {
-    fn state(_alloc: Global, text: &str) -> Result<MaxCounter, Fault> {
+    fn state(_alloc: Global, text: &str) -> Result<MaxCounter, RowFault> {
         Ok(MaxCounter::new(integer(text)?)?)
     }
 
@@ -147,7 +147,7 @@ impl Notation for MaxCounter {
 }
 
 impl ReadNotation for MaxCounter {
-    fn read(alloc: Global, text: &str) -> Result<Levels, Fault> {
+    fn read(alloc: Global, text: &str) -> Result<Levels, RowFault> {
         let mut levels = Vec::new(alloc);
         for number in integers(alloc, text)?.iter() {
             levels.push(MaxCounter::new(*number)?)?;

@@ -1,11 +1,11 @@
 //! The states of a script's variables: the puts that make them, as `cell=5`, `map=1:5,map=2:7`,
-//! `tally=1:5` or `1/cell=5,2/set=7`, and `_` without any. They are told as parts are, maps and
+//! `tally=1:5` or `1/cell=5,2/set=7`, and `_` without any. They are written as parts are, maps and
 //! tallies as `map=1:5,2:7` and `tally=1:5,2:7`, and pairs as `cell=5|set=7`. Events have a key, a
 //! kind and a number, as `2:Set:7`. Reads have a place and a test, as `key/2=any`, `set=at4`,
 //! `amount/2=at4`, `total=at9` or `1/cell=6,5`.
 
 use super::{Notation, ReadNotation};
-use crate::fault::Fault;
+use crate::row_fault::RowFault;
 use crate::words::{halves, integer, integers, items_of};
 use lvish_compound::{Any, AnyRead, Event, Kind, Place, Tally, Test};
 use lvish_lattice::{Items, Lattice};
@@ -13,7 +13,7 @@ use std::alloc::{AllocError, Global};
 use std::fmt::Write;
 
 /// The state of one kind.
-fn of_kind(alloc: Global, text: &str) -> Result<Any, Fault> {
+fn of_kind(alloc: Global, text: &str) -> Result<Any, RowFault> {
     match halves(text, '=')? {
         ("cell", value) => Ok(Any::cell(integer(value)?)),
         ("set", element) => Ok(Any::set(alloc, integer(element)?)?),
@@ -26,12 +26,12 @@ fn of_kind(alloc: Global, text: &str) -> Result<Any, Fault> {
             let (key, amount) = halves(entry, ':')?;
             Ok(Any::amount(alloc, integer(key)?, integer(amount)?)?)
         }
-        _ => Err(Fault::Unreadable),
+        _ => Err(RowFault::Unreadable),
     }
 }
 
 /// The state of one put, on the sides that stand before its kind, the last of them first.
-fn put(alloc: Global, text: &str) -> Result<Any, Fault> {
+fn put(alloc: Global, text: &str) -> Result<Any, RowFault> {
     let mut pieces = text.rsplit('/');
     let mut state = of_kind(alloc, pieces.next().unwrap_or(""))?;
     for side in pieces {
@@ -40,18 +40,18 @@ fn put(alloc: Global, text: &str) -> Result<Any, Fault> {
     Ok(state)
 }
 
-pub fn kind(text: &str) -> Result<Kind, Fault> {
+pub fn kind(text: &str) -> Result<Kind, RowFault> {
     match text {
         "cell" => Ok(Kind::Cell),
         "set" => Ok(Kind::Set),
         "max" => Ok(Kind::Max),
         "map" => Ok(Kind::Map),
         "tally" => Ok(Kind::Tally),
-        _ => Err(Fault::Unreadable),
+        _ => Err(RowFault::Unreadable),
     }
 }
 
-fn place(text: &str) -> Result<Place, Fault> {
+fn place(text: &str) -> Result<Place, RowFault> {
     match text {
         "cell" => return Ok(Place::Cell),
         "set" => return Ok(Place::Set),
@@ -66,7 +66,7 @@ fn place(text: &str) -> Result<Place, Fault> {
     }
 }
 
-fn test(alloc: Global, text: &str) -> Result<Test, Fault> {
+fn test(alloc: Global, text: &str) -> Result<Test, RowFault> {
     if text == "any" {
         return Ok(Test::Any);
     }
@@ -89,7 +89,7 @@ fn write_tally(tally: &Tally, out: &mut String) -> Result<(), AllocError> {
 }
 
 impl Notation for Any {
-    fn state(alloc: Global, text: &str) -> Result<Any, Fault> {
+    fn state(alloc: Global, text: &str) -> Result<Any, RowFault> {
         let items = items_of(alloc, text)?;
         let Some((first, others)) = items.as_slice().split_first() else {
             return Ok(Any::bottom(alloc));
@@ -120,7 +120,7 @@ impl Notation for Any {
 }
 
 impl ReadNotation for Any {
-    fn read(alloc: Global, text: &str) -> Result<AnyRead, Fault> {
+    fn read(alloc: Global, text: &str) -> Result<AnyRead, RowFault> {
         let (at, of) = halves(text, '=')?;
         Ok(AnyRead::new(place(at)?, test(alloc, of)?)?)
     }

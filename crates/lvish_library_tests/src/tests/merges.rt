@@ -7,7 +7,7 @@ use std::alloc::{AllocError, Global};
 use std::process::Abort;
 use std::test::Fail;
 
-type Cells = MapOf<i64, Flat<i64>>;
+type MergedCells = MapOf<i64, Flat<i64>>;
 
 fn has_events<L: Lattice>(
     alloc: Global,
@@ -59,11 +59,11 @@ fn a_set_grows(rt: HostRuntime) -> Result<(), Fail> {
     Ok(())
 }
 
-fn one(alloc: Global, key: i64, value: i64) -> Result<Cells, AllocError> {
+fn one(alloc: Global, key: i64, value: i64) -> Result<MergedCells, AllocError> {
     MapOf::one(alloc, key, Flat::Value(value))
 }
 
-fn two(alloc: Global) -> Result<Cells, AllocError> {
+fn two(alloc: Global) -> Result<MergedCells, AllocError> {
     let mut map = one(alloc, 3, 8)?;
     let _joined = merge_into(alloc, &mut map, &one(alloc, 4, 9)?)?;
     Ok(map)

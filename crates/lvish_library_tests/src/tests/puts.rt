@@ -7,13 +7,13 @@ use std::alloc::{AllocError, Global};
 use std::process::Abort;
 use std::test::Fail;
 
-type Cell = Variable<Flat<i64>>;
+type CellVariable = Variable<Flat<i64>>;
 
 /// Puts 5, again where memory was refused: the variable is as it was then.
 fn put_at_last(
     rt: &impl Abort,
     alloc: Global,
-    cell: &mut Cell,
+    cell: &mut CellVariable,
     task: &TaskName<i64>,
 ) -> Result<(), PutFault> {
     match cell.put(alloc, task, 1, &Flat::Value(5)) {
@@ -31,7 +31,7 @@ fn child(alloc: Global) -> Result<TaskName<i64>, NameFault> {
 }
 
 /// The only entry of the log, as text.
-fn entry_text(alloc: Global, cell: &Cell) -> Result<String, AllocError> {
+fn entry_text(alloc: Global, cell: &CellVariable) -> Result<String, AllocError> {
     match cell.log() {
         [entry] => format!(in alloc; "{} {} {}", entry.event, entry.task, entry.number),
         _ => Ok(String::new(alloc)),

@@ -1,11 +1,11 @@
 //! Canonical texts.
 
-use crate::answer::{Answer, done, refusal};
+use crate::answer::{RowAnswer, done, refusal};
 use lvish_script::{ScriptFault, read_script, write_script};
 use std::alloc::{AllocError, Global};
 
 /// The canonical text of the script, which has to be the canonical text of itself.
-pub fn canonical_text(alloc: Global, script: &[u8]) -> Result<Answer, AllocError> {
+pub fn canonical_text(alloc: Global, script: &[u8]) -> Result<RowAnswer, AllocError> {
     let text = match written(alloc, script) {
         Ok(text) => text,
         Err(refused) => return refusal(alloc, &refused),

@@ -1,6 +1,6 @@
 //! A script, cut at each length.
 
-use crate::answer::{Answer, done};
+use crate::answer::{RowAnswer, done};
 use crate::answers::performed::printed;
 use crate::host::Host;
 use std::alloc::{AllocError, Global};
@@ -26,7 +26,7 @@ impl Lengths {
 }
 
 /// The statuses of checks of the script's first bytes, for each number of bytes up to all.
-pub fn statuses_of_cuts<R: Host>(rt: &R, script: &[u8]) -> Result<Answer, AllocError> {
+pub fn statuses_of_cuts<R: Host>(rt: &R, script: &[u8]) -> Result<RowAnswer, AllocError> {
     let alloc = rt.alloc();
     let mut text = String::new(alloc);
     let mut lengths = Lengths {
@@ -51,7 +51,7 @@ pub fn statuses_of_cuts<R: Host>(rt: &R, script: &[u8]) -> Result<Answer, AllocE
     Ok(done(text))
 }
 
-/// The status of a check of so many first bytes.
+/// The status of a check of this many first bytes.
 fn status_of_cut<R: Host>(rt: &R, script: &[u8], length: usize) -> Result<u8, AllocError> {
     match script.get(..length) {
         Some(part) => Ok(printed(rt, &["check", "f"], part)?.status),

@@ -1,6 +1,6 @@
 //! The faults of scripts.
 
-use crate::answer::{Answer, done};
+use crate::answer::{RowAnswer, done};
 use lvish_script::Fault;
 use std::alloc::{AllocError, Global};
 
@@ -21,7 +21,7 @@ const FAULTS: [Fault; 13] = [
 ];
 
 /// The number and the name of each fault.
-pub fn numbered_faults(alloc: Global) -> Result<Answer, AllocError> {
+pub fn numbered_faults(alloc: Global) -> Result<RowAnswer, AllocError> {
     let mut text = String::new(alloc);
     for fault in FAULTS {
         let line = format!(in alloc; "{} {}\n", fault.number(), fault.name())?;

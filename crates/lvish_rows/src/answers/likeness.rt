@@ -2,9 +2,9 @@
 
 use lvish_calculus::{ErrorKind, Label};
 use lvish_compound::{Any, Event};
-use lvish_core::Fault;
+use lvish_core::RunError;
 use lvish_names::TaskName;
-use lvish_run::{Entry, FinalState, Outcome};
+use lvish_run::{FinalState, Outcome, TraceEntry};
 use lvish_variable::Variable;
 
 /// Whether the states are the same, with their marks.
@@ -70,7 +70,7 @@ fn is_error(
 
 /// Whether the fault is this error.
 pub fn is_same_fault(
-    fault: Option<&Fault<Event>>,
+    fault: Option<&RunError<Event>>,
     kind: ErrorKind,
     variable: Option<usize>,
     task: &TaskName<Event>,
@@ -82,7 +82,7 @@ pub fn is_same_fault(
 }
 
 /// Whether the labels of two traces are the same, in order.
-pub fn are_same_steps(one: &[Entry<Event>], other: &[Entry<Event>]) -> bool {
+pub fn are_same_steps(one: &[TraceEntry<Event>], other: &[TraceEntry<Event>]) -> bool {
     if one.len() != other.len() {
         return false;
     }
@@ -97,12 +97,12 @@ pub fn are_same_steps(one: &[Entry<Event>], other: &[Entry<Event>]) -> bool {
 /// Whether both are the action of one task, or the handing of one event to one handler.
 pub fn is_same_label(one: &Label<Event>, other: &Label<Event>) -> bool {
     match one {
-        Label::Task(task) => match other {
-            Label::Task(of) => task == of,
+        Label::Act(task) => match other {
+            Label::Act(of) => task == of,
             Label::Hand(_, _) => false,
         },
         Label::Hand(handler, event) => match other {
-            Label::Task(_) => false,
+            Label::Act(_) => false,
             Label::Hand(to, handed) => handler == to && event == handed,
         },
     }

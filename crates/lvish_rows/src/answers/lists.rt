@@ -1,6 +1,6 @@
 //! Runs of a script by many lists of picks.
 
-use crate::answer::{Answer, done, refusal};
+use crate::answer::{RowAnswer, done, refusal};
 use crate::answers::likeness::are_alike;
 use crate::answers::reports::run_by;
 use lvish_compound::{Any, Event};
@@ -16,7 +16,7 @@ const PICKS: usize = 40;
 const BUDGET: u64 = 100_000;
 
 /// How the runs of the script by 200 lists of picks end, and whether their traces differ.
-pub fn ends_by_lists(alloc: Global, script: &[u8]) -> Result<Answer, AllocError> {
+pub fn ends_by_lists(alloc: Global, script: &[u8]) -> Result<RowAnswer, AllocError> {
     match read_script(alloc, script) {
         Ok(script) => Ok(done(ends_text(alloc, &script)?)),
         Err(refused) => refusal(alloc, &refused),

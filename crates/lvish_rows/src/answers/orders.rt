@@ -1,19 +1,28 @@
 //! What words ask for.
 
-use crate::answer::{Answer, done};
-use lvish_cli::{UsageFault, order_of};
+use crate::answer::{RowAnswer, done};
+use lvish_cli::{Order, Source, UsageFault, order_of};
 use std::alloc::{AllocError, Global};
 
 /// The order that the words give, with the path.
-pub fn order_asked(alloc: Global, words: &[&str]) -> Result<Answer, AllocError> {
+pub fn order_asked(alloc: Global, words: &[&str]) -> Result<RowAnswer, AllocError> {
     match order_of(alloc, words) {
-        Ok((order, path)) => Ok(done(format!(in alloc; "{order:?} of {path:?}\n")?)),
+        Ok((order, source)) => Ok(done(order_line(alloc, &order, &source)?)),
         Err(fault) => no_order(alloc, &fault),
     }
 }
 
+/// The order and the path of its script, which is empty where standard input has it.
+fn order_line(alloc: Global, order: &Order, source: &Source) -> Result<String, AllocError> {
+    let path = match source {
+        Source::File(path) => path.as_str(),
+        Source::StandardInput => "",
+    };
+    format!(in alloc; "{order:?} of {path:?}\n")
+}
+
 /// The answer to words that are no order: of help its first line, of a refusal its first word.
-pub fn no_order(alloc: Global, fault: &UsageFault) -> Result<Answer, AllocError> {
+pub fn no_order(alloc: Global, fault: &UsageFault) -> Result<RowAnswer, AllocError> {
     match fault {
         UsageFault::Help(text) => {
             let line = front(text.as_str(), '\n');
@@ -22,7 +31,7 @@ pub fn no_order(alloc: Global, fault: &UsageFault) -> Result<Answer, AllocError>
         UsageFault::Refused(text) => {
             let word = front(text.as_str(), ' ');
             let text = format!(in alloc; "refused: {word}\n")?;
-            Ok(Answer { status: 2, text })
+            Ok(RowAnswer { status: 2, text })
         }
         UsageFault::Memory => Err(AllocError),
     }

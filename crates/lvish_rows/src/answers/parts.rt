@@ -1,12 +1,12 @@
 //! The parts of scripts.
 
-use crate::answer::{Answer, done, refusal};
+use crate::answer::{RowAnswer, done, refusal};
 use lvish_script::read_script;
 use lvish_syntax::{Declaration, Procedure, Script};
 use std::alloc::{AllocError, Global};
 
 /// The declarations and procedures of the script, a line each.
-pub fn parts_read(alloc: Global, script: &[u8]) -> Result<Answer, AllocError> {
+pub fn parts_read(alloc: Global, script: &[u8]) -> Result<RowAnswer, AllocError> {
     match read_script(alloc, script) {
         Ok(script) => Ok(done(parts_of(alloc, &script)?)),
         Err(refused) => refusal(alloc, &refused),

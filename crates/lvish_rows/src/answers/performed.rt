@@ -1,14 +1,14 @@
 //! What the program `lvish` prints.
 
-ghost use Rattle.lvish_cli.specs.Orders.{IsWithin};
+ghost use Rattle.lvish_cli.specs.Orders.{IsInBounds};
 
-use crate::answer::Answer;
+use crate::answer::RowAnswer;
 use crate::answers::orders::no_order;
 use crate::host::Host;
 use lvish_cli::{Order, Status, order_of, perform};
 use std::alloc::{AllocError, Global};
 
-/// By how many workers a run is made whose words don't say it.
+/// The numbers of workers of a run whose words give none.
 const WORKERS: [&str; 3] = ["1", "2", "8"];
 
 /// How often a run is made where it is asked for often.
@@ -19,7 +19,7 @@ const ROOM: usize = 16_384;
 
 /// The status and the text with which the program ends under these words, where its file or standard
 /// input has this script. A run whose words leave the workers open is made by 1, 2 and 8 of them.
-pub fn printed<R: Host>(rt: &R, words: &[&str], script: &[u8]) -> Result<Answer, AllocError> {
+pub fn printed<R: Host>(rt: &R, words: &[&str], script: &[u8]) -> Result<RowAnswer, AllocError> {
     if leaves_workers_open(words) {
         return printed_alike(rt, words, script, 1);
     }
@@ -27,7 +27,11 @@ pub fn printed<R: Host>(rt: &R, words: &[&str], script: &[u8]) -> Result<Answer,
 }
 
 /// The same of a run that is made 100 times by each of these numbers of workers.
-pub fn printed_often<R: Host>(rt: &R, words: &[&str], script: &[u8]) -> Result<Answer, AllocError> {
+pub fn printed_often<R: Host>(
+    rt: &R,
+    words: &[&str],
+    script: &[u8],
+) -> Result<RowAnswer, AllocError> {
     printed_alike(rt, words, script, OFTEN)
 }
 
@@ -35,14 +39,14 @@ fn leaves_workers_open(words: &[&str]) -> bool {
     words.first() == Some(&"run") && !words.contains(&"--workers")
 }
 
-/// What the program prints by each number of workers, so many times each: all of it where it is the
-/// same each time, else the first that is otherwise.
+/// What the program prints by each number of workers, this many times each: all of it where it is
+/// the same each time, else the first that differs.
 fn printed_alike<R: Host>(
     rt: &R,
     words: &[&str],
     script: &[u8],
     times: u64,
-) -> Result<Answer, AllocError> {
+) -> Result<RowAnswer, AllocError> {
     let usual = printed_once(rt, words, script)?;
     for number in WORKERS {
         let by_number = words_with(rt.alloc(), words, number)?;
@@ -71,28 +75,28 @@ fn words_with<'a>(
     Ok(all)
 }
 
-/// What so many workers print, which isn't what was printed first.
+/// What this many workers print, which isn't what was printed first.
 fn otherwise(
     alloc: Global,
-    usual: &Answer,
+    usual: &RowAnswer,
     number: &str,
-    other: &Answer,
-) -> Result<Answer, AllocError> {
+    other: &RowAnswer,
+) -> Result<RowAnswer, AllocError> {
     let (status, text) = (other.status, other.text.as_str());
-    Ok(Answer {
+    Ok(RowAnswer {
         status: usual.status,
         text: format!(in alloc; "{}by {number} workers {status} {text}", usual.text)?,
     })
 }
 
 /// The status and the text with which the program ends once.
-fn printed_once<R: Host>(rt: &R, words: &[&str], script: &[u8]) -> Result<Answer, AllocError> {
+fn printed_once<R: Host>(rt: &R, words: &[&str], script: &[u8]) -> Result<RowAnswer, AllocError> {
     let order = match order_of(rt.alloc(), words) {
         Ok((order, _)) => order,
         Err(fault) => return no_order(rt.alloc(), &fault),
     };
     let (status, text) = performed(rt, &order, script)?;
-    Ok(Answer {
+    Ok(RowAnswer {
         status: status.number(),
         text,
     })
@@ -105,7 +109,7 @@ pub fn performed<R: Host>(
     order: &Order,
     script: &[u8],
 ) -> Result<(Status, String), AllocError>
-    requires { IsWithin order.now }
+    requires { IsInBounds order.now }
 {
     let alloc = rt.alloc();
     let mut reader = script;

@@ -1,26 +1,26 @@
-//! Runs of a script by workers, each of them made again from its trace.
+//! Runs of a script by workers, each of them replayed from its trace.
 
 ghost use Rattle.std.specs.Prelude.{◌<◌, ◌≤◌};
 
-mod account;
-mod asked;
 mod otherwise;
 mod picking;
+mod replay_counts;
+mod replay_question;
 mod replaying;
 mod retracing;
 
-use crate::answer::{Answer, done, refusal};
+use crate::answer::{RowAnswer, done, refusal};
 use crate::answers::likeness::{are_alike, is_same_outcome};
 use crate::host::Host;
-use account::Account;
-use asked::{Asked, MOST_STEPS, asked_by};
 use lvish_compound::{Any, Event};
 use lvish_run::{Open, Report, RunFault, run, run_picks};
 use lvish_script::read_script;
 use lvish_syntax::Script;
-use lvish_task::Code;
+use lvish_task::ScriptCode;
 use otherwise::Otherwise;
 use picking::check_picked;
+use replay_counts::ReplayCounts;
+use replay_question::{MOST_STEPS, ReplayQuestion, asked_by};
 use replaying::replay;
 use std::alloc::{AllocError, Global};
 
@@ -28,59 +28,75 @@ use std::alloc::{AllocError, Global};
 const WORKERS: [usize; 4] = [1, 2, 3, 8];
 
 /// Whether the script's runs by workers, and the one by no picks, are what their reports say; or the
-/// first thing that is otherwise, with the number of workers.
-pub fn runs_replayed<R: Host>(rt: &R, words: &[&str], script: &[u8]) -> Result<Answer, AllocError> {
+/// first thing that differs, with the number of workers.
+pub fn runs_replayed<R: Host>(
+    rt: &R,
+    words: &[&str],
+    script: &[u8],
+) -> Result<RowAnswer, AllocError> {
     let alloc = rt.alloc();
-    let Some(asked) = asked_by(words) else {
+    let Some(replay_question) = asked_by(words) else {
         return no_replay(alloc);
     };
     match read_script(alloc, script) {
-        Ok(script) => replayed_by_all(rt, &script, &asked),
+        Ok(script) => replayed_by_all(rt, &script, &replay_question),
         Err(refused) => refusal(alloc, &refused),
     }
 }
 
-fn no_replay(alloc: Global) -> Result<Answer, AllocError> {
+fn no_replay(alloc: Global) -> Result<RowAnswer, AllocError> {
     let text = String::from_str(alloc, "no replay\n")?;
-    Ok(Answer { status: 2, text })
+    Ok(RowAnswer { status: 2, text })
 }
 
 /// The answer about the runs by picks and by each number of workers.
-fn replayed_by_all<R: Host>(rt: &R, script: &Script, asked: &Asked) -> Result<Answer, AllocError> {
+fn replayed_by_all<R: Host>(
+    rt: &R,
+    script: &Script,
+    replay_question: &ReplayQuestion,
+) -> Result<RowAnswer, AllocError> {
     let alloc = rt.alloc();
-    let code = Code::new(alloc, script)?;
-    let budget = asked.budget.min(MOST_STEPS);
+    let code = ScriptCode::new(alloc, script)?;
+    let budget = replay_question.budget.min(MOST_STEPS);
     let usual = run_picks(alloc, script, &[], budget)?;
     if let Err(why) = replay(alloc, &code, &usual, 1, budget) {
         return found(alloc, 0, why);
     }
-    let mut account = Account::of(alloc, &usual)?;
+    let mut replay_counts = ReplayCounts::of(alloc, &usual)?;
     for workers in 1..9usize {
         if WORKERS.contains(&workers) {
-            match replayed_by(rt, &code, script, &usual, asked.alike, workers, budget) {
-                Ok(report) => account.add(alloc, &report)?,
+            match replayed_by(
+                rt,
+                &code,
+                script,
+                &usual,
+                replay_question.alike,
+                workers,
+                budget,
+            ) {
+                Ok(report) => replay_counts.add(alloc, &report)?,
                 Err(why) => return found(alloc, workers, why),
             }
         }
     }
-    Ok(done(account.text(alloc, asked)?))
+    Ok(done(replay_counts.text(alloc, replay_question)?))
 }
 
-/// What is otherwise of the run by so many workers, or of the run by picks where there are none.
-fn found(alloc: Global, workers: usize, why: Otherwise) -> Result<Answer, AllocError> {
+/// What differs in the run by this many workers, or in the run by picks where there are none.
+fn found(alloc: Global, workers: usize, why: Otherwise) -> Result<RowAnswer, AllocError> {
     let text = match why {
         Otherwise::Memory(refused) => return Err(refused),
         Otherwise::NoReport(RunFault::Memory) => return Err(AllocError),
         _ if workers == 0 => format!(in alloc; "by picks: {why}\n")?,
         _ => format!(in alloc; "{workers} workers: {why}\n")?,
     };
-    Ok(Answer { status: 1, text })
+    Ok(RowAnswer { status: 1, text })
 }
 
-/// The report of a run by so many workers, where all of it is as it has to be.
+/// The report of a run by this many workers, where all of it is as it has to be.
 fn replayed_by<R: Host>(
     rt: &R,
-    code: &Code,
+    code: &ScriptCode,
     script: &Script,
     usual: &Report<Any, Event>,
     alike: bool,

@@ -1,7 +1,7 @@
 //! Reports of runs by picks, with what the program `lvish` prints of none: the outcome of each, the
 //! states and blocked tasks of a run that was stopped, and the steps of each worker.
 
-use crate::answer::{Answer, done, refusal};
+use crate::answer::{RowAnswer, done, refusal};
 use crate::answers::orders::no_order;
 use lvish_cli::{Order, order_of};
 use lvish_compound::{Any, Event, Part};
@@ -14,14 +14,14 @@ use std::alloc::{AllocError, Global};
 const MOST_STEPS: u64 = 100_000;
 
 /// The report of the script's run by the picks of these words, which begin with `pick`.
-pub fn report_of(alloc: Global, words: &[&str], script: &[u8]) -> Result<Answer, AllocError> {
+pub fn report_of(alloc: Global, words: &[&str], script: &[u8]) -> Result<RowAnswer, AllocError> {
     match order_of(alloc, words) {
         Ok((order, _)) => report_by(alloc, &order, script),
         Err(fault) => no_order(alloc, &fault),
     }
 }
 
-fn report_by(alloc: Global, order: &Order, script: &[u8]) -> Result<Answer, AllocError> {
+fn report_by(alloc: Global, order: &Order, script: &[u8]) -> Result<RowAnswer, AllocError> {
     let Order::Pick { picks, budget, .. } = order else {
         return no_pick(alloc);
     };
@@ -34,9 +34,9 @@ fn report_by(alloc: Global, order: &Order, script: &[u8]) -> Result<Answer, Allo
     }
 }
 
-fn no_pick(alloc: Global) -> Result<Answer, AllocError> {
+fn no_pick(alloc: Global) -> Result<RowAnswer, AllocError> {
     let text = String::from_str(alloc, "no pick\n")?;
-    Ok(Answer { status: 2, text })
+    Ok(RowAnswer { status: 2, text })
 }
 
 /// The report of the script's run by these picks.

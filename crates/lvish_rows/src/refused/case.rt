@@ -1,4 +1,4 @@
-use crate::answer::Answer;
+use crate::answer::RowAnswer;
 use crate::host::Host;
 use anyhow::Result;
 use std::alloc::AllocError;
@@ -21,7 +21,7 @@ impl Case<'_> {
         &self,
         rt: &R,
         number: u64,
-        told: &Result<Answer, AllocError>,
+        told: &Result<RowAnswer, AllocError>,
     ) -> Result<()> {
         let Case {
             file,
@@ -30,7 +30,7 @@ impl Case<'_> {
             ..
         } = self;
         match told {
-            Ok(Answer { status, text }) => {
+            Ok(RowAnswer { status, text }) => {
                 rt.println(format_args!(
                     "{file}: {row}: {line}: growth {number}: got {status} {text:?}"
                 ))?;

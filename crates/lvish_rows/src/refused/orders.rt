@@ -1,11 +1,11 @@
 //! What the program `lvish` is asked for, while growths are refused.
 
 ghost use Rattle.std.specs.Prelude.{◌<◌, ◌≤◌};
-ghost use Rattle.lvish_cli.specs.Orders.{IsWithin};
+ghost use Rattle.lvish_cli.specs.Orders.{IsInBounds};
 
 use super::case::{Case, MOST_GROWTHS};
 use super::tried::Tried;
-use crate::answer::Answer;
+use crate::answer::RowAnswer;
 use crate::answers::performed::performed;
 use crate::host::Host;
 use anyhow::{Result, bail};
@@ -31,7 +31,7 @@ pub fn try_check<R: Host>(
     Ok(try_order(rt, case, &order, tried)?.status == 0)
 }
 
-/// Tries a run of the script by so many workers.
+/// Tries a run of the script by this many workers.
 pub fn try_run<R: Host>(
     rt: &R,
     case: &Case<'_>,
@@ -71,9 +71,15 @@ pub fn try_pick<R: Host>(
     Ok(())
 }
 
-/// Has what the order asks for done once for each of its growths, and answers what it has without.
-fn try_order<R: Host>(rt: &R, case: &Case<'_>, order: &Order, tried: &mut Tried) -> Result<Answer>
-    requires { IsWithin order.now }
+/// Does what the order asks for once for each of its growths, which is refused then, and answers
+/// what comes of it with none refused.
+fn try_order<R: Host>(
+    rt: &R,
+    case: &Case<'_>,
+    order: &Order,
+    tried: &mut Tried,
+) -> Result<RowAnswer>
+    requires { IsInBounds order.now }
 {
     let usual = said_once(rt, order, case.script)?;
     for number in 1..MOST_GROWTHS {
@@ -92,17 +98,17 @@ fn try_order<R: Host>(rt: &R, case: &Case<'_>, order: &Order, tried: &mut Tried)
     bail!("there is no end of its growths");
 }
 
-/// Whether this may be told: what is told without a refused growth; or, where one was refused, want of
-/// memory, and the same call made again tells that.
+/// Whether this answer is right: the one without a refused growth; or, where one was refused, want
+/// of memory, and the same call made again gives that one.
 fn is_right<R: Host>(
     rt: &R,
     order: &Order,
     script: &[u8],
-    told: &Result<Answer, AllocError>,
+    told: &Result<RowAnswer, AllocError>,
     is_last: bool,
-    usual: &Answer,
+    usual: &RowAnswer,
 ) -> Result<bool, AllocError>
-    requires { IsWithin order.now }
+    requires { IsInBounds order.now }
 {
     match told {
         Ok(answer) => Ok(*answer == *usual),
@@ -111,23 +117,23 @@ fn is_right<R: Host>(
     }
 }
 
-fn again<R: Host>(rt: &R, order: &Order, script: &[u8]) -> Result<Answer, AllocError>
-    requires { IsWithin order.now }
+fn again<R: Host>(rt: &R, order: &Order, script: &[u8]) -> Result<RowAnswer, AllocError>
+    requires { IsInBounds order.now }
 {
     said_once(rt, order, script)
 }
 
 /// What the order about the script has written, and with which status. Where that is want of memory,
 /// or a missing thread, and nothing was written, it is an error.
-fn said_once<R: Host>(rt: &R, order: &Order, script: &[u8]) -> Result<Answer, AllocError>
-    requires { IsWithin order.now }
+fn said_once<R: Host>(rt: &R, order: &Order, script: &[u8]) -> Result<RowAnswer, AllocError>
+    requires { IsInBounds order.now }
 {
     let (status, text) = performed(rt, order, script)?;
     let is_refused = status == Status::Memory || status == Status::NoThread;
     if is_refused && text.is_empty() {
         return Err(AllocError);
     }
-    Ok(Answer {
+    Ok(RowAnswer {
         status: status.number(),
         text,
     })

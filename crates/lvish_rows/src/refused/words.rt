@@ -2,7 +2,7 @@
 
 use super::case::{Case, MOST_GROWTHS};
 use super::tried::Tried;
-use crate::answer::Answer;
+use crate::answer::RowAnswer;
 use crate::answers::answer_to;
 use crate::host::Host;
 use anyhow::{Result, bail};
@@ -45,15 +45,15 @@ pub fn try_words<R: Host>(
     bail!("there is no end of its growths");
 }
 
-/// Whether this may be told: what is told without a refused growth; or, where one was refused, want of
-/// memory, and the same call made again tells that.
+/// Whether this answer is right: the one without a refused growth; or, where one was refused, want
+/// of memory, and the same call made again gives that one.
 fn is_right<R: Host>(
     rt: &R,
     words: &[&str],
     script: &[u8],
-    told: &Result<Answer, AllocError>,
+    told: &Result<RowAnswer, AllocError>,
     is_last: bool,
-    usual: &Answer,
+    usual: &RowAnswer,
 ) -> Result<bool, AllocError> {
     match told {
         Ok(answer) => Ok(*answer == *usual),
@@ -62,12 +62,12 @@ fn is_right<R: Host>(
     }
 }
 
-fn again<R: Host>(rt: &R, words: &[&str], script: &[u8]) -> Result<Answer, AllocError> {
+fn again<R: Host>(rt: &R, words: &[&str], script: &[u8]) -> Result<RowAnswer, AllocError> {
     said_once(rt, words, script)
 }
 
 /// The answer to the question; an error where that is want of memory.
-fn said_once<R: Host>(rt: &R, words: &[&str], script: &[u8]) -> Result<Answer, AllocError> {
+fn said_once<R: Host>(rt: &R, words: &[&str], script: &[u8]) -> Result<RowAnswer, AllocError> {
     let answer = answer_to(rt, words, script)?;
     if answer.text.as_str() == NO_SCRIPT {
         return Err(AllocError);

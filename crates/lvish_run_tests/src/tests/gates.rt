@@ -4,7 +4,7 @@ ghost use Rattle.std.specs.Prelude.{true, false};
 
 use crossbeam_utils::Backoff;
 use lvish_compound::Event;
-use lvish_names::{Part, TaskName};
+use lvish_names::{NamePart, TaskName};
 use lvish_run::Gate;
 use std::sync::atomic::{AtomicBool, AtomicU64, Ordering};
 
@@ -73,12 +73,12 @@ impl Gate for Meeting {
 /// Which of main's forks the task is; `None` of main and of others' tasks.
 pub fn fork_of_main(task: &TaskName<Event>) -> Option<u64> {
     match task.parts() {
-        [Part::Fork(number)] => Some(*number),
+        [NamePart::Fork(number)] => Some(*number),
         _ => None,
     }
 }
 
-/// Waits for the flag, for so many turns at most; false where it hasn't come.
+/// Waits for the flag, for `TURNS` turns at most; false where it wasn't set.
 fn comes(flag: &AtomicBool) -> bool {
     let backoff = Backoff::new();
     for _ in 0..TURNS {

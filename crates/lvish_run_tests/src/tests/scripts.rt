@@ -7,7 +7,7 @@ pub const READ: &str =
 /// Nothing but an end.
 pub const NOTHING: &str = "proc main\nend\n";
 
-/// A read that nothing lets pass.
+/// A get that nothing wakes.
 pub const BLOCKED: &str = "cell a\nproc main\nget x a any\nend\n";
 
 /// Two tasks put the same value.

@@ -1,6 +1,6 @@
 use Rattle.std.proofs.Common.{sym, ap, subst, ◌∙◌}
 use Rattle.lvish_calculus.specs.Program.{machine_of}
-use Rattle.lvish_calculus.specs.declared.label.Label.TheVariants.{Task as Act}
+use Rattle.lvish_calculus.specs.declared.label.Label.TheVariants.{Act}
 use Rattle.lvish_core.specs.Core.{CanTake}
 use Rattle.lvish_board.specs.Left.{IsListOf, candidates, fresh_in}
 use Rattle.lvish_board.specs.Woken.{IsWoken, MayWake}

@@ -1,7 +1,8 @@
-use Rattle.std.proofs.Common.{rules, ◌≡◌, ◌++◌, ◌∷◌, [], length, sym, ap, ◌∙◌, arith}
+use Rattle.std.proofs.Common.{rules, ◌≡◌, ◌++◌, ◌∷◌, [], append-nil, length, sym, ap, ◌∙◌, arith}
 use Rattle.std.specs.Vec.Iter.{into_iter_items, into_iter_len}
+use Rattle.std.proofs.lemmas.List.{nil_from_length}
 use Rattle.lvish_board.specs.Listed.{acts}
-use Rattle.lvish_board.proofs.Those.{acts_more, append_nil, nothing_left}
+use Rattle.lvish_board.proofs.Those.{acts_more}
 use Rattle.lvish_board.proofs.list.list_acts.Goals as goal
 
 pub loop-asked-init : goal.loop-asked-init
@@ -36,5 +37,5 @@ loop-asked-preserved g c =
 
 pub returns-clause-items : goal.returns-clause-items
 returns-clause-items g c =
-    let empty : into_iter_items c.loop-asked.asked-iterator ≡ [] = nothing_left _ (sym c.loop-asked.invariant.long ∙ c.in-None.ensures.steps.0) in
-    sym (ap (λ ps. c.loop-asked.list.items ++ acts ps) empty ∙ append_nil c.loop-asked.list.items) ∙ c.loop-asked.invariant.items
+    let empty : into_iter_items c.loop-asked.asked-iterator ≡ [] = nil_from_length _ (sym c.loop-asked.invariant.long ∙ c.in-None.ensures.steps.0) in
+    sym (ap (λ ps. c.loop-asked.list.items ++ acts ps) empty ∙ append-nil c.loop-asked.list.items) ∙ c.loop-asked.invariant.items

@@ -1,9 +1,8 @@
-use Rattle.std.proofs.Common.{rules}
-use Rattle.std.specs.Ordering.{is_lt}
+use Rattle.std.proofs.Common.{rules, is_lt}
 use Rattle.std.proofs.lemmas.List.MinMax.{ranks_by}
 use Rattle.std.proofs.lemmas.Fn.{always_returns_same}
 use Rattle.lvish_names.specs.NameOrder.{name_cmp}
-use Rattle.lvish_names.specs.OrderLaws.{name_total}
+use Rattle.lvish_names.specs.laws.OrderLaws.{name_total}
 use Rattle.lvish_board.proofs.parked.sort_by_task.Goals as goal
 
 pub returns-clause-sorted : goal.returns-clause-sorted

@@ -1,5 +1,4 @@
-use Rattle.std.proofs.Common.{◌≡◌, map, take}
-use Rattle.std.specs.Prelude.{vec_capacity}
+use Rattle.std.proofs.Common.{◌≡◌, map, take, vec_capacity}
 use Rattle.lvish_board.proofs.room.copy_names.Given as goal
 
 abbrev pub invariant-loop-held : goal.invariant-loop-held

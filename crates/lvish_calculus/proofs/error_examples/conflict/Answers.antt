@@ -1,4 +1,4 @@
-use Rattle.lvish_calculus.proofs.ErrorRuns.{undoomed_after_fork, doomed_after_two}
+use Rattle.lvish_calculus.proofs.WorkedRuns.{undoomed_after_fork, doomed_after_two}
 use Rattle.lvish_calculus.proofs.error_examples.conflict.Goals as goal
 
 pub returns-clause-undoomed : goal.returns-clause-undoomed

@@ -1,4 +1,4 @@
-use Rattle.lvish_calculus.proofs.ErrorRuns.{chain_ends, doomed_at_64}
+use Rattle.lvish_calculus.proofs.WorkedRuns.{chain_ends, doomed_at_64}
 use Rattle.lvish_calculus.proofs.error_examples.deep_fork.Goals as goal
 
 pub returns-clause-deep : goal.returns-clause-deep

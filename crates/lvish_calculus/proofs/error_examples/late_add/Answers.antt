@@ -1,4 +1,4 @@
-use Rattle.lvish_calculus.proofs.ErrorRuns.{add_first_ends}
+use Rattle.lvish_calculus.proofs.WorkedRuns.{add_first_ends}
 use Rattle.lvish_calculus.proofs.error_examples.late_add.Goals as goal
 
 pub returns-clause-add_first : goal.returns-clause-add_first

@@ -1,4 +1,4 @@
-use Rattle.lvish_calculus.proofs.WaitingRuns.{blocked_unhanded, blocked_running, enabled_copied}
+use Rattle.lvish_calculus.proofs.HandingRuns.{blocked_unhanded, blocked_running, enabled_copied}
 use Rattle.lvish_calculus.proofs.waiting_examples.freeze_waits.Goals as goal
 
 pub returns-clause-unhanded : goal.returns-clause-unhanded

@@ -1,4 +1,4 @@
-use Rattle.lvish_calculus.proofs.WaitingRuns.{blocked_at_none, blocked_at_one, enabled_at_three, level_ends}
+use Rattle.lvish_calculus.proofs.HandingRuns.{blocked_at_none, blocked_at_one, enabled_at_three, level_ends}
 use Rattle.lvish_calculus.proofs.waiting_examples.get_waits.Goals as goal
 
 pub returns-clause-at_none : goal.returns-clause-at_none

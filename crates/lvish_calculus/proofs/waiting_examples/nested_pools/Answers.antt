@@ -1,4 +1,4 @@
-use Rattle.lvish_calculus.proofs.WaitingRuns.{blocked_outer, enabled_outer, blocked_inner, enabled_both, frozen_before_ends, frozen_after_ends}
+use Rattle.lvish_calculus.proofs.HandingRuns.{blocked_outer, enabled_outer, blocked_inner, enabled_both, frozen_before_ends, frozen_after_ends}
 use Rattle.lvish_calculus.proofs.waiting_examples.nested_pools.Goals as goal
 
 pub returns-clause-outer_left : goal.returns-clause-outer_left

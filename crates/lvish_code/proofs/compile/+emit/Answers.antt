@@ -4,7 +4,7 @@ use Rattle.lvish_code.specs.declared.instruction.Instruction.TheVariants.{GoOn}
 use Rattle.lvish_code.specs.Compile.{statement_code, if_code, if_else_code, while_code, list_code}
 use Rattle.lvish_code.specs.InScope.{names_in}
 use Rattle.lvish_syntax.specs.Nested.{statements}
-use Rattle.lvish_code.proofs.Trees.{code_if, code_if_else, code_while}
+use Rattle.lvish_code.specs.laws.Trees.{code_if, code_if_else, code_while}
 use Rattle.lvish_code.proofs.Patch.{patch_if, patch_if_else, patch_while}
 use Rattle.lvish_code.proofs.compile.+emit.Goals as goal
 

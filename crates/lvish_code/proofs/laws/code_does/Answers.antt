@@ -1,4 +1,4 @@
-use Rattle.lvish_code.proofs.Following.{does_here}
+use Rattle.lvish_code.specs.laws.Following.{does_here}
 use Rattle.lvish_code.proofs.laws.code_does.Goals as goal
 
 pub returns : goal.returns

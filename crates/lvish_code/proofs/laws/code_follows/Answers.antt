@@ -1,4 +1,4 @@
-use Rattle.lvish_code.proofs.Following.{follows_start}
+use Rattle.lvish_code.specs.laws.Following.{follows_start}
 use Rattle.lvish_code.proofs.laws.code_follows.Goals as goal
 
 pub returns : goal.returns

@@ -4,7 +4,7 @@ use Rattle.std.proofs.lemmas.List.Sums.{fold-append}
 use Rattle.lvish_syntax.specs.Nested.{statements}
 use Rattle.lvish_code.specs.Numbering.{with_name}
 use Rattle.lvish_code.specs.Compile.{binds_of}
-use Rattle.lvish_code.proofs.Trees.{binds_if, binds_if_else, binds_while}
+use Rattle.lvish_code.specs.laws.Trees.{binds_if, binds_if_else, binds_while}
 use Rattle.lvish_code.proofs.locals.+binds.Goals as goal
 
 pub add_in_statement-returns-in-If : goal.add_in_statement-returns-in-If

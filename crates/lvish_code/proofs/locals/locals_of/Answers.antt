@@ -5,7 +5,7 @@ use Rattle.std.proofs.lemmas.Grind.{common_steps}
 use Rattle.lvish_syntax.specs.Nested.{statements}
 use Rattle.lvish_code.specs.Numbering.{with_name, each_once}
 use Rattle.lvish_code.specs.Compile.{binds_of}
-use Rattle.lvish_code.proofs.Trees.{binds_all}
+use Rattle.lvish_code.specs.laws.Trees.{binds_all}
 use Rattle.lvish_code.proofs.locals.locals_of.Goals as goal
 
 pub returns : goal.returns

@@ -1,5 +1,5 @@
 use Rattle.std.proofs.Common.{◌≡◌, ◌++◌}
-use Rattle.lvish_compound.specs.KeyedEvents.{events_of}
+use Rattle.lvish_compound.specs.Keyed.{events_of}
 use Rattle.lvish_compound.proofs.keyed.events.Given as goal
 
 abbrev pub invariant-loop-key : goal.invariant-loop-key

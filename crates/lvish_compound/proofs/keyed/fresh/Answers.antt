@@ -4,7 +4,7 @@ use Rattle.lvish_lattice.specs.Ascending.{ties_are_same}
 use Rattle.lvish_lattice.specs.Lattice.{fresh_of}
 use Rattle.lvish_compound.specs.Keyed.{at}
 use Rattle.lvish_compound.proofs.Parts.{there, top}
-use Rattle.lvish_compound.proofs.EventSteps.{events_all}
+use Rattle.lvish_compound.proofs.Brought.{events_all}
 use Rattle.lvish_compound.proofs.keyed.fresh.Goals as goal
 
 pub returns-in_default : goal.returns-in_default

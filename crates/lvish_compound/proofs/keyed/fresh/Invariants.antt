@@ -1,7 +1,6 @@
 use Rattle.std.proofs.Common.{◌≡◌, ◌↔◌, ◌++◌}
 use Rattle.lvish_lattice.specs.Lattice.{fresh_of}
-use Rattle.lvish_compound.specs.Keyed.{at}
-use Rattle.lvish_compound.specs.KeyedEvents.{events_by}
+use Rattle.lvish_compound.specs.Keyed.{at, events_by}
 use Rattle.lvish_compound.proofs.Parts.{Each}
 use Rattle.lvish_compound.proofs.keyed.fresh.Given as goal
 

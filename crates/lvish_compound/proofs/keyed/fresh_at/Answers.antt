@@ -1,6 +1,6 @@
 use Rattle.std.proofs.Common.{◌∙◌, sym, true≢false}
 use Rattle.lvish_lattice.specs.Ascending.{ties_are_same}
-use Rattle.lvish_compound.specs.MapOf.{events_by_ties}
+use Rattle.lvish_compound.specs.laws.MapLaws.{events_by_ties}
 use Rattle.lvish_compound.proofs.Brought.{brings_all, brings_top, no_length}
 use Rattle.lvish_compound.proofs.keyed.fresh_at.Goals as goal
 

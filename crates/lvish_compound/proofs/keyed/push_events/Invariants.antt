@@ -1,5 +1,5 @@
 use Rattle.std.proofs.Common.{◌≡◌, ◌++◌, take}
-use Rattle.lvish_compound.specs.KeyedEvents.{of_key}
+use Rattle.lvish_compound.specs.Keyed.{of_key}
 use Rattle.lvish_compound.proofs.keyed.push_events.Given as goal
 
 abbrev pub invariant-loop-event : goal.invariant-loop-event

@@ -1,4 +1,4 @@
-use Rattle.lvish_compound.specs.TallyLaws.{total_reached, total_grows}
+use Rattle.lvish_compound.specs.laws.TallyLaws.{total_reached, total_grows}
 use Rattle.lvish_compound.proofs.laws.totals_are_reached.Goals as goal
 
 pub returns-clause-reached : goal.returns-clause-reached

@@ -1,4 +1,4 @@
-use Rattle.lvish_core.proofs.Seats.{in_and_out}
+use Rattle.lvish_core.proofs.Maps.{in_and_out}
 use Rattle.lvish_core.proofs.seat.seat.Goals as goal
 
 pub returns-in-Err-clause-places : goal.returns-in-Err-clause-places

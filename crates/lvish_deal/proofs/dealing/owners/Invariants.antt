@@ -1,5 +1,4 @@
-use Rattle.std.proofs.Common.{◌≡◌, length}
-use Rattle.std.specs.Prelude.{All}
+use Rattle.std.proofs.Common.{◌≡◌, length, All}
 use Rattle.lvish_deal.specs.Deals.{IsNew}
 use Rattle.lvish_deal.proofs.dealing.owners.Given as goal
 

@@ -1,5 +1,4 @@
-use Rattle.std.proofs.Common.{◌≡◌, ◌-◌, ◌≤◌, length, take}
-use Rattle.std.specs.Prelude.{All}
+use Rattle.std.proofs.Common.{◌≡◌, ◌-◌, ◌≤◌, length, take, All}
 use Rattle.lvish_deal.specs.Deals.{IsNew, AreNewRows, deques}
 use Rattle.lvish_deal.specs.Place.{AreFreshFrom}
 use Rattle.lvish_deal.proofs.dealing.seats.Given as goal

@@ -1,4 +1,4 @@
-use Rattle.lvish_picture.proofs.Follows.{start_is_followed, end_is_followed, rest_is_followed}
+use Rattle.lvish_picture.proofs.Running.{start_is_followed, end_is_followed, rest_is_followed}
 use Rattle.lvish_picture.proofs.laws.counts_follow.Goals as goal
 
 pub returns-clause-start : goal.returns-clause-start

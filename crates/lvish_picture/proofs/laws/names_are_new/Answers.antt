@@ -1,4 +1,4 @@
-use Rattle.lvish_picture.proofs.Fresh.{new_handler, new_task}
+use Rattle.lvish_picture.proofs.Cursors.{new_handler, new_task}
 use Rattle.lvish_picture.proofs.laws.names_are_new.Goals as goal
 
 pub returns-clause-handlers : goal.returns-clause-handlers

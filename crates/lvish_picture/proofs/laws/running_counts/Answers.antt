@@ -1,4 +1,4 @@
-use Rattle.lvish_picture.proofs.Few.{few_run, some_run}
+use Rattle.lvish_picture.proofs.Running.{few_run, some_run}
 use Rattle.lvish_picture.proofs.laws.running_counts.Goals as goal
 
 pub returns-clause-few : goal.returns-clause-few

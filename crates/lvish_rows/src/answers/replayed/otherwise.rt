@@ -2,7 +2,7 @@ use lvish_run::RunFault;
 use std::alloc::AllocError;
 use thiserror::Error;
 
-/// What of a report is otherwise than its trace has it.
+/// How a report differs from its trace.
 #[derive(Debug, Drop, Error)]
 pub enum Otherwise {
     /// A growth was refused.
@@ -11,7 +11,7 @@ pub enum Otherwise {
     /// There is no report.
     #[error("no report: {0}")]
     NoReport(#[from] RunFault),
-    /// After so many steps of the trace the next isn't enabled.
+    /// After this many steps of the trace the next one isn't enabled.
     #[error("after {0} steps the next one of the trace isn't enabled")]
     Label(u64),
     /// The number of steps isn't that of the trace, or is past the budget.

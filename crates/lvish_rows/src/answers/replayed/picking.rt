@@ -9,14 +9,14 @@ use lvish_compound::{Any, Event};
 use lvish_core::Core;
 use lvish_run::{Report, run_picks};
 use lvish_syntax::Script;
-use lvish_task::Code;
+use lvish_task::ScriptCode;
 use std::alloc::Global;
 
 /// The run whose picks are the places of the trace's labels, each among those that were enabled, has
 /// this trace, and comes to the same.
 pub fn check_picked(
     alloc: Global,
-    code: &Code,
+    code: &ScriptCode,
     script: &Script,
     report: &Report<Any, Event>,
     budget: u64,

@@ -5,14 +5,14 @@ use crate::answers::replayed::otherwise::Otherwise;
 use crate::answers::replayed::retracing::retrace;
 use lvish_compound::{Any, Event};
 use lvish_core::Core;
-use lvish_run::{Entry, Outcome, Report};
-use lvish_task::Code;
+use lvish_run::{Outcome, Report, TraceEntry};
+use lvish_task::ScriptCode;
 use std::alloc::{AllocError, Global};
 
-/// Replays the trace of a report by so many workers with this budget, and compares the report with it.
+/// Replays the trace of a report by this many workers with this budget, and compares the two.
 pub fn replay(
     alloc: Global,
-    code: &Code,
+    code: &ScriptCode,
     report: &Report<Any, Event>,
     workers: usize,
     budget: u64,
@@ -26,7 +26,7 @@ pub fn replay(
 }
 
 fn check_steps(
-    core: &Core<'_, Code>,
+    core: &Core<'_, ScriptCode>,
     report: &Report<Any, Event>,
     budget: u64,
 ) -> Result<(), Otherwise> {
@@ -39,7 +39,7 @@ fn check_steps(
 
 fn check_outcome(
     alloc: Global,
-    core: &Core<'_, Code>,
+    core: &Core<'_, ScriptCode>,
     report: &Report<Any, Event>,
     budget: u64,
 ) -> Result<(), Otherwise> {
@@ -53,7 +53,7 @@ fn check_outcome(
 /// budget where something is, or the same error.
 fn has_outcome(
     alloc: Global,
-    core: &Core<'_, Code>,
+    core: &Core<'_, ScriptCode>,
     report: &Report<Any, Event>,
     budget: u64,
 ) -> Result<bool, AllocError> {
@@ -72,13 +72,13 @@ fn has_outcome(
 }
 
 /// Whether no label is enabled.
-fn is_at_rest(alloc: Global, core: &Core<'_, Code>) -> Result<bool, AllocError> {
+fn is_at_rest(alloc: Global, core: &Core<'_, ScriptCode>) -> Result<bool, AllocError> {
     let labels = core.labels(alloc)?;
     Ok(labels.is_empty())
 }
 
 /// The states and the blocked tasks are the core's, and after an error there are none.
-fn check_states(core: &Core<'_, Code>, report: &Report<Any, Event>) -> Result<(), Otherwise> {
+fn check_states(core: &Core<'_, ScriptCode>, report: &Report<Any, Event>) -> Result<(), Otherwise> {
     let states = report.states.as_slice();
     if core.fault().is_some() {
         return check_none(states.len(), report.blocked);
@@ -118,8 +118,8 @@ fn check_workers(report: &Report<Any, Event>, workers: usize) -> Result<(), Othe
     Ok(())
 }
 
-/// Whether each entry is of one of so many workers.
-fn are_among(trace: &[Entry<Event>], workers: usize) -> bool {
+/// Whether each entry is of a worker whose number is below `workers`.
+fn are_among(trace: &[TraceEntry<Event>], workers: usize) -> bool {
     for entry in trace {
         if entry.worker >= workers {
             return false;
@@ -129,6 +129,6 @@ fn are_among(trace: &[Entry<Event>], workers: usize) -> bool {
 }
 
 /// How many entries are of this worker.
-fn made_by(trace: &[Entry<Event>], worker: usize) -> u64 {
+fn made_by(trace: &[TraceEntry<Event>], worker: usize) -> u64 {
     trace.iter().filter(|entry| entry.worker == worker).count() as u64
 }

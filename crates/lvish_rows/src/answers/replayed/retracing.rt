@@ -1,19 +1,19 @@
-//! The steps of a trace, made again one by one.
+//! The steps of a trace, replayed one by one.
 
 use crate::answers::likeness::is_same_label;
 use crate::answers::replayed::otherwise::Otherwise;
 use lvish_calculus::Label;
 use lvish_compound::Event;
 use lvish_core::{Core, StepFault};
-use lvish_run::Entry;
-use lvish_task::Code;
+use lvish_run::TraceEntry;
+use lvish_task::ScriptCode;
 use std::alloc::{AllocError, Global};
 
 /// Makes the steps of the trace, each of which has to be enabled.
 pub fn retrace(
     alloc: Global,
-    core: &mut Core<'_, Code>,
-    trace: &[Entry<Event>],
+    core: &mut Core<'_, ScriptCode>,
+    trace: &[TraceEntry<Event>],
 ) -> Result<(), Otherwise> {
     for entry in trace {
         if !core.enabled(alloc, &entry.label)? {
@@ -25,7 +25,11 @@ pub fn retrace(
 }
 
 /// Makes the step with the label.
-fn take(alloc: Global, core: &mut Core<'_, Code>, label: &Label<Event>) -> Result<(), Otherwise> {
+fn take(
+    alloc: Global,
+    core: &mut Core<'_, ScriptCode>,
+    label: &Label<Event>,
+) -> Result<(), Otherwise> {
     match core.step(alloc, label) {
         Ok(_) => Ok(()),
         Err(StepFault::Memory) => Err(Otherwise::from(AllocError)),
@@ -37,8 +41,8 @@ fn take(alloc: Global, core: &mut Core<'_, Code>, label: &Label<Event>) -> Resul
 /// Makes the steps of the trace, and answers for each its place among the labels that were enabled.
 pub fn places(
     alloc: Global,
-    core: &mut Core<'_, Code>,
-    trace: &[Entry<Event>],
+    core: &mut Core<'_, ScriptCode>,
+    trace: &[TraceEntry<Event>],
 ) -> Result<Vec<u64>, Otherwise> {
     let mut places = Vec::new(alloc);
     for entry in trace {

@@ -1,40 +1,29 @@
 use Rattle.std.proofs.Common.{sym, subst}
 use Rattle.lvish_names.proofs.NameLaws.{handler_cmp-iff}
-use Rattle.lvish_calculus.specs.Program.{machine_of}
 use Rattle.lvish_core.specs.Core.{IsNext}
-use Rattle.lvish_run.specs.Agenda.{open_in}
 use Rattle.lvish_run.proofs.Firsts.{nothing_open}
 use Rattle.lvish_run.proofs.Turns.{first_handler, next_handler}
 use Rattle.lvish_run.proofs.runner.first_handler.Goals as goal
 
 pub returns-in-Some-next : goal.returns-in-Some-next
 returns-in-Some-next g c =
-    let M = machine_of g.P.Lat.PartialEq.eq g.P.Lat.Event.PartialEq.eq g.P.Lat.Event.Ord.cmp g.P.Lat.Lattice.least g.P.Lat.Lattice.joined g.P.Lat.Lattice.events_of g.P.Lat.Reads.answer_of (g.P.Program.functions g.J.Named.program) in
-    let cmp = g.P.Lat.Event.Ord.cmp in
     let o = g.met.P.Lat.Event.Ord in
     let exact = handler_cmp-iff g.P.Lat.Event.Ord.cmp g.met.P.Lat.Event.Plain.identical o.matches_eq o.total in
-    first_handler cmp M g.J.Named.program g.J.Named.budget c.args.board.now c.is_sound.ensures c.requires.running c.loop-handler.agenda c.pop_handler.new.self c.loop-handler.invariant.beside c.loop-handler.invariant.no_task (c.hands_one_event.ensures.open g.J.Named.program) (c.hands_one_event.ensures.one g.J.Named.program) exact c.in-Some.handler c.in-Some.ensures c.in-Some-next._event (subst (λ k. IsNext g.P.Lat.Event.PartialEq.eq k.table c.in-Some.handler c.in-Some-next._event) c.core.ensures.core c.in-Some-next.ensures)
+    first_handler _ _ g.J.Named.program g.J.Named.budget c.args.board.now c.is_sound.ensures c.requires.running c.loop-handler.agenda c.pop_handler.new.self c.loop-handler.invariant.beside c.loop-handler.invariant.no_task (c.hands_one_event.ensures.open g.J.Named.program) (c.hands_one_event.ensures.one g.J.Named.program) exact c.in-Some.handler c.in-Some.ensures c.in-Some-next._event (subst (λ k. IsNext g.P.Lat.Event.PartialEq.eq k.table c.in-Some.handler c.in-Some-next._event) c.core.ensures.core c.in-Some-next.ensures)
 
 pub loop-handler-preserved-in_default-next : goal.loop-handler-preserved-in_default-next
 loop-handler-preserved-in_default-next g c =
-    let M = machine_of g.P.Lat.PartialEq.eq g.P.Lat.Event.PartialEq.eq g.P.Lat.Event.Ord.cmp g.P.Lat.Lattice.least g.P.Lat.Lattice.joined g.P.Lat.Lattice.events_of g.P.Lat.Reads.answer_of (g.P.Program.functions g.J.Named.program) in
-    let cmp = g.P.Lat.Event.Ord.cmp in
     let o = g.met.P.Lat.Event.Ord in
     let exact = handler_cmp-iff g.P.Lat.Event.Ord.cmp g.met.P.Lat.Event.Plain.identical o.matches_eq o.total in
-    let z = next_handler cmp M g.J.Named.program g.J.Named.budget c.args.board.now c.is_sound.ensures c.requires.running c.loop-handler.agenda c.pop_handler.new.self c.loop-handler.invariant.beside c.loop-handler.invariant.no_task (c.hands_one_event.ensures.open g.J.Named.program) (c.hands_one_event.ensures.one g.J.Named.program) exact c.in-Some.handler c.in-Some.ensures (λ e next. c.in_default-next.ensures e (subst (λ k. IsNext g.P.Lat.Event.PartialEq.eq k.table c.in-Some.handler e) (sym c.core.ensures.core) next)) in
+    let z = next_handler _ _ g.J.Named.program g.J.Named.budget c.args.board.now c.is_sound.ensures c.requires.running c.loop-handler.agenda c.pop_handler.new.self c.loop-handler.invariant.beside c.loop-handler.invariant.no_task (c.hands_one_event.ensures.open g.J.Named.program) (c.hands_one_event.ensures.one g.J.Named.program) exact c.in-Some.handler c.in-Some.ensures (λ e next. c.in_default-next.ensures e (subst (λ k. IsNext g.P.Lat.Event.PartialEq.eq k.table c.in-Some.handler e) (sym c.core.ensures.core) next)) in
     record { beside = z.0; no_task = z.1 }
 
 pub loop-handler-preserved : goal.loop-handler-preserved
 loop-handler-preserved g c =
-    let M = machine_of g.P.Lat.PartialEq.eq g.P.Lat.Event.PartialEq.eq g.P.Lat.Event.Ord.cmp g.P.Lat.Lattice.least g.P.Lat.Lattice.joined g.P.Lat.Lattice.events_of g.P.Lat.Reads.answer_of (g.P.Program.functions g.J.Named.program) in
-    let cmp = g.P.Lat.Event.Ord.cmp in
     let o = g.met.P.Lat.Event.Ord in
     let exact = handler_cmp-iff g.P.Lat.Event.Ord.cmp g.met.P.Lat.Event.Plain.identical o.matches_eq o.total in
-    let z = next_handler cmp M g.J.Named.program g.J.Named.budget c.args.board.now c.is_sound.ensures c.requires.running c.loop-handler.agenda c.pop_handler.new.self c.loop-handler.invariant.beside c.loop-handler.invariant.no_task (c.hands_one_event.ensures.open g.J.Named.program) (c.hands_one_event.ensures.one g.J.Named.program) exact c.in-Some.handler c.in-Some.ensures (λ e next. c.in_default-next.ensures e (subst (λ k. IsNext g.P.Lat.Event.PartialEq.eq k.table c.in-Some.handler e) (sym c.core.ensures.core) next)) in
+    let z = next_handler _ _ g.J.Named.program g.J.Named.budget c.args.board.now c.is_sound.ensures c.requires.running c.loop-handler.agenda c.pop_handler.new.self c.loop-handler.invariant.beside c.loop-handler.invariant.no_task (c.hands_one_event.ensures.open g.J.Named.program) (c.hands_one_event.ensures.one g.J.Named.program) exact c.in-Some.handler c.in-Some.ensures (λ e next. c.in_default-next.ensures e (subst (λ k. IsNext g.P.Lat.Event.PartialEq.eq k.table c.in-Some.handler e) (sym c.core.ensures.core) next)) in
     record { beside = z.0; no_task = z.1 }
 
 pub returns : goal.returns
-returns g c =
-    let M = machine_of g.P.Lat.PartialEq.eq g.P.Lat.Event.PartialEq.eq g.P.Lat.Event.Ord.cmp g.P.Lat.Lattice.least g.P.Lat.Lattice.joined g.P.Lat.Lattice.events_of g.P.Lat.Reads.answer_of (g.P.Program.functions g.J.Named.program) in
-    let cmp = g.P.Lat.Event.Ord.cmp in
-    nothing_open M c.args.board.now (open_in cmp c.loop-handler.agenda) c.is_sound.ensures.blocked c.loop-handler.invariant.beside c.loop-handler.invariant.no_task c.in_default.ensures
+returns g c = nothing_open _ c.args.board.now _ c.is_sound.ensures.blocked c.loop-handler.invariant.beside c.loop-handler.invariant.no_task c.in_default.ensures

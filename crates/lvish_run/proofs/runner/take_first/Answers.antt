@@ -1,8 +1,8 @@
+use Rattle.std.proofs.lemmas.Result.{IfOk-weaker}
 use Rattle.lvish_names.proofs.NameLaws.{name_cmp-iff}
 use Rattle.lvish_calculus.specs.Program.{machine_of}
-use Rattle.lvish_run.specs.Agenda.{open_in}
 use Rattle.lvish_run.proofs.Firsts.{without_task}
-use Rattle.lvish_run.proofs.Turns.{first_acted, turn_then}
+use Rattle.lvish_run.proofs.Turns.{first_acted, turn_after}
 use Rattle.lvish_run.proofs.runner.take_first.Goals as goal
 
 pub act-requires-clause-current : goal.act-requires-clause-current
@@ -10,22 +10,17 @@ act-requires-clause-current g c = (c.loop-asked.invariant.beside.current c.in-So
 
 pub act-requires-clause-beside : goal.act-requires-clause-beside
 act-requires-clause-beside g c =
-    let M = machine_of g.P.Lat.PartialEq.eq g.P.Lat.Event.PartialEq.eq g.P.Lat.Event.Ord.cmp g.P.Lat.Lattice.least g.P.Lat.Lattice.joined g.P.Lat.Lattice.events_of g.P.Lat.Reads.answer_of (g.P.Program.functions g.J.Named.program) in
-    let cmp = g.P.Lat.Event.Ord.cmp in
     let o = g.met.P.Lat.Event.Ord in
     let exact = name_cmp-iff g.P.Lat.Event.Ord.cmp g.met.P.Lat.Event.Plain.identical o.matches_eq o.total in
-    without_task M c.loop-asked.board cmp (open_in cmp c.loop-asked.agenda) (open_in cmp c.pop_task.new.self) c.loop-asked.invariant.beside exact c.in-Some.ensures.task c.in-Some.asked c.in-Some.ensures.was c.in-Some.ensures.without
+    without_task _ c.loop-asked.board _ _ _ c.loop-asked.invariant.beside exact c.in-Some.ensures.task c.in-Some.asked c.in-Some.ensures.was c.in-Some.ensures.without
 
 pub returns-then-branch-clause-turn : goal.returns-then-branch-clause-turn
 returns-then-branch-clause-turn g c =
-    let M = machine_of g.P.Lat.PartialEq.eq g.P.Lat.Event.PartialEq.eq g.P.Lat.Event.Ord.cmp g.P.Lat.Lattice.least g.P.Lat.Lattice.joined g.P.Lat.Lattice.events_of g.P.Lat.Reads.answer_of (g.P.Program.functions g.J.Named.program) in
-    let cmp = g.P.Lat.Event.Ord.cmp in
     let o = g.met.P.Lat.Event.Ord in
     let exact = name_cmp-iff g.P.Lat.Event.Ord.cmp g.met.P.Lat.Event.Plain.identical o.matches_eq o.total in
-    first_acted cmp M exact c.args.board.now c.loop-asked.board c.act.new.board c.loop-asked.invariant.idle c.loop-asked.agenda c.pop_task.new.self c.loop-asked.invariant.sound.blocked c.loop-asked.invariant.beside c.in-Some.asked c.in-Some.ensures c.in_ok-act.field-0 c.if-branch.true c.in_ok-act.ensures.acted
+    first_acted _ _ exact c.args.board.now c.loop-asked.board c.act.new.board c.loop-asked.invariant.idle c.loop-asked.agenda c.pop_task.new.self c.loop-asked.invariant.sound.blocked c.loop-asked.invariant.beside c.in-Some.asked c.in-Some.ensures (rw c.if-branch.true at c.in_ok-act.ensures.acted)
 
 pub returns-clause-turn : goal.returns-clause-turn
 returns-clause-turn g c =
     let M = machine_of g.P.Lat.PartialEq.eq g.P.Lat.Event.PartialEq.eq g.P.Lat.Event.Ord.cmp g.P.Lat.Lattice.least g.P.Lat.Lattice.joined g.P.Lat.Lattice.events_of g.P.Lat.Reads.answer_of (g.P.Program.functions g.J.Named.program) in
-    let cmp = g.P.Lat.Event.Ord.cmp in
-    turn_then cmp M c.args.board.now c.loop-asked.board c.take_first_handing.new.board c.loop-asked.invariant.idle c.take_first_handing.result c.take_first_handing.ensures.turn
+    IfOk-weaker c.take_first_handing.result _ _ (λ made z. turn_after g.P.Lat.Event.Ord.cmp M c.args.board.now c.loop-asked.board c.take_first_handing.new.board c.loop-asked.invariant.idle made z) c.take_first_handing.ensures.turn

@@ -1,6 +1,6 @@
 use Rattle.std.proofs.Common.{◌≡◌, None, length}
 use Rattle.lvish_calculus.specs.Program.{machine_of}
-use Rattle.lvish_board.specs.Standing.{IsSound}
+use Rattle.lvish_board.specs.Standing.{IsBoardSound}
 use Rattle.lvish_run.specs.Agenda.{open_in, IsBeside}
 use Rattle.lvish_run.specs.Walk.{IsIdle}
 use Rattle.lvish_run.proofs.runner.take_first.Given as goal
@@ -11,7 +11,7 @@ invariant-loop-asked g l =
     record {
       idle : IsIdle l.fn.board l.board;
       running : l.board.over ≡ None;
-      sound : IsSound M g.J.Named.program g.J.Named.budget l.board;
+      sound : IsBoardSound M g.J.Named.program g.J.Named.budget l.board;
       beside : IsBeside M l.board None None (open_in g.P.Lat.Event.Ord.cmp l.agenda);
     }
 

@@ -1,14 +1,11 @@
-use Rattle.lvish_calculus.specs.Program.{machine_of}
 use Rattle.lvish_run.proofs.Walks.{walk_stops, walk_goes}
 use Rattle.lvish_run.proofs.runner.walk.Goals as goal
 
 pub returns-then-not-made : goal.returns-then-not-made
 returns-then-not-made g c =
-    let M = machine_of g.P.Lat.PartialEq.eq g.P.Lat.Event.PartialEq.eq g.P.Lat.Event.Ord.cmp g.P.Lat.Lattice.least g.P.Lat.Lattice.joined g.P.Lat.Lattice.events_of g.P.Lat.Reads.answer_of (g.P.Program.functions g.J.Named.program) in
-    walk_stops M g.P.Lat.Event.Ord.cmp c.args.picks.now g.J.Named.program g.J.Named.budget (c.takes_core_runs.ensures g.J.Named.program) c.loop-k.board c.turn.new.board c.loop-k.invariant.walk c.is_sound-in-loop-k.ensures c.pick_at.result c.in_ok-made.made c.if-not-made.true c.in_ok-made.ensures.turn
+    walk_stops _ g.P.Lat.Event.Ord.cmp c.args.picks.now g.J.Named.program g.J.Named.budget (c.takes_core_runs.ensures g.J.Named.program) c.loop-k.board c.turn.new.board c.loop-k.invariant.walk c.is_sound-in-loop-k.ensures c.pick_at.result c.in_ok-made.made c.if-not-made.true c.in_ok-made.ensures.turn
 
 pub loop-k-preserved : goal.loop-k-preserved
 loop-k-preserved g c =
-    let M = machine_of g.P.Lat.PartialEq.eq g.P.Lat.Event.PartialEq.eq g.P.Lat.Event.Ord.cmp g.P.Lat.Lattice.least g.P.Lat.Lattice.joined g.P.Lat.Lattice.events_of g.P.Lat.Reads.answer_of (g.P.Program.functions g.J.Named.program) in
-    let z = walk_goes M g.P.Lat.Event.Ord.cmp c.args.picks.now g.J.Named.program g.J.Named.budget (c.takes_core_runs.ensures g.J.Named.program) c.loop-k.board c.turn.new.board c.loop-k.invariant.walk c.is_sound-in-loop-k.ensures c.loop-k.k c.pick_at.result c.in_ok-made.made c.loop-k.invariant.count c.pick_at.ensures c.if-not-made.false c.in_ok-made.ensures.turn in
+    let z = walk_goes _ g.P.Lat.Event.Ord.cmp c.args.picks.now g.J.Named.program g.J.Named.budget (c.takes_core_runs.ensures g.J.Named.program) c.loop-k.board c.turn.new.board c.loop-k.invariant.walk c.is_sound-in-loop-k.ensures c.loop-k.k c.pick_at.result c.in_ok-made.made c.loop-k.invariant.count c.pick_at.ensures c.if-not-made.false c.in_ok-made.ensures.turn in
     record { sound = c.is_sound-in-loop-k.ensures; walk = z.0; count = z.1; agenda = c.in_ok-made.ensures.agenda c.if-not-made.false }

@@ -4,4 +4,4 @@ use Rattle.lvish_run.specs.StateText.{entry_text}
 use Rattle.lvish_run.proofs.state_text.map_text.Given as goal
 
 abbrev pub invariant-loop-key : goal.invariant-loop-key
-invariant-loop-key l = map string_bytes l.pieces.items ++ map (λ e. entry_text e.0 e.1) l.key-iterator ≡ map (λ e. entry_text e.0 e.1) (entries_of l.map)
+invariant-loop-key l = map string_bytes l.pieces.items ++ map entry_text l.key-iterator ≡ map entry_text (entries_of l.map)

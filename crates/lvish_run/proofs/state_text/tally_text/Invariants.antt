@@ -4,4 +4,4 @@ use Rattle.lvish_run.specs.StateText.{amount_text}
 use Rattle.lvish_run.proofs.state_text.tally_text.Given as goal
 
 abbrev pub invariant-loop-key : goal.invariant-loop-key
-invariant-loop-key l = map string_bytes l.pieces.items ++ map (λ e. amount_text e.0 e.1) l.key-iterator ≡ map (λ e. amount_text e.0 e.1) (entries_of l.tally)
+invariant-loop-key l = map string_bytes l.pieces.items ++ map amount_text l.key-iterator ≡ map amount_text (entries_of l.tally)

@@ -1,6 +1,6 @@
 -- The text so far is that of the steps so far.
 use Rattle.std.proofs.Common.{◌≡◌, take, string_bytes}
-use Rattle.lvish_run.specs.Honest.{labels_of}
+use Rattle.lvish_board.specs.Standing.{labels_of}
 use Rattle.lvish_run.specs.TraceText.{trace_lines}
 use Rattle.lvish_run.proofs.trace_lines.trace_text.Given as goal
 

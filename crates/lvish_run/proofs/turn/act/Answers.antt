@@ -1,31 +1,26 @@
 use Rattle.std.proofs.Common.{inl, inr, is_some, ap}
 use Rattle.std.proofs.lemmas.Bool.{both_ways}
-use Rattle.lvish_calculus.specs.declared.label.Label.TheVariants.{Task}
-use Rattle.lvish_calculus.specs.Program.{machine_of}
+use Rattle.lvish_calculus.specs.declared.label.Label.TheVariants.{Act}
 use Rattle.lvish_run.specs.Agenda.{open_in}
 use Rattle.lvish_run.proofs.Beside.{was_enabled, beside_after, beside_parked}
-use Rattle.lvish_run.proofs.Tries.{tried_made, tried_none}
 use Rattle.lvish_run.proofs.turn.act.Goals as goal
 
 pub returns-in_ok-add-in-Some-clause-acted : goal.returns-in_ok-add-in-Some-clause-acted
 returns-in_ok-add-in-Some-clause-acted g c =
-    let M = machine_of g.P.Lat.PartialEq.eq g.P.Lat.Event.PartialEq.eq g.P.Lat.Event.Ord.cmp g.P.Lat.Lattice.least g.P.Lat.Lattice.joined g.P.Lat.Lattice.events_of g.P.Lat.Reads.answer_of (g.P.Program.functions g.J.Named.program) in
-    let made = tried_made g.P.Lat.Event.Ord.cmp M c.args.board.now c.take_act.new.board c.in_ok-works.field-0 c.args.asked c.in-Some.works c.in-Some.is c.in_ok-works.ensures in
-    ((was_enabled M g.J.Named.program g.J.Named.budget c.args.board.now c.take_act.new.board (Task c.args.asked.task) c.is_sound.ensures c.is_sound-in-Some.ensures c.requires.running made.entered, tt), made.entered)
+    let made = rw c.in-Some.is at c.in_ok-works.ensures in
+    ((was_enabled _ g.J.Named.program g.J.Named.budget c.args.board.now c.take_act.new.board (Act c.args.asked.task) c.is_sound.ensures c.is_sound-in-Some.ensures c.requires.running made.entered, tt), made.entered)
 
 pub returns-in_ok-add-in-Some-clause-agenda : goal.returns-in_ok-add-in-Some-clause-agenda
 returns-in_ok-add-in-Some-clause-agenda g c = λ still.
-    let M = machine_of g.P.Lat.PartialEq.eq g.P.Lat.Event.PartialEq.eq g.P.Lat.Event.Ord.cmp g.P.Lat.Lattice.least g.P.Lat.Lattice.joined g.P.Lat.Lattice.events_of g.P.Lat.Reads.answer_of (g.P.Program.functions g.J.Named.program) in
-    let made = tried_made g.P.Lat.Event.Ord.cmp M c.args.board.now c.take_act.new.board c.in_ok-works.field-0 c.args.asked c.in-Some.works c.in-Some.is c.in_ok-works.ensures in
-    beside_after M g.J.Named.program g.J.Named.budget c.args.board.now c.take_act.new.board (Task c.args.asked.task) c.is_sound.ensures c.is_sound-in-Some.ensures c.requires.running still made.entered
+    let made = rw c.in-Some.is at c.in_ok-works.ensures in
+    beside_after _ g.J.Named.program g.J.Named.budget c.args.board.now c.take_act.new.board (Act c.args.asked.task) c.is_sound.ensures c.is_sound-in-Some.ensures c.requires.running made.entered still
     (c.lawful.ensures g.J.Named.program) (c.hands_one_event.ensures.open g.J.Named.program) (c.handed_next.ensures.below_the_end g.J.Named.program) (c.handed_next.ensures.held g.J.Named.program)
     g.P.Lat.Event.Ord.cmp c.in-Some.works.items made.listed (open_in g.P.Lat.Event.Ord.cmp c.args.agenda.now) (open_in g.P.Lat.Event.Ord.cmp c.add.new.self) c.requires.beside c.in_ok-add-in-Some.ensures
 
 pub returns-in-None-clause-agenda : goal.returns-in-None-clause-agenda
 returns-in-None-clause-agenda g c = λ still.
-    let M = machine_of g.P.Lat.PartialEq.eq g.P.Lat.Event.PartialEq.eq g.P.Lat.Event.Ord.cmp g.P.Lat.Lattice.least g.P.Lat.Lattice.joined g.P.Lat.Lattice.events_of g.P.Lat.Reads.answer_of (g.P.Program.functions g.J.Named.program) in
-    let passed = tried_none g.P.Lat.Event.Ord.cmp M c.args.board.now c.take_act.new.board c.in_ok-works.field-0 c.args.asked c.in-None.is c.in_ok-works.ensures in
+    let passed = rw c.in-None.is at c.in_ok-works.ensures in
     elim passed.why [
       | inl over ↦ absurd (both_ways _ (ap is_some still) over)
-      | inr z ↦ beside_parked M c.args.board.now c.take_act.new.board c.args.asked (open_in g.P.Lat.Event.Ord.cmp c.args.agenda.now) passed.idle.core z.1 c.requires.beside
+      | inr z ↦ beside_parked _ c.args.board.now c.take_act.new.board c.args.asked (open_in g.P.Lat.Event.Ord.cmp c.args.agenda.now) passed.idle.core z.1 c.requires.beside
     ]

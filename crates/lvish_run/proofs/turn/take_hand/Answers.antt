@@ -1,5 +1,4 @@
 use Rattle.std.proofs.Common.{refl}
-use Rattle.lvish_calculus.specs.Program.{machine_of}
 use Rattle.lvish_run.proofs.Firsts.{handler_there}
 use Rattle.lvish_run.proofs.turn.take_hand.Goals as goal
 
@@ -8,8 +7,7 @@ unreachable-requires-in-Parked g c = (c.in-Parked.ensures.parked refl).0 c.requi
 
 pub unreachable-requires-in-Stale : goal.unreachable-requires-in-Stale
 unreachable-requires-in-Stale g c =
-    let M = machine_of g.P.Lat.PartialEq.eq g.P.Lat.Event.PartialEq.eq g.P.Lat.Event.Ord.cmp g.P.Lat.Lattice.least g.P.Lat.Lattice.joined g.P.Lat.Lattice.events_of g.P.Lat.Reads.answer_of (g.P.Program.functions g.J.Named.program) in
-    (c.in-Stale.ensures.stale refl).0 (handler_there M g.J.Named.program g.J.Named.budget c.args.board.now c.is_sound.ensures c.requires.running (c.hands_one_event.ensures.open g.J.Named.program) c.args.handler c.requires.next)
+    (c.in-Stale.ensures.stale refl).0 (handler_there _ g.J.Named.program g.J.Named.budget c.args.board.now c.is_sound.ensures c.requires.running (c.hands_one_event.ensures.open g.J.Named.program) c.args.handler c.requires.next)
 
 pub returns-in-Next : goal.returns-in-Next
 returns-in-Next g c = λ e next. record { entered = c.in-Next.ensures.step refl e next; listed = c.in-Next.ensures.list e next }

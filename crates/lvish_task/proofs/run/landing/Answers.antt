@@ -1,6 +1,6 @@
 use Rattle.std.proofs.Common.{sym, ◌∙◌, ap, ◌≡◌, ◌+◌, arith}
 use Rattle.lvish_task.specs.Run.{landing}
-use Rattle.lvish_task.specs.Landing.{landing_jump, landing_here}
+use Rattle.lvish_task.specs.laws.Landing.{landing_jump, landing_here}
 use Rattle.lvish_task.proofs.run.landing.Goals as goal
 
 pub loop-n-preserved : goal.loop-n-preserved

@@ -1,7 +1,7 @@
 use Rattle.std.proofs.Common.{subst}
 use Rattle.lvish_calculus.specs.Handing.{NoRepeats}
 use Rattle.lvish_board.specs.Standing.{tasks_of}
-use Rattle.lvish_names.specs.OrderLaws.{name_total}
+use Rattle.lvish_names.specs.laws.OrderLaws.{name_total}
 use Rattle.lvish_board.proofs.Naming.{once_named}
 use Rattle.lvish_board.proofs.by_name.ByName.each_waits_once.Goals as goal
 

@@ -1,7 +1,7 @@
 use Rattle.std.proofs.Common.{◌≡◌, ◌⊎◌, ◌↔◌, sym, subst, ◌∙◌}
 use Rattle.std.specs.Map.{values_of}
 use Rattle.lvish_calculus.specs.Handing.{IsAmong, NoRepeats}
-use Rattle.lvish_names.specs.OrderLaws.{name_total}
+use Rattle.lvish_names.specs.laws.OrderLaws.{name_total}
 use Rattle.lvish_names.proofs.NameLaws.{name_cmp-iff}
 use Rattle.lvish_board.specs.Standing.{tasks_of}
 use Rattle.lvish_board.specs.Waking.{AreNamed}

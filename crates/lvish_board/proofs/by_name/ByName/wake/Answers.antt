@@ -1,13 +1,13 @@
 use Rattle.std.proofs.Common.{◌≡◌, inl, Some, true, false, refl, sym, ap, subst, ◌∙◌, vec_capacity}
 use Rattle.std.specs.Map.{lookup, values_of}
 use Rattle.std.specs.BTreeMap.{is_at}
-use Rattle.lvish_calculus.specs.declared.label.Label.TheVariants.{Task}
+use Rattle.lvish_calculus.specs.declared.label.Label.TheVariants.{Act}
 use Rattle.lvish_calculus.specs.Program.{machine_of}
 use Rattle.lvish_calculus.specs.Handing.{IsAmong}
 use Rattle.lvish_core.specs.Core.{CanTake}
 use Rattle.lvish_core.specs.Changes.{local_of}
 use Rattle.lvish_picture.specs.Picture.{task_of}
-use Rattle.lvish_names.specs.OrderLaws.{name_total}
+use Rattle.lvish_names.specs.laws.OrderLaws.{name_total}
 use Rattle.lvish_names.specs.NameOrder.{name_cmp}
 use Rattle.lvish_names.proofs.NameLaws.{name_cmp-iff}
 use Rattle.lvish_board.specs.Waking.{AreNamed, Wakes}
@@ -48,7 +48,7 @@ pub returns-then-not-can-clause-wakes : goal.returns-then-not-can-clause-wakes
 returns-then-not-can-clause-wakes g c =
     let M = machine_of g.P.Lat.PartialEq.eq g.P.Lat.Event.PartialEq.eq g.P.Lat.Event.Ord.cmp g.P.Lat.Lattice.least g.P.Lat.Lattice.joined g.P.Lat.Lattice.events_of g.P.Lat.Reads.answer_of (g.P.Program.functions c.args.core.now.program) in
     wakes_none _ _ _ _ (λ p i same can.
-    let yes : c.can.result ≡ true = c.can.ensures.1 (subst (λ t. CanTake M c.args.core.now (Task t)) same can) in
+    let yes : c.can.result ≡ true = c.can.ensures.1 (subst (λ t. CanTake M c.args.core.now (Act t)) same can) in
     let both : true ≡ false = sym yes ∙ c.if-not-can.true in
     absurd cc)
 
@@ -67,11 +67,11 @@ returns g c =
           let asked = w.in-Some-remove.asked in
           let at : lookup (is_at (name_cmp g.P.Lat.Event.Ord.cmp c.args.name.now)) c.self.inside.asked.entries ≡ Some asked = sym w.in-Some-remove.ensures.value in
           let r = found_at exact c.args.name.now c.self.inside.asked.entries asked c.self.invariant.0 at in
-          let can = subst (λ t. CanTake M c.args.core.now (Task t)) (sym r.2) (c.can.ensures.0 c.if-not-can.false) in
+          let can = subst (λ t. CanTake M c.args.core.now (Act t)) (sym r.2) (c.can.ensures.0 c.if-not-can.false) in
           record {
-            wakes = subst (λ ps. Wakes (λ p. CanTake M c.args.core.now (Task p.task)) (λ p. p.task ≡ c.args.name.now) ps (values_of c.remove.new.self.entries) c.args.woken.now.items c.match-remove.woken.items) c.self.view_is
-                (wakes_named (λ p. CanTake M c.args.core.now (Task p.task)) total exact c.args.name.now c.self.inside.asked.entries c.remove.new.self.entries c.self.invariant.0 c.self.invariant.1 asked at c.remove.ensures.entries can c.args.woken.now.items c.match-remove.woken.items (ap (λ v. v.items) w.woken-is ∙ w.push_reserved.ensures.items));
-            gone = λ t. gone_named (λ p. CanTake M c.args.core.now (Task p.task)) total exact c.args.name.now c.self.inside.asked.entries c.remove.new.self.entries c.self.invariant.0 c.self.invariant.1 asked at c.remove.ensures.entries;
+            wakes = subst (λ ps. Wakes (λ p. CanTake M c.args.core.now (Act p.task)) (λ p. p.task ≡ c.args.name.now) ps (values_of c.remove.new.self.entries) c.args.woken.now.items c.match-remove.woken.items) c.self.view_is
+                (wakes_named (λ p. CanTake M c.args.core.now (Act p.task)) total exact c.args.name.now c.self.inside.asked.entries c.remove.new.self.entries c.self.invariant.0 c.self.invariant.1 asked at c.remove.ensures.entries can c.args.woken.now.items c.match-remove.woken.items (ap (λ v. v.items) w.woken-is ∙ w.push_reserved.ensures.items));
+            gone = λ t. gone_named (λ p. CanTake M c.args.core.now (Act p.task)) total exact c.args.name.now c.self.inside.asked.entries c.remove.new.self.entries c.self.invariant.0 c.self.invariant.1 asked at c.remove.ensures.entries;
             capacity = ap (λ v. vec_capacity v) w.woken-is ∙ w.push_reserved.ensures.capacity;
           }
       | in_default-remove w ↦ let a = c.in-Some.ensures.value in let b = c.remove.ensures.value in let d = w.in_default-remove.is in absurd cc

@@ -1,10 +1,9 @@
-use Rattle.std.proofs.Common.{◌≡◌, ◌⊎◌, ◌↔◌, inl, inr, true, false, sym, subst, ◌∙◌}
+use Rattle.std.proofs.Common.{◌≡◌, ◌⊎◌, ◌↔◌, inl, inr, true, false, sym, subst, ◌∙◌, nat_cmp}
 use Rattle.lvish_calculus.specs.declared.request.Request.TheVariants.{Get, Freeze}
-use Rattle.std.specs.Ordering.{nat_cmp}
 use Rattle.lvish_calculus.specs.Handing.{IsAmong, NoRepeats}
 use Rattle.lvish_board.specs.Shelved.{IsOnItsList, shelf, by_spot}
 use Rattle.lvish_board.specs.Standing.{tasks_of}
-use Rattle.lvish_board.proofs.Lists.{gets_more, freezes_more}
+use Rattle.lvish_board.proofs.Lists.{stays_on}
 use Rattle.lvish_board.proofs.Parking.{beside_itself, beside_others, waits_for_one}
 use Rattle.lvish_board.specs.Woken.{IsWaiting}
 use Rattle.lvish_board.proofs.parked.Parked.park.Goals.{in-Get+else-is_err+in_ok-insert-in-Get, in-Freeze+else-is_err-2+in_ok-insert-in-Freeze, in_default-request}
@@ -17,11 +16,11 @@ returns-then-has-clause-ok g c =
 
 pub invariant_of-self : goal.invariant_of-self
 invariant_of-self g c = λ q i.
-    gets_more g.P.Lat.Spot.Ord.cmp g.P.Lat.Reads.watched c.self.inside.gets.lists c.reserve.new.self.lists c.self.inside.freezes.lists (λ k t on. subst (λ ts. IsAmong t ts) (sym (c.reserve.ensures.same k)) on) ((g.P.Program.functions g.J.Named.program).request q.from) q.task (c.self.invariant q i)
+    stays_on g.P.Lat.Spot.Ord.cmp g.P.Lat.Reads.watched c.self.inside.gets.lists c.reserve.new.self.lists c.self.inside.freezes.lists c.self.inside.freezes.lists ((g.P.Program.functions g.J.Named.program).request q.from) q.task (λ k on. subst (λ ts. IsAmong q.task ts) (sym (c.reserve.ensures.same k)) on) (λ k on. on) (c.self.invariant q i)
 
 pub invariant_of-self-in_err-insert-in-Get : goal.invariant_of-self-in_err-insert-in-Get
 invariant_of-self-in_err-insert-in-Get g c = λ q i.
-    gets_more g.P.Lat.Spot.Ord.cmp g.P.Lat.Reads.watched c.self.inside.gets.lists c.reserve.new.self.lists c.self.inside.freezes.lists (λ k t on. subst (λ ts. IsAmong t ts) (sym (c.reserve.ensures.same k)) on) ((g.P.Program.functions g.J.Named.program).request q.from) q.task (c.self.invariant q (subst (λ ps. IsAmong q ps) c.in_err-insert-in-Get.ensures.err.1 i))
+    stays_on g.P.Lat.Spot.Ord.cmp g.P.Lat.Reads.watched c.self.inside.gets.lists c.reserve.new.self.lists c.self.inside.freezes.lists c.self.inside.freezes.lists ((g.P.Program.functions g.J.Named.program).request q.from) q.task (λ k on. subst (λ ts. IsAmong q.task ts) (sym (c.reserve.ensures.same k)) on) (λ k on. on) (c.self.invariant q (subst (λ ps. IsAmong q ps) c.in_err-insert-in-Get.ensures.err.1 i))
 
 pub invariant_of-self-in-Get : goal.invariant_of-self-in-Get
 invariant_of-self-in-Get g c = λ q i. elim ((c.in_ok-insert-in-Get.ensures.ok q).0 i) [
@@ -32,16 +31,16 @@ invariant_of-self-in-Get g c = λ q i. elim ((c.in_ok-insert-in-Get.ensures.ok q
       subst (λ t. IsAmong t (shelf (by_spot g.P.Lat.Spot.Ord.cmp) c.push_reserved.new.self.lists (c.in-Get.variable, g.P.Lat.Reads.watched c.in-Get.read))) name (subst (λ s. IsAmong c.in-Ok.name (shelf (by_spot g.P.Lat.Spot.Ord.cmp) c.push_reserved.new.self.lists (c.in-Get.variable, s))) c.watch.ensures c.push_reserved.ensures.there) in
       subst (λ x. IsOnItsList g.P.Lat.Spot.Ord.cmp g.P.Lat.Reads.watched c.push_reserved.new.self.lists c.self.inside.freezes.lists ((g.P.Program.functions g.J.Named.program).request x.from) x.task) (sym e)
       (subst (λ r. IsOnItsList g.P.Lat.Spot.Ord.cmp g.P.Lat.Reads.watched c.push_reserved.new.self.lists c.self.inside.freezes.lists r c.args.asked.task) (sym asks) lies)
-  | inr j ↦ gets_more g.P.Lat.Spot.Ord.cmp g.P.Lat.Reads.watched c.self.inside.gets.lists c.push_reserved.new.self.lists c.self.inside.freezes.lists (λ k t on. c.push_reserved.ensures.kept k t (subst (λ ts. IsAmong t ts) (sym (c.reserve.ensures.same k)) on)) ((g.P.Program.functions g.J.Named.program).request q.from) q.task (c.self.invariant q j)
+  | inr j ↦ stays_on g.P.Lat.Spot.Ord.cmp g.P.Lat.Reads.watched c.self.inside.gets.lists c.push_reserved.new.self.lists c.self.inside.freezes.lists c.self.inside.freezes.lists ((g.P.Program.functions g.J.Named.program).request q.from) q.task (λ k on. c.push_reserved.ensures.kept k q.task (subst (λ ts. IsAmong q.task ts) (sym (c.reserve.ensures.same k)) on)) (λ k on. on) (c.self.invariant q j)
 ]
 
 pub invariant_of-self-then-is_err-2 : goal.invariant_of-self-then-is_err-2
 invariant_of-self-then-is_err-2 g c = λ q i.
-    freezes_more g.P.Lat.Spot.Ord.cmp g.P.Lat.Reads.watched c.self.inside.gets.lists c.self.inside.freezes.lists c.reserve-in-Freeze.new.self.lists (λ k t on. subst (λ ts. IsAmong t ts) (sym (c.reserve-in-Freeze.ensures.same k)) on) ((g.P.Program.functions g.J.Named.program).request q.from) q.task (c.self.invariant q i)
+    stays_on g.P.Lat.Spot.Ord.cmp g.P.Lat.Reads.watched c.self.inside.gets.lists c.self.inside.gets.lists c.self.inside.freezes.lists c.reserve-in-Freeze.new.self.lists ((g.P.Program.functions g.J.Named.program).request q.from) q.task (λ k on. on) (λ k on. subst (λ ts. IsAmong q.task ts) (sym (c.reserve-in-Freeze.ensures.same k)) on) (c.self.invariant q i)
 
 pub invariant_of-self-in_err-insert-in-Freeze : goal.invariant_of-self-in_err-insert-in-Freeze
 invariant_of-self-in_err-insert-in-Freeze g c = λ q i.
-    freezes_more g.P.Lat.Spot.Ord.cmp g.P.Lat.Reads.watched c.self.inside.gets.lists c.self.inside.freezes.lists c.reserve-in-Freeze.new.self.lists (λ k t on. subst (λ ts. IsAmong t ts) (sym (c.reserve-in-Freeze.ensures.same k)) on) ((g.P.Program.functions g.J.Named.program).request q.from) q.task (c.self.invariant q (subst (λ ps. IsAmong q ps) c.in_err-insert-in-Freeze.ensures.err.1 i))
+    stays_on g.P.Lat.Spot.Ord.cmp g.P.Lat.Reads.watched c.self.inside.gets.lists c.self.inside.gets.lists c.self.inside.freezes.lists c.reserve-in-Freeze.new.self.lists ((g.P.Program.functions g.J.Named.program).request q.from) q.task (λ k on. on) (λ k on. subst (λ ts. IsAmong q.task ts) (sym (c.reserve-in-Freeze.ensures.same k)) on) (c.self.invariant q (subst (λ ps. IsAmong q ps) c.in_err-insert-in-Freeze.ensures.err.1 i))
 
 pub invariant_of-self-in-Freeze : goal.invariant_of-self-in-Freeze
 invariant_of-self-in-Freeze g c = λ q i. elim ((c.in_ok-insert-in-Freeze.ensures.ok q).0 i) [
@@ -51,7 +50,7 @@ invariant_of-self-in-Freeze g c = λ q i. elim ((c.in_ok-insert-in-Freeze.ensure
       let lies : IsAmong c.args.asked.task (shelf nat_cmp c.push_reserved-in-Freeze.new.self.lists c.in-Freeze.variable) = subst (λ t. IsAmong t (shelf nat_cmp c.push_reserved-in-Freeze.new.self.lists c.in-Freeze.variable)) name c.push_reserved-in-Freeze.ensures.there in
       subst (λ x. IsOnItsList g.P.Lat.Spot.Ord.cmp g.P.Lat.Reads.watched c.self.inside.gets.lists c.push_reserved-in-Freeze.new.self.lists ((g.P.Program.functions g.J.Named.program).request x.from) x.task) (sym e)
       (subst (λ r. IsOnItsList g.P.Lat.Spot.Ord.cmp g.P.Lat.Reads.watched c.self.inside.gets.lists c.push_reserved-in-Freeze.new.self.lists r c.args.asked.task) (sym asks) lies)
-  | inr j ↦ freezes_more g.P.Lat.Spot.Ord.cmp g.P.Lat.Reads.watched c.self.inside.gets.lists c.self.inside.freezes.lists c.push_reserved-in-Freeze.new.self.lists (λ k t on. c.push_reserved-in-Freeze.ensures.kept k t (subst (λ ts. IsAmong t ts) (sym (c.reserve-in-Freeze.ensures.same k)) on)) ((g.P.Program.functions g.J.Named.program).request q.from) q.task (c.self.invariant q j)
+  | inr j ↦ stays_on g.P.Lat.Spot.Ord.cmp g.P.Lat.Reads.watched c.self.inside.gets.lists c.self.inside.gets.lists c.self.inside.freezes.lists c.push_reserved-in-Freeze.new.self.lists ((g.P.Program.functions g.J.Named.program).request q.from) q.task (λ k on. on) (λ k on. c.push_reserved-in-Freeze.ensures.kept k q.task (subst (λ ts. IsAmong q.task ts) (sym (c.reserve-in-Freeze.ensures.same k)) on)) (c.self.invariant q j)
 ]
 
 pub returns-clause-ok : goal.returns-clause-ok

@@ -1,21 +1,21 @@
 use Rattle.std.proofs.Common.{◌≡◌, [], Option, Some, None, sym, ap, subst, ◌∙◌, arith}
 use Rattle.std.proofs.lemmas.List.Sorted.{IsPermutation-sym}
 use Rattle.lvish_calculus.specs.Program.{machine_of}
-use Rattle.lvish_calculus.specs.declared.label.Label.TheVariants.{Task as Act}
+use Rattle.lvish_calculus.specs.declared.label.Label.TheVariants.{Act}
 use Rattle.lvish_core.specs.Core.{CanTake}
 use Rattle.lvish_core.specs.declared.touched.Touched.TheVariants.{Put, Handed, Ended, Other}
-use Rattle.lvish_names.specs.OrderLaws.{name_total}
+use Rattle.lvish_names.specs.laws.OrderLaws.{name_total}
 use Rattle.lvish_names.proofs.NameLaws.{name_cmp-iff}
 use Rattle.lvish_calculus.specs.Handing.{NoRepeats}
 use Rattle.lvish_calculus.specs.declared.request.Request.{Request}
 use Rattle.lvish_core.specs.declared.touched.Touched.{Touched}
-use Rattle.lvish_board.specs.Place.{Place}
+use Rattle.lvish_board.specs.Place.{TaskPlace}
 use Rattle.lvish_board.specs.Standing.{tasks_of}
 use Rattle.lvish_board.specs.Woken.{MayWake}
 use Rattle.lvish_board.specs.Waking.{Wakes}
 use Rattle.lvish_board.proofs.Sorting.{ascending}
 use Rattle.lvish_board.proofs.Waking.{wakes_at, wakes_fewer, wakes_none, woken_alone, woken_once, woken_permuted}
-use Rattle.lvish_board.proofs.Woken.{may_end, may_hand, may_none, may_other}
+use Rattle.lvish_board.proofs.Woken.{may_end, may_hand}
 use Rattle.lvish_board.proofs.parked.Parked.wake.Goals.{in-Some-Put, in-Some-Handed, in-Some-Ended, in-Some-Other, in-None}
 use Rattle.lvish_board.proofs.parked.Parked.wake.Goals as goal
 
@@ -23,9 +23,9 @@ woken_by : (g : _) (c : goal.After-sort_by_task g) → Wakes (λ p. CanTake (mac
     (λ p. MayWake g.P.Lat.Reads.spot_of g.P.Lat.Reads.watched c.args.core.now.touched c.args.fresh.now ((g.P.Program.functions c.args.core.now.program).request p.from)) c.args.self.now c.match-last_touched.self [] c.match-last_touched.woken.items
 woken_by g c =
     let M = machine_of g.P.Lat.PartialEq.eq g.P.Lat.Event.PartialEq.eq g.P.Lat.Event.Ord.cmp g.P.Lat.Lattice.least g.P.Lat.Lattice.joined g.P.Lat.Lattice.events_of g.P.Lat.Reads.answer_of (g.P.Program.functions c.args.core.now.program) in
-    let can : Place g.row.P-Lat-Event.Denot g.row.P-Local.Denot → Type 0 = λ p. CanTake M c.args.core.now (Act p.task) in
-    let request : Place g.row.P-Lat-Event.Denot g.row.P-Local.Denot → Request g.row.P-Lat.Denot g.row.P-Lat-Read.Denot g.row.P-Local.Denot = λ p. (g.P.Program.functions c.args.core.now.program).request p.from in
-    let may : Option Touched → Place g.row.P-Lat-Event.Denot g.row.P-Local.Denot → Type 0 = λ t p. MayWake g.P.Lat.Reads.spot_of g.P.Lat.Reads.watched t c.args.fresh.now (request p) in
+    let can : TaskPlace g.row.P-Lat-Event.Denot g.row.P-Local.Denot → Type 0 = λ p. CanTake M c.args.core.now (Act p.task) in
+    let request : TaskPlace g.row.P-Lat-Event.Denot g.row.P-Local.Denot → Request g.row.P-Lat.Denot g.row.P-Lat-Read.Denot g.row.P-Local.Denot = λ p. (g.P.Program.functions c.args.core.now.program).request p.from in
+    let may : Option Touched → TaskPlace g.row.P-Lat-Event.Denot g.row.P-Local.Denot → Type 0 = λ t p. MayWake g.P.Lat.Reads.spot_of g.P.Lat.Reads.watched t c.args.fresh.now (request p) in
     elim c.match-last_touched.branch [
       | in-Some-Put w ↦
           let touched : c.args.core.now.touched ≡ Some (Put w.in-Some-Put.variable) = sym c.last_touched.ensures ∙ w.in-Some-Put.is ∙ ap (λ x. Some x) w.in-Some-Put.field-0-is in
@@ -42,11 +42,11 @@ woken_by g c =
       | in-Some-Other w ↦
           let touched : c.args.core.now.touched ≡ Some Other = sym c.last_touched.ensures ∙ w.in-Some-Other.is ∙ ap (λ x. Some x) w.in-Some-Other.field-0-is in
           wakes_at can (may c.args.core.now.touched) _ _ _ _ _ _ _ w.self-is c.requires.empty (ap (λ v. v.items) w.woken-is)
-          (wakes_none can (may c.args.core.now.touched) c.args.self.now c.args.woken.now.items (λ p i m k. may_other g.P.Lat.Reads.spot_of g.P.Lat.Reads.watched c.args.fresh.now (request p) (subst (λ t. may t p) touched m)))
+          (wakes_none can (may c.args.core.now.touched) c.args.self.now c.args.woken.now.items (λ p i m k. subst (λ t. may t p) touched m))
       | in-None w ↦
           let touched : c.args.core.now.touched ≡ None = sym c.last_touched.ensures ∙ w.in-None.is in
           wakes_at can (may c.args.core.now.touched) _ _ _ _ _ _ _ w.self-is c.requires.empty (ap (λ v. v.items) w.woken-is)
-          (wakes_none can (may c.args.core.now.touched) c.args.self.now c.args.woken.now.items (λ p i m k. may_none g.P.Lat.Reads.spot_of g.P.Lat.Reads.watched c.args.fresh.now (request p) (subst (λ t. may t p) touched m)))
+          (wakes_none can (may c.args.core.now.touched) c.args.self.now c.args.woken.now.items (λ p i m k. subst (λ t. may t p) touched m))
     ]
 
 pub returns-clause-woken : goal.returns-clause-woken

@@ -1,8 +1,7 @@
-use Rattle.std.proofs.Common.{rules, ◌≡◌, ◌+◌, suc, inl, inr, ◌∷◌, [], ◌++◌, Some, take, sym, ap, subst, ◌∙◌, arith}
-use Rattle.std.proofs.Math.Seq.{take-suc}
+use Rattle.std.proofs.Common.{rules, ◌≡◌, ◌+◌, suc, inl, inr, ◌∷◌, [], ◌++◌, Some, take, sym, ap, subst, ◌∙◌, arith, take-suc}
 use Rattle.std.proofs.lemmas.List.{take_all}
 use Rattle.lvish_calculus.specs.Program.{machine_of}
-use Rattle.lvish_calculus.specs.declared.label.Label.TheVariants.{Task as Act}
+use Rattle.lvish_calculus.specs.declared.label.Label.TheVariants.{Act}
 use Rattle.lvish_core.specs.Core.{CanTake}
 use Rattle.lvish_core.specs.declared.touched.Touched.TheVariants.{Put}
 use Rattle.lvish_board.specs.Shelved.{WaitsAt}

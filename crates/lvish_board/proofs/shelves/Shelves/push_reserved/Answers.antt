@@ -1,7 +1,7 @@
 use Rattle.std.proofs.Common.{◌≡◌, is_some, Some, sym, ap, ◌∙◌}
 use Rattle.std.specs.Option.{option_copied_mut}
 use Rattle.std.specs.BTreeMap.{get}
-use Rattle.lvish_core.proofs.Listing.{among_first}
+use Rattle.lvish_core.specs.laws.Lists.{among_first}
 use Rattle.lvish_board.proofs.Shelving.{shelf_kept, shelf_written, shelf_pushed}
 use Rattle.lvish_board.specs.Shelved.{shelf}
 use Rattle.lvish_board.proofs.shelves.Shelves.push_reserved.Goals as goal

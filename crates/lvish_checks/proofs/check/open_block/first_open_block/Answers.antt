@@ -1,7 +1,7 @@
 use Rattle.std.proofs.Common.{◌≡◌, ◌∙◌, ◌+◌, ◌==◌, ◌&&◌, not, sym, ap, refl, take, length, add-one, [], suc}
 use Rattle.std.proofs.lemmas.Bool.{or_from}
 use Rattle.lvish_checks.specs.Checks.{is_nil, is_misplaced, open_after, open_step}
-use Rattle.lvish_checks.proofs.Cuts.{left_yes, right_yes}
+use Rattle.std.proofs.lemmas.Bool.{or_left, or_right}
 use Rattle.lvish_checks.proofs.Lines.{open_after-more, passed_on, fails_at, passes_all}
 use Rattle.lvish_checks.proofs.Scans.{open_fails}
 use Rattle.lvish_checks.proofs.check.open_block.first_open_block.Goals as goal
@@ -17,8 +17,8 @@ returns-then-misplaced c =
     let fails = sym (open_fails lines c.loop-k.k line c.loop-k-test.true c.index-lines-k.is _ last) in
     fails_at _ _ c.loop-k.k line c.loop-k-test.true c.index-lines-k.is c.loop-k.invariant.passed
     (elim c.then-misplaced.branch [
-      | then-misplaced-via-then-misplaced w ↦ fails ∙ left_yes _ _ (sym misplaced ∙ w.if-misplaced.true)
-      | then-misplaced-via-else-misplaced+then-ends_open w ↦ fails ∙ right_yes _ _ (sym (w.ends_open.ensures ∙ ap (λ o. (c.loop-k.k + 1 == length lines) && not (is_nil o)) after) ∙ w.if-ends_open.true)
+      | then-misplaced-via-then-misplaced w ↦ fails ∙ or_left _ _ (sym misplaced ∙ w.if-misplaced.true)
+      | then-misplaced-via-else-misplaced+then-ends_open w ↦ fails ∙ or_right _ _ (sym (w.ends_open.ensures ∙ ap (λ o. (c.loop-k.k + 1 == length lines) && not (is_nil o)) after) ∙ w.if-ends_open.true)
     ])
 
 pub loop-k-preserved : goal.loop-k-preserved

@@ -1,8 +1,8 @@
 use Rattle.std.specs.Prelude.{refl}
 use Rattle.std.proofs.Common.{◌∙◌}
 use Rattle.std.proofs.lemmas.Result.{IfOk-weaker}
-use Rattle.lvish_compound.specs.StateEvents.{by_name}
-use Rattle.lvish_compound.specs.StateCalls.{parts_fresh_by, maps_fresh, pairs_fresh_by, map_to_part, pair_to_part, tally_to_part, part_to_map, part_to_pair, tallies_fresh, part_to_tally}
+use Rattle.lvish_compound.specs.laws.StateEvents.{by_name}
+use Rattle.lvish_compound.proofs.StateCalls.{parts_fresh_by, maps_fresh, pairs_fresh_by, tallies_fresh, part_to, other_to_part}
 use Rattle.lvish_compound.proofs.any.AnyLattice.fresh.Goals as goal
 
 pub returns-in_ok-fresh-in-Part-Part : goal.returns-in_ok-fresh-in-Part-Part
@@ -28,19 +28,19 @@ returns-in_ok-fresh-in-Sides-Sides c = IfOk-weaker c.side_events.result _ _
 
 pub returns-in-Part-Map : goal.returns-in-Part-Map
 returns-in-Part-Map c = IfOk-weaker c.fresh_to_part.result _ _
-    (λ v e. e ∙ map_to_part _ (by_name _ (λ d e. refl)) c.args.old.now c.args.put.now _ _ c.in-Part-Map.is-0 c.in-Part-Map.is-1)
+    (λ v e. e ∙ other_to_part _ (by_name _ (λ d e. refl)) c.args.old.now c.args.put.now _ _ c.in-Part-Map.is-0 c.in-Part-Map.is-1 refl)
     c.fresh_to_part.ensures
 
 pub returns-in-Part-Sides : goal.returns-in-Part-Sides
 returns-in-Part-Sides c = IfOk-weaker c.fresh_to_part-in-Part-Sides.result _ _
-    (λ v e. e ∙ pair_to_part _ (by_name _ (λ d e. refl)) c.args.old.now c.args.put.now _ _ c.in-Part-Sides.is-0 c.in-Part-Sides.is-1)
+    (λ v e. e ∙ other_to_part _ (by_name _ (λ d e. refl)) c.args.old.now c.args.put.now _ _ c.in-Part-Sides.is-0 c.in-Part-Sides.is-1 refl)
     c.fresh_to_part-in-Part-Sides.ensures
 
 pub returns-in-Map-Part : goal.returns-in-Map-Part
-returns-in-Map-Part c = c.new.ensures.items ∙ part_to_map _ (by_name _ (λ d e. refl)) c.args.old.now c.args.put.now _ _ c.in-Map-Part.is-0 c.in-Map-Part.is-1
+returns-in-Map-Part c = c.new.ensures.items ∙ part_to _ (by_name _ (λ d e. refl)) c.args.old.now c.args.put.now _ _ c.in-Map-Part.is-0 c.in-Map-Part.is-1 refl
 
 pub returns-in-Sides-Part : goal.returns-in-Sides-Part
-returns-in-Sides-Part c = c.new-in-Sides-Part.ensures.items ∙ part_to_pair _ (by_name _ (λ d e. refl)) c.args.old.now c.args.put.now _ _ c.in-Sides-Part.is-0 c.in-Sides-Part.is-1
+returns-in-Sides-Part c = c.new-in-Sides-Part.ensures.items ∙ part_to _ (by_name _ (λ d e. refl)) c.args.old.now c.args.put.now _ _ c.in-Sides-Part.is-0 c.in-Sides-Part.is-1 refl
 
 pub returns-in_ok-fresh-in-Tally-Tally : goal.returns-in_ok-fresh-in-Tally-Tally
 returns-in_ok-fresh-in-Tally-Tally c = IfOk-weaker c.tally_events.result _ _
@@ -50,8 +50,8 @@ returns-in_ok-fresh-in-Tally-Tally c = IfOk-weaker c.tally_events.result _ _
 
 pub returns-in-Part-Tally : goal.returns-in-Part-Tally
 returns-in-Part-Tally c = IfOk-weaker c.fresh_to_part-in-Part-Tally.result _ _
-    (λ v e. e ∙ tally_to_part _ (by_name _ (λ d e. refl)) c.args.old.now c.args.put.now _ _ c.in-Part-Tally.is-0 c.in-Part-Tally.is-1)
+    (λ v e. e ∙ other_to_part _ (by_name _ (λ d e. refl)) c.args.old.now c.args.put.now _ _ c.in-Part-Tally.is-0 c.in-Part-Tally.is-1 refl)
     c.fresh_to_part-in-Part-Tally.ensures
 
 pub returns-in-Tally-Part : goal.returns-in-Tally-Part
-returns-in-Tally-Part c = c.new-in-Tally-Part.ensures.items ∙ part_to_tally _ (by_name _ (λ d e. refl)) c.args.old.now c.args.put.now _ _ c.in-Tally-Part.is-0 c.in-Tally-Part.is-1
+returns-in-Tally-Part c = c.new-in-Tally-Part.ensures.items ∙ part_to _ (by_name _ (λ d e. refl)) c.args.old.now c.args.put.now _ _ c.in-Tally-Part.is-0 c.in-Tally-Part.is-1 refl

@@ -1,4 +1,4 @@
-use Rattle.lvish_compound.specs.StateCalls.{maps_leq, pairs_leq, tallies_leq}
+use Rattle.lvish_compound.proofs.StateCalls.{maps_leq, pairs_leq, tallies_leq}
 use Rattle.lvish_compound.proofs.any.AnyLattice.leq.Goals as goal
 
 pub returns-in-Map-Map : goal.returns-in-Map-Map

@@ -1,5 +1,5 @@
-use Rattle.lvish_compound.specs.Carried.{carried_merge}
-use Rattle.lvish_compound.specs.StateCalls.{maps_carried, pairs_carried, tallies_carried}
+use Rattle.lvish_compound.proofs.Carried.{carried_merge}
+use Rattle.lvish_compound.proofs.StateCalls.{maps_carried, pairs_carried, tallies_carried}
 use Rattle.lvish_compound.proofs.any.AnyLattice.merge.Goals as goal
 
 pub returns-in-Map-put-clause-merged : goal.returns-in-Map-put-clause-merged

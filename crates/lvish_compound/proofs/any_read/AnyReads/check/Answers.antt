@@ -1,6 +1,6 @@
 use Rattle.std.proofs.Common.{sym, subst}
 use Rattle.lvish_compound.specs.declared.kind.Kind.{Kind}
-use Rattle.lvish_compound.specs.AnyReadLaws.{any_checked}
+use Rattle.lvish_compound.specs.laws.AnyReadLaws.{any_checked}
 use Rattle.lvish_compound.specs.AnyReads.{test_of}
 use Rattle.lvish_compound.specs.Places.{IsApart}
 use Rattle.lvish_compound.proofs.any_read.AnyReads.check.Goals as goal

@@ -1,6 +1,6 @@
 use Rattle.std.proofs.lemmas.Result.{IfOk-weaker}
 use Rattle.lvish_lattice.specs.Ascending.{ties_are_same}
-use Rattle.lvish_compound.specs.MapOf.{events_by_ties}
+use Rattle.lvish_compound.specs.laws.MapLaws.{events_by_ties}
 use Rattle.lvish_compound.proofs.Maps.{map_fresh}
 use Rattle.lvish_compound.proofs.map_of.MapOfLattice.fresh.Goals as goal
 

@@ -1,5 +1,6 @@
 use Rattle.std.proofs.Common.{◌≡◌, ◌∙◌, Some, sym}
-use Rattle.lvish_compound.specs.Keyed.{add_all, all_rises, all_above}
+use Rattle.lvish_compound.specs.Keyed.{add_all}
+use Rattle.lvish_compound.specs.laws.KeyedLaws.{all_rises, all_above}
 use Rattle.lvish_compound.proofs.Maps.{joined_some}
 use Rattle.lvish_compound.proofs.map_of.MapOfLattice.join.Goals as goal
 

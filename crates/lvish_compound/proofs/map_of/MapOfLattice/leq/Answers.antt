@@ -1,5 +1,5 @@
 use Rattle.lvish_lattice.specs.Ascending.{ties_are_same}
-use Rattle.lvish_compound.specs.MapOf.{joined_by_places, joins_places}
+use Rattle.lvish_compound.specs.laws.MapLaws.{joined_by_places, joins_places}
 use Rattle.lvish_compound.proofs.map_of.MapOfLattice.leq.Goals as goal
 
 pub returns : goal.returns

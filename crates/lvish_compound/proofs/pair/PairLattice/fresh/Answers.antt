@@ -2,7 +2,7 @@ use Rattle.std.specs.Prelude.{◌≡◌, refl, is_some, not, true}
 use Rattle.std.proofs.Common.{◌∙◌, sym, ap}
 use Rattle.lvish_compound.specs.Pair.{joined}
 use Rattle.std.proofs.lemmas.Result.{IfOk-weaker}
-use Rattle.lvish_compound.specs.PairFresh.{one_rises, two_rises, both_rise, top_brings_nothing}
+use Rattle.lvish_compound.proofs.PairFresh.{one_rises, two_rises, both_rise, top_brings_nothing}
 use Rattle.lvish_compound.proofs.pair.PairLattice.fresh.Goals as goal
 
 pub returns-then-leq : goal.returns-then-leq

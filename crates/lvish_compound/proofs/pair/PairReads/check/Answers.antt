@@ -1,4 +1,4 @@
-use Rattle.lvish_compound.specs.PairLaws.{checks_one, checks_two}
+use Rattle.lvish_compound.specs.laws.Embedded.{checks_one, checks_two}
 use Rattle.lvish_compound.proofs.pair.PairReads.check.Goals as goal
 
 pub returns-in-One : goal.returns-in-One

@@ -1,7 +1,7 @@
 use Rattle.std.specs.Prelude.{refl}
 use Rattle.std.proofs.Common.{◌∙◌}
 use Rattle.std.proofs.lemmas.Result.{IfOk-weaker}
-use Rattle.lvish_compound.specs.PartCalls.{first_fresh, nothing_fresh, sets_fresh, maxes_fresh}
+use Rattle.lvish_compound.proofs.PartCalls.{first_fresh, nothing_fresh, sets_fresh, maxes_fresh}
 use Rattle.lvish_compound.proofs.part.PartLattice.fresh.Goals as goal
 
 pub returns-in-Empty-default : goal.returns-in-Empty-default

@@ -1,4 +1,4 @@
-use Rattle.lvish_compound.specs.PartCalls.{sets_leq, maxes_leq}
+use Rattle.lvish_compound.proofs.PartCalls.{sets_leq, maxes_leq}
 use Rattle.lvish_compound.proofs.part.PartLattice.leq.Goals as goal
 
 pub returns-in-Set-Set : goal.returns-in-Set-Set

@@ -1,7 +1,6 @@
 use Rattle.std.specs.Prelude.{refl}
 use Rattle.lvish_compound.specs.declared.part.Part.TheVariants.{Empty, Set, Max}
-use Rattle.lvish_compound.specs.Carried.{carried_merge}
-use Rattle.lvish_compound.specs.HeldCalls.{held_carried}
+use Rattle.lvish_compound.proofs.Carried.{carried_merge, held_carried}
 use Rattle.lvish_compound.specs.Parts.{joined}
 use Rattle.lvish_compound.proofs.part.PartLattice.merge.Goals as goal
 

@@ -1,6 +1,6 @@
 use Rattle.std.specs.Prelude.{refl}
 use Rattle.std.proofs.Common.{sym}
-use Rattle.lvish_compound.specs.Sides.{above_is}
+use Rattle.lvish_compound.specs.laws.SidesLaws.{above_is}
 use Rattle.lvish_compound.proofs.sides.Sides.of.Goals as goal
 
 pub returns-else-is_empty : goal.returns-else-is_empty

@@ -1,5 +1,5 @@
 use Rattle.std.proofs.Common.{◌∙◌, sym, arith}
-use Rattle.lvish_compound.specs.TallyLaws.{joined_tally}
+use Rattle.lvish_compound.specs.laws.TallyLaws.{joined_tally}
 use Rattle.lvish_compound.proofs.Tallies.{sum_of_join, past_is_top}
 use Rattle.lvish_compound.proofs.tally.TallyLattice.join.Goals as goal
 

@@ -1,4 +1,4 @@
-use Rattle.lvish_compound.specs.TallyLaws.{amounts_below}
+use Rattle.lvish_compound.specs.laws.TallyLaws.{amounts_below}
 use Rattle.lvish_compound.proofs.tally.TallyLattice.leq.Goals as goal
 
 pub returns : goal.returns

@@ -1,7 +1,8 @@
 use Rattle.std.proofs.Common.{sym, ap, ◌∙◌}
 use Rattle.std.specs.Option.{option_copied}
+use Rattle.std.proofs.lemmas.Result.{IfOk-weaker}
 use Rattle.lvish_core.specs.Tasks.{standing_at}
-use Rattle.lvish_core.proofs.Shown.{task_can_ok}
+use Rattle.lvish_core.proofs.Shown.{task_can}
 use Rattle.lvish_core.proofs.Seated.{hand_can}
 use Rattle.lvish_core.proofs.machine.Core.enabled.Goals as goal
 
@@ -9,8 +10,8 @@ pub returns-in-Some : goal.returns-in-Some
 returns-in-Some g c =
     let there = c.get.ensures ∙ ap (λ o. standing_at (option_copied o)) c.in-Some.is in
     let ready = rw (← c.self.view_is) at c.is_at_ready.ensures in
-    rw (← c.self.view_is, c.in-Task.is)
-    (task_can_ok _ _ _ _ _ c.self.invariant (sym c.is_some.ensures ∙ c.if-is_some.false) c.in-Task.name _ there c.is_at_ready.result ready)
+    rw (← c.self.view_is, c.in-Act.is)
+    (IfOk-weaker c.is_at_ready.result _ _ (λ b is. task_can _ _ _ _ _ c.self.invariant (sym c.is_some.ensures ∙ c.if-is_some.false) c.in-Act.name _ there b is) ready)
 
 pub returns-in-Some-next : goal.returns-in-Some-next
 returns-in-Some-next g c =

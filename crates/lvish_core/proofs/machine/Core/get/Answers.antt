@@ -1,6 +1,6 @@
 use Rattle.std.proofs.Common.{◌≡◌, ◌∙◌, sym, ◌<◌, length, arith}
 use Rattle.lvish_core.proofs.Gets.{get_some}
-use Rattle.lvish_core.proofs.Replies.{get_answered, get_has}
+use Rattle.lvish_core.proofs.Acts.{get_answered, get_has}
 use Rattle.lvish_core.proofs.machine.Core.get.Goals as goal
 
 pub go_on-requires : goal.go_on-requires

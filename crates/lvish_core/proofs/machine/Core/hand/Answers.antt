@@ -1,6 +1,3 @@
-use Rattle.std.proofs.Common.{subst, sym}
-use Rattle.lvish_core.specs.Beside.{CanHand}
-use Rattle.lvish_core.specs.Tasks.{Sets}
 use Rattle.lvish_core.proofs.Handing.{can_hand, handing}
 use Rattle.lvish_core.proofs.Written.{handed_written}
 use Rattle.lvish_core.proofs.machine.Core.hand.Goals as goal
@@ -8,25 +5,22 @@ use Rattle.lvish_core.proofs.machine.Core.hand.Goals as goal
 pub hand_at-requires : goal.hand_at-requires
 hand_at-requires g c =
     let hands = rw (← c.self.view_is) at c.requires in
-    subst (λ xs. CanHand g.P.Lat.Event.PartialEq.eq xs c.args.name.now c.args.place c.deref_mut.result.now) (sym c.deref.ensures.value)
-    (subst (λ l. CanHand g.P.Lat.Event.PartialEq.eq c.self.inside.variables.items c.args.name.now c.args.place l) (sym c.deref_mut.ensures.value)
-    (can_hand _ (c.lawful.ensures c.self.inside.program.now) _ _ _ _ c.self.invariant (g.met.P.Program.lawful c.self.inside.program.now).known c.args.name.now c.args.place c.args.event hands (c.running_counts.ensures.few c.self.inside.program.now)))
+    rw (c.deref.ensures.value, c.deref_mut.ensures.value)
+    (can_hand _ (c.lawful.ensures c.self.inside.program.now) _ _ _ _ c.self.invariant (g.met.P.Program.lawful c.self.inside.program.now).known c.args.name.now c.args.place c.args.event hands (c.running_counts.ensures.few c.self.inside.program.now))
 
 pub invariant_of-self-2 : goal.invariant_of-self-2
 invariant_of-self-2 g c =
     let hands = rw (← c.self.view_is) at c.requires in
-    let made = subst (λ s. Sets g.P.Lat.Event.PartialEq.eq c.self.inside.tasks c.in_ok-task.task s c.insert.new.self) c.started.ensures c.in_ok-insert.ensures in
+    let made = rw (c.started.ensures, c.in_ok-local.ensures, c.in_ok-task.ensures) at c.in_ok-insert.ensures in
     let handed = handed_written g.P.Lat.Event.PartialEq.eq c.deref.result.now c.self.inside.variables.items c.args.name.now c.args.place c.deref_mut.result.now c.self.inside.handlers.items c.hand_at.new.handlers c.self.inside.handlers.len c.deref.ensures.value c.deref_mut.ensures.value c.self.inside.handlers.ok.0 c.hand_at.ensures in
     (handing _ (c.lawful.ensures c.self.inside.program.now) _ _ _ _ c.self.invariant (g.met.P.Program.lawful c.self.inside.program.now).known c.args.name.now c.args.place c.args.event hands
-    (c.hand_kept.ensures c.self.inside.program.now) (c.counts_kept.ensures.hand c.self.inside.program.now) (c.handlers_are_held.ensures.posts c.self.inside.program.now) (c.counts_follow.ensures.start c.self.inside.program.now) (c.names_are_new.ensures.tasks c.self.inside.program.now)
-    c.in_ok-task.task c.in_ok-task.ensures c.in_ok-local.local c.in_ok-local.ensures _ made _ handed _ _ c.in_ok-copy_local.ensures c.in_ok-copy.ensures).1
+    (c.hand_kept.ensures c.self.inside.program.now) (c.counts_kept.ensures.hand c.self.inside.program.now) (c.handlers_are_held.ensures.posts c.self.inside.program.now) (c.counts_follow.ensures.start c.self.inside.program.now) (c.names_are_new.ensures.tasks c.self.inside.program.now) _ made _ handed).1
 
 pub returns : goal.returns
 returns g c =
     let hands = rw (← c.self.view_is) at c.requires in
-    let made = subst (λ s. Sets g.P.Lat.Event.PartialEq.eq c.self.inside.tasks c.in_ok-task.task s c.insert.new.self) c.started.ensures c.in_ok-insert.ensures in
+    let made = rw (c.started.ensures, c.in_ok-local.ensures, c.in_ok-task.ensures) at c.in_ok-insert.ensures in
     let handed = handed_written g.P.Lat.Event.PartialEq.eq c.deref.result.now c.self.inside.variables.items c.args.name.now c.args.place c.deref_mut.result.now c.self.inside.handlers.items c.hand_at.new.handlers c.self.inside.handlers.len c.deref.ensures.value c.deref_mut.ensures.value c.self.inside.handlers.ok.0 c.hand_at.ensures in
-    rw (← c.self.view_is)
+    rw (← c.self.view_is, c.in_ok-copy_local.ensures, c.in_ok-copy.ensures, c.in_ok-local.ensures, c.in_ok-task.ensures)
     (handing _ (c.lawful.ensures c.self.inside.program.now) _ _ _ _ c.self.invariant (g.met.P.Program.lawful c.self.inside.program.now).known c.args.name.now c.args.place c.args.event hands
-    (c.hand_kept.ensures c.self.inside.program.now) (c.counts_kept.ensures.hand c.self.inside.program.now) (c.handlers_are_held.ensures.posts c.self.inside.program.now) (c.counts_follow.ensures.start c.self.inside.program.now) (c.names_are_new.ensures.tasks c.self.inside.program.now)
-    c.in_ok-task.task c.in_ok-task.ensures c.in_ok-local.local c.in_ok-local.ensures _ made _ handed _ _ c.in_ok-copy_local.ensures c.in_ok-copy.ensures).0
+    (c.hand_kept.ensures c.self.inside.program.now) (c.counts_kept.ensures.hand c.self.inside.program.now) (c.handlers_are_held.ensures.posts c.self.inside.program.now) (c.counts_follow.ensures.start c.self.inside.program.now) (c.names_are_new.ensures.tasks c.self.inside.program.now) _ made _ handed).0

@@ -3,7 +3,7 @@ use Rattle.std.specs.Slice.Iter.{iter_rest}
 use Rattle.std.specs.Iterator.Adapters.{zip_first, zip_second}
 use Rattle.std.proofs.lemmas.Slice.Zip.{zip_turn, zip_end}
 use Rattle.std.proofs.lemmas.Bool.{false≢true, both_ways}
-use Rattle.lvish_core.proofs.Drained.{one_more, not_all, all_below}
+use Rattle.lvish_core.proofs.Ready.{one_more, not_all, all_below}
 use Rattle.lvish_core.proofs.machine.Core.is_drained.Goals as goal
 
 pub returns-then-not-drained : goal.returns-then-not-drained

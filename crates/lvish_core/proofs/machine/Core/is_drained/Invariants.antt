@@ -1,5 +1,5 @@
 use Rattle.std.proofs.Common.{length}
-use Rattle.lvish_core.proofs.Drained.{DrainedBelow}
+use Rattle.lvish_core.proofs.Ready.{DrainedBelow}
 use Rattle.lvish_core.proofs.machine.Core.is_drained.Given as goal
 
 abbrev pub invariant-loop-variable : goal.invariant-loop-variable

@@ -1,16 +1,16 @@
-use Rattle.std.proofs.Common.{◌≡◌, ◌+◌, ◌<◌, ◌≤◌, [], ◌∷◌, length, drop, get_or, sym, ap, ◌∙◌, arith}
+use Rattle.std.proofs.Common.{◌≡◌, ◌+◌, ◌<◌, ◌≤◌, [], ◌∷◌, refl, length, drop, get_or, sym, ap, ◌∙◌, arith}
 use Rattle.std.specs.Borrow.{Bor}
 use Rattle.std.proofs.lemmas.List.{at_drop_more}
 use Rattle.std.proofs.Math.ListN.{drop_of_length-le}
 use Rattle.std.specs.Map.Iter.{deref_pair}
 use Rattle.std.proofs.lemmas.Map.Iter.{rest_all, rest_more}
 use Rattle.std.proofs.lemmas.Bool.{both_ways}
-use Rattle.lvish_names.specs.OrderLaws.{name_ties, name_equiv, handler_ties, handler_equiv}
+use Rattle.lvish_names.specs.laws.OrderLaws.{name_ties, name_equiv, handler_ties, handler_equiv}
 use Rattle.lvish_core.specs.Tasks.{standing, standings, entries_at}
 use Rattle.lvish_core.proofs.Ready.{there, beside}
 use Rattle.lvish_core.proofs.Seated.{placed, next_there}
-use Rattle.lvish_core.proofs.Listing.{each_task, each_place, task_listed, task_passed, all_tasks_listed, hands_begun, hand_listed, hand_passed, all_hands_listed}
-use Rattle.lvish_core.proofs.Listed.{no_labels, are_labels}
+use Rattle.lvish_core.proofs.Listing.{none_listed, one_listed, one_passed, all_listed}
+use Rattle.lvish_core.proofs.Listed.{each_in_order, each_place, no_labels, are_labels}
 use Rattle.lvish_core.proofs.machine.Core.labels.Goals as goal
 use Rattle.lvish_core.proofs.machine.Core.labels.Goals.{then-branch+in_ok-copy+in_ok-push, else-branch}
 
@@ -19,7 +19,7 @@ returns-then-is_some g c = rw (← c.self.view_is, c.new-labels.ensures.items)
     (no_labels _ _ _ _ _ c.self.invariant (c.lawful.ensures c.self.inside.program.now) (c.handlers_are_held.ensures.posts c.self.inside.program.now) g.P.Lat.Event.Ord.cmp (sym c.is_some.ensures ∙ c.if-is_some.true))
 
 pub loop-entry-init : goal.loop-entry-init
-loop-entry-init g c = rw (c.new-labels.ensures.items) (λ ms z. z)
+loop-entry-init g c = rw (c.new-labels.ensures.items) (none_listed _ _ [])
 
 pub loop-entry-preserved : goal.loop-entry-preserved
 loop-entry-preserved g c =
@@ -33,9 +33,9 @@ loop-entry-preserved g c =
     let ready = rw (← c.self.view_is) at c.in_ok-is_at_ready.ensures in
     elim c.if-branch.branch [
       | then-branch+in_ok-copy+in_ok-push w ↦ rw (← c.self.view_is, w.labels-is, w.in_ok-push.ensures.items, w.in_ok-copy.ensures)
-          (task_listed _ _ _ _ _ c.self.invariant _ entry.0.now (standing entry.1.now) (standings (entries_at (drop (c.loop-entry.entry-index + 1) c.deref-entry-items.result.now))) c.loop-entry.labels.items left (ready.0 w.if-branch.true))
+          (one_listed _ _ (entry.0.now, standing entry.1.now) (standings (entries_at (drop (c.loop-entry.entry-index + 1) c.deref-entry-items.result.now))) [] c.loop-entry.labels.items left _ (refl, ready.0 w.if-branch.true))
       | else-branch w ↦ rw (← c.self.view_is, w.labels-is)
-          (task_passed _ _ _ _ _ c.self.invariant _ entry.0.now (standing entry.1.now) (standings (entries_at (drop (c.loop-entry.entry-index + 1) c.deref-entry-items.result.now))) c.loop-entry.labels.items left (λ z. both_ways _ w.if-branch.false (ready.1 z)))
+          (one_passed _ _ (entry.0.now, standing entry.1.now) (standings (entries_at (drop (c.loop-entry.entry-index + 1) c.deref-entry-items.result.now))) [] c.loop-entry.labels.items left (λ l z. both_ways _ w.if-branch.false (ready.1 z.1)))
     ]
 
 pub loop-handler-init : goal.loop-handler-init
@@ -43,7 +43,7 @@ loop-handler-init g c =
     let it = c.into_iter-handler-iterator.ensures.into_iter_gives ∙ c.iter-handler-items.ensures.all in
     rw it (record {
       each = each_place _ (c.lawful.ensures c.self.inside.program.now).event_same_is g.P.Lat.Event.Ord.cmp (handler_equiv g.met.P.Lat.Event.Eq.laws).symm (handler_ties g.P.Lat.Event.Ord.cmp g.met.P.Lat.Event.Ord.matches_eq) c.self.inside.places c.iter-handler-items.ensures.ascending;
-      listed = rw (← c.self.view_is) (hands_begun _ _ _ _ _ c.self.invariant c.loop-entry.labels.items);
+      listed = rw (← c.self.view_is) (none_listed _ c.self.inside.places c.loop-entry.labels.items);
     })
 
 pub index-variable-requires : goal.index-variable-requires
@@ -71,7 +71,7 @@ loop-handler-preserved-in_ok-push-2 g c =
     record {
       each = each.1;
       listed = rw (← c.self.view_is, c.in_ok-push-2.ensures.items, c.in_ok-copy-2.ensures)
-          (hand_listed _ _ _ _ _ c.self.invariant c.in-Some.handler.now c.in-Some.place.now c.next.new.self _ c.loop-handler.labels.items so_far c.in-Some-next.event next);
+          (one_listed _ _ (c.in-Some.handler.now, c.in-Some.place.now) c.next.new.self _ c.loop-handler.labels.items so_far _ (c.in-Some-next.event, refl, next));
     }
 
 pub loop-handler-preserved : goal.loop-handler-preserved
@@ -85,7 +85,7 @@ loop-handler-preserved g c =
     record {
       each = each.1;
       listed = rw (← c.self.view_is)
-          (hand_passed _ _ _ _ _ c.self.invariant c.in-Some.handler.now c.in-Some.place.now c.next.new.self _ c.loop-handler.labels.items so_far none);
+          (one_passed _ _ (c.in-Some.handler.now, c.in-Some.place.now) c.next.new.self _ c.loop-handler.labels.items so_far (λ l z. none z.0 z.2));
     }
 
 pub returns : goal.returns
@@ -95,12 +95,12 @@ returns g c =
     let past : length c.in_ok-tasks.tasks.items ≤ c.loop-entry.entry-index = omega (arith, c.loop-entry-test.false, c.loop-entry.auto.entry-index-end, ap length c.deref-entry-items.ensures.value) in
     let none : standings (entries_at (drop c.loop-entry.entry-index c.in_ok-tasks.tasks.items)) ≡ [] = ap (λ xs. standings (entries_at xs)) (drop_of_length-le c.in_ok-tasks.tasks.items past) in
     let listed = rw (← c.self.view_is, c.deref-entry-items.ensures.value) at c.loop-entry.invariant in
-    let tasks = all_tasks_listed _ _ _ _ _ c.self.invariant all (standings (entries_at (drop c.loop-entry.entry-index c.in_ok-tasks.tasks.items))) c.loop-entry.labels.items listed none in
+    let tasks = all_listed _ all (standings (entries_at (drop c.loop-entry.entry-index c.in_ok-tasks.tasks.items))) [] c.loop-entry.labels.items listed none in
     let handings = rw (← c.self.view_is) at c.loop-handler.invariant.listed in
-    let hands = all_hands_listed _ _ _ _ _ c.self.invariant c.loop-handler.handler-iterator c.loop-entry.labels.items c.loop-handler.labels.items handings (rest_all deref_pair _ _ _ c.in-None.is c.next.ensures.steps) in
+    let hands = all_listed _ _ c.loop-handler.handler-iterator c.loop-entry.labels.items c.loop-handler.labels.items handings (rest_all deref_pair _ _ _ c.in-None.is c.next.ensures.steps) in
     let same = (c.lawful.ensures c.self.inside.program.now).event_same_is in
     rw (← c.self.view_is)
     (are_labels _ _ _ _ _ c.self.invariant (c.lawful.ensures c.self.inside.program.now) (c.handlers_are_held.ensures.posts c.self.inside.program.now) E (c.handed_next.ensures.next c.self.inside.program.now)
     (sym c.is_some.ensures ∙ c.if-is_some.false) all (λ t. sym (c.in_ok-tasks.ensures.all t)) c.in_ok-tasks.ensures.ascending
-    (each_task _ same E (name_equiv g.met.P.Lat.Event.Eq.laws).symm (name_ties E g.met.P.Lat.Event.Ord.matches_eq) all c.in_ok-tasks.ensures.ascending)
-    c.iter-handler-items.ensures.ascending c.loop-entry.labels.items hands.0 tasks hands.1 c.loop-handler.labels.items hands.2)
+    (each_in_order _ same E (name_equiv g.met.P.Lat.Event.Eq.laws).symm (name_ties E g.met.P.Lat.Event.Ord.matches_eq) all c.in_ok-tasks.ensures.ascending)
+    c.iter-handler-items.ensures.ascending tasks.0 hands.0 tasks.1 hands.1 c.loop-entry.labels.items c.loop-handler.labels.items tasks.2 hands.2)

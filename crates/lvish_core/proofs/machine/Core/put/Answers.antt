@@ -1,6 +1,6 @@
-use Rattle.std.proofs.Common.{inl, inr}
+use Rattle.std.proofs.Common.{inl, inr, add-one}
 use Rattle.lvish_core.proofs.Errors.{refused}
-use Rattle.lvish_core.proofs.Puts.{putting}
+use Rattle.lvish_core.proofs.Acts.{putting}
 use Rattle.lvish_core.proofs.Written.{put_written}
 use Rattle.lvish_core.proofs.machine.Core.put.Goals as goal
 use Rattle.lvish_core.proofs.machine.Core.put.Goals.{in-Conflict, in-Frozen}
@@ -17,12 +17,15 @@ fail-requires g c =
 pub invariant_of-self-2 : goal.invariant_of-self-2
 invariant_of-self-2 g c =
     let acts = rw (← c.self.view_is) at c.requires in
-    let w = put_written g.P.Lat.Lattice.joined g.P.Lat.Event.PartialEq.eq g.P.Lat.Lattice.events_of c.args.name.now _ c.args.state.now c.args.variable c.deref_mut.result.now c.self.inside.variables.items c.put_at.new.variables c.self.inside.variables.len c.deref_mut.ensures.value c.self.inside.variables.ok.0 c.in_default.ensures.ok in
-    (putting _ (c.lawful.ensures c.self.inside.program.now) (c.put_kept.ensures c.self.inside.program.now) (c.counts_kept.ensures.put c.self.inside.program.now) _ _ _ _ c.self.invariant c.args.name.now _ _ _ _ _ _ acts _ w _ _ c.in_ok-local.ensures c.replace.ensures _ c.in_ok-own.ensures).1
+    let w = rw add-one at (put_written g.P.Lat.Lattice.joined g.P.Lat.Event.PartialEq.eq g.P.Lat.Lattice.events_of c.args.name.now _ c.args.state.now c.args.variable c.deref_mut.result.now c.self.inside.variables.items c.put_at.new.variables c.self.inside.variables.len c.deref_mut.ensures.value c.self.inside.variables.ok.0 c.in_default.ensures.ok) in
+    let sets = rw (c.live-stage.ensures, c.in_ok-local.ensures, add-one) at c.close.ensures.tasks in
+    rw (c.close.ensures.steps, c.close.ensures.touched)
+    (putting _ (c.lawful.ensures c.self.inside.program.now) _ _ _ _ c.self.invariant c.args.name.now _ _ _ _ _ _ acts (c.put_kept.ensures c.self.inside.program.now) (c.counts_kept.ensures.put c.self.inside.program.now) _ w _ sets).1
 
 pub returns : goal.returns
 returns g c =
     let acts = rw (← c.self.view_is) at c.requires in
-    let w = put_written g.P.Lat.Lattice.joined g.P.Lat.Event.PartialEq.eq g.P.Lat.Lattice.events_of c.args.name.now _ c.args.state.now c.args.variable c.deref_mut.result.now c.self.inside.variables.items c.put_at.new.variables c.self.inside.variables.len c.deref_mut.ensures.value c.self.inside.variables.ok.0 c.in_default.ensures.ok in
-    rw (← c.self.view_is, c.own.ensures)
-    (putting _ (c.lawful.ensures c.self.inside.program.now) (c.put_kept.ensures c.self.inside.program.now) (c.counts_kept.ensures.put c.self.inside.program.now) _ _ _ _ c.self.invariant c.args.name.now _ _ _ _ _ _ acts _ w _ _ c.in_ok-local.ensures c.replace.ensures _ c.in_ok-own.ensures).0
+    let w = rw add-one at (put_written g.P.Lat.Lattice.joined g.P.Lat.Event.PartialEq.eq g.P.Lat.Lattice.events_of c.args.name.now _ c.args.state.now c.args.variable c.deref_mut.result.now c.self.inside.variables.items c.put_at.new.variables c.self.inside.variables.len c.deref_mut.ensures.value c.self.inside.variables.ok.0 c.in_default.ensures.ok) in
+    let sets = rw (c.live-stage.ensures, c.in_ok-local.ensures, add-one) at c.close.ensures.tasks in
+    rw (← c.self.view_is, c.own.ensures, c.in_ok-own.ensures, c.in_ok-local.ensures, c.close.ensures.steps, c.close.ensures.touched)
+    (putting _ (c.lawful.ensures c.self.inside.program.now) _ _ _ _ c.self.invariant c.args.name.now _ _ _ _ _ _ acts (c.put_kept.ensures c.self.inside.program.now) (c.counts_kept.ensures.put c.self.inside.program.now) _ w _ sets).0

@@ -2,8 +2,7 @@ use Rattle.std.proofs.Common.{sym, ap, ◌∙◌, refl}
 use Rattle.std.proofs.lemmas.Bool.{false≢true}
 use Rattle.std.specs.Option.{option_copied}
 use Rattle.lvish_core.specs.Tasks.{standing, standing_at}
-use Rattle.lvish_core.proofs.Asked.{acting, is_full, not_full}
-use Rattle.lvish_core.proofs.Shown.{live_can}
+use Rattle.lvish_core.proofs.Shown.{acting, is_full, not_full, live_can}
 use Rattle.lvish_core.proofs.machine.Core.step_asked.Goals as goal
 
 pub is_ready-requires : goal.is_ready-requires

@@ -1,5 +1,5 @@
 use Rattle.std.proofs.Common.{sym, ◌∙◌, refl}
-use Rattle.lvish_core.proofs.NextHanded.{other_refused, handed_it, refused_it, goes_on}
+use Rattle.lvish_core.proofs.Seated.{other_refused, handed_it, refused_it, goes_on}
 use Rattle.lvish_core.proofs.machine.Core.step_event.Goals as goal
 
 pub returns-in_default : goal.returns-in_default

@@ -1,8 +1,7 @@
 use Rattle.std.proofs.Common.{sym, ◌∙◌, arith}
-use Rattle.lvish_core.proofs.Asked.{is_full, not_full}
-use Rattle.lvish_core.proofs.NextHanded.{at_end_none, next_taken, is_handing}
+use Rattle.lvish_core.proofs.Shown.{is_full, not_full}
+use Rattle.lvish_core.proofs.Seated.{at_end_none, next_taken, is_handing, placed}
 use Rattle.lvish_core.proofs.Ready.{there, beside}
-use Rattle.lvish_core.proofs.Seated.{placed}
 use Rattle.lvish_core.proofs.machine.Core.step_hand.Goals as goal
 
 pub index-beside-requires : goal.index-beside-requires

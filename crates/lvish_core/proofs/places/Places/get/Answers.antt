@@ -1,6 +1,6 @@
 use Rattle.std.proofs.Common.{sym, ◌∙◌}
-use Rattle.lvish_names.specs.OrderLaws.{handler_ties}
-use Rattle.lvish_core.proofs.Index.{place_at-lookup}
+use Rattle.lvish_names.specs.laws.OrderLaws.{handler_ties}
+use Rattle.lvish_core.proofs.Maps.{place_at-lookup}
 use Rattle.lvish_core.proofs.places.Places.get.Goals as goal
 
 pub returns : goal.returns

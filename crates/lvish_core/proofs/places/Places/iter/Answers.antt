@@ -1,4 +1,4 @@
-use Rattle.lvish_core.proofs.Index.{names-places}
+use Rattle.lvish_core.proofs.Maps.{names-places}
 use Rattle.lvish_core.proofs.places.Places.iter.Goals as goal
 
 pub returns-clause-ascending : goal.returns-clause-ascending

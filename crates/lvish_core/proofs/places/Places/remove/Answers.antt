@@ -1,6 +1,6 @@
 use Rattle.std.proofs.Common.{None}
-use Rattle.lvish_names.specs.OrderLaws.{handler_ties, handler_equiv}
-use Rattle.lvish_core.proofs.Seats.{places_by}
+use Rattle.lvish_names.specs.laws.OrderLaws.{handler_ties, handler_equiv}
+use Rattle.lvish_core.proofs.Maps.{places_by}
 use Rattle.lvish_core.proofs.places.Places.remove.Goals as goal
 
 pub returns : goal.returns

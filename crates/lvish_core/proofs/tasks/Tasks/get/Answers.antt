@@ -1,6 +1,6 @@
 use Rattle.std.proofs.Common.{sym, ap, ◌∙◌}
 use Rattle.lvish_core.specs.Tasks.{standing_at}
-use Rattle.lvish_core.proofs.Table.{task_of-standings}
+use Rattle.lvish_core.proofs.Maps.{task_of-standings}
 use Rattle.lvish_core.proofs.tasks.Tasks.get.Goals as goal
 
 pub returns : goal.returns

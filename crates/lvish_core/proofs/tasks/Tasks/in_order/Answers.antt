@@ -3,7 +3,7 @@ use Rattle.std.specs.Ordering.{is_lt}
 use Rattle.std.proofs.lemmas.List.MinMax.{ranks_by}
 use Rattle.std.proofs.lemmas.Fn.{always_returns_same}
 use Rattle.lvish_names.specs.NameOrder.{name_cmp}
-use Rattle.lvish_names.specs.OrderLaws.{name_ties, name_equiv, name_total}
+use Rattle.lvish_names.specs.laws.OrderLaws.{name_ties, name_equiv, name_total}
 use Rattle.lvish_names.proofs.NameLaws.{same_name-true}
 use Rattle.lvish_core.specs.Tasks.{entries_at}
 use Rattle.lvish_core.proofs.Ordered.{sorted_tasks, sorted_names}

@@ -1,5 +1,5 @@
-use Rattle.lvish_names.specs.OrderLaws.{name_equiv}
-use Rattle.lvish_core.proofs.Table.{sets_by}
+use Rattle.lvish_names.specs.laws.OrderLaws.{name_equiv}
+use Rattle.lvish_core.proofs.Maps.{sets_by}
 use Rattle.lvish_core.proofs.tasks.Tasks.insert.Goals as goal
 
 pub returns : goal.returns

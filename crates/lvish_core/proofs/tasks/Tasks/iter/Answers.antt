@@ -1,4 +1,4 @@
-use Rattle.lvish_core.proofs.Table.{names-standings}
+use Rattle.lvish_core.proofs.Maps.{names-standings}
 use Rattle.lvish_core.proofs.tasks.Tasks.iter.Goals as goal
 
 pub returns-clause-once : goal.returns-clause-once

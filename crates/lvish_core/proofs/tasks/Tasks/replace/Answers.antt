@@ -1,7 +1,7 @@
 use Rattle.std.proofs.Common.{sym, ap, ◌∙◌, is_some}
 use Rattle.std.specs.Option.{option_copied_mut}
-use Rattle.lvish_names.specs.OrderLaws.{name_equiv}
-use Rattle.lvish_core.proofs.Table.{sets_by, found}
+use Rattle.lvish_names.specs.laws.OrderLaws.{name_equiv}
+use Rattle.lvish_core.proofs.Maps.{sets_by, found}
 use Rattle.lvish_core.proofs.tasks.Tasks.replace.Goals as goal
 use Rattle.lvish_core.proofs.tasks.Tasks.replace.Goals.{in-Some+in-Live-1, in-Some+in-Ended-1, in_default+in-Live-1, in_default+in-Ended-1}
 

@@ -1,5 +1,5 @@
 use Rattle.std.proofs.Common.{◌≤◌, All, length, refl, sym, subst}
-use Rattle.lvish_handlers.specs.Handlers.{View, IsHeld}
+use Rattle.lvish_handlers.specs.Handlers.{HandlersView, IsHeld}
 use Rattle.lvish_handlers.proofs.Places.{is_held}
 use Rattle.lvish_handlers.proofs.Changes.{counted_insert, within_insert}
 use Rattle.lvish_handlers.proofs.handlers.Handlers.add.Goals as goal
@@ -7,7 +7,7 @@ use Rattle.lvish_handlers.proofs.handlers.Handlers.add.Goals as goal
 pub unreachable-requires : goal.unreachable-requires
 unreachable-requires g c =
     let place = rw c.deref.ensures.value at c.in-Ok.ensures.found in
-    c.requires.not_held (subst (λ (v : View _). IsHeld v.held c.args.name) c.self.view_is (is_held c.self.inside.held.items c.args.name c.in-Ok.field-0 place))
+    c.requires.not_held (subst (λ (v : HandlersView _). IsHeld v.held c.args.name) c.self.view_is (is_held c.self.inside.held.items c.args.name c.in-Ok.field-0 place))
 
 pub invariant_of-self-in-Err : goal.invariant_of-self-in-Err
 invariant_of-self-in-Err g c =
@@ -23,4 +23,4 @@ returns-clause-by_name g c =
 pub returns-clause-within : goal.returns-clause-within
 returns-clause-within g c within =
     let n = length c.args.variable.now.log in
-    rw c.in_ok-insert-in-Err.ensures.items (within_insert n _ _ _ refl (subst (λ (v : View _). All (λ h. h.handed ≤ n) v.held) (sym c.self.view_is) within))
+    rw c.in_ok-insert-in-Err.ensures.items (within_insert n _ _ _ refl (subst (λ (v : HandlersView _). All (λ h. h.handed ≤ n) v.held) (sym c.self.view_is) within))

@@ -1,7 +1,7 @@
 use Rattle.std.proofs.Common.{◌≡◌, ◌≤◌, ◌↔◌, ◌*◌, IsTrue, All, length, nat_eq, subst, arith}
 use Rattle.lvish_handlers.specs.declared.held.Held.{Held}
-use Rattle.lvish_handlers.specs.Handlers.{View}
-use Rattle.lvish_handlers.proofs.Sums.{full_test}
+use Rattle.lvish_handlers.specs.Handlers.{HandlersView}
+use Rattle.lvish_handlers.proofs.Changes.{full_test}
 use Rattle.lvish_handlers.proofs.handlers.Handlers.drained.Goals as goal
 
 -- the total is as large as it can be
@@ -12,4 +12,4 @@ returns g c =
     let len : c.len.result ≡ length held = omega (arith, c.len.ensures, c.self.inside.held.ok.0) in
     let by_sum : All (λ h. h.handed ≤ n) held → IsTrue (nat_eq c.self.inside.total (length held * n)) ↔ All (λ h. h.handed ≡ n) held =
     λ all. full_test (λ (h : Held _). h.handed) held n c.self.inside.total all c.self.invariant.sum in
-    rw (len, c.log.ensures.log) (subst (λ (v : View _). All (λ h. h.handed ≤ n) v.held → IsTrue (nat_eq c.self.inside.total (length held * n)) ↔ All (λ h. h.handed ≡ n) v.held) c.self.view_is by_sum c.requires)
+    rw (len, c.log.ensures.log) (subst (λ (v : HandlersView _). All (λ h. h.handed ≤ n) v.held → IsTrue (nat_eq c.self.inside.total (length held * n)) ↔ All (λ h. h.handed ≡ n) v.held) c.self.view_is by_sum c.requires)

@@ -1,4 +1,4 @@
-use Rattle.lvish_lattice.specs.MembersLaws.{sets_checked}
+use Rattle.lvish_lattice.specs.laws.MembersLaws.{sets_checked}
 use Rattle.lvish_lattice.proofs.grow_set.GrowSetReads.check.Goals as goal
 
 pub returns : goal.returns

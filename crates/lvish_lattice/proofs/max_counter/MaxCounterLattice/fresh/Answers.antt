@@ -1,6 +1,6 @@
 use Rattle.std.proofs.Common.{◌∙◌, sym}
 use Rattle.std.proofs.lemmas.Result.{IfOk-weaker}
-use Rattle.lvish_lattice.specs.MaxCounterLaws.{counters_fresh}
+use Rattle.lvish_lattice.specs.laws.MaxCounterLaws.{counters_fresh}
 use Rattle.lvish_lattice.proofs.max_counter.MaxCounterLattice.fresh.Goals as goal
 
 pub returns : goal.returns

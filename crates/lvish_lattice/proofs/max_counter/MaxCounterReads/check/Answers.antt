@@ -1,4 +1,4 @@
-use Rattle.lvish_lattice.specs.MaxCounterLaws.{counters_checked}
+use Rattle.lvish_lattice.specs.laws.MaxCounterLaws.{counters_checked}
 use Rattle.lvish_lattice.proofs.max_counter.MaxCounterReads.check.Goals as goal
 
 pub returns : goal.returns

@@ -1,7 +1,7 @@
 use Rattle.std.proofs.Common.{◌≡◌, reverse, sym, ap, ◌∙◌}
 use Rattle.std.proofs.lemmas.List.{reverse-reverse}
 use Rattle.lvish_names.specs.Names.{same_name}
-use Rattle.lvish_names.specs.OrderLaws.{same_name-from_parts}
+use Rattle.lvish_names.specs.laws.OrderLaws.{same_name-from_parts}
 use Rattle.lvish_names.proofs.task_name.TaskNamePartialEq.eq.Goals as goal
 
 pub returns : goal.returns

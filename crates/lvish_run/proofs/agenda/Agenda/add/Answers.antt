@@ -1,7 +1,8 @@
 use Rattle.std.proofs.Common.{rules, ◌≡◌, ◌∷◌, [], length, sym, ap, subst, ◌∙◌, arith}
 use Rattle.std.specs.Vec.Iter.{into_iter_items, into_iter_len}
+use Rattle.std.proofs.lemmas.List.{nil_from_length}
 use Rattle.lvish_run.specs.Agenda.{open_in, Adds}
-use Rattle.lvish_run.proofs.Agendas.{adds_none, adds_more, nothing_left}
+use Rattle.lvish_run.proofs.Agendas.{adds_none, adds_more}
 use Rattle.lvish_run.proofs.agenda.Agenda.add.Goals as goal
 
 pub loop-work-init : goal.loop-work-init
@@ -32,5 +33,5 @@ loop-work-preserved g c =
 
 pub returns : goal.returns
 returns g c =
-    let empty : into_iter_items c.loop-work.work-iterator ≡ [] = nothing_left _ (sym c.loop-work.invariant.long ∙ c.in-None.ensures.steps.0) in
+    let empty : into_iter_items c.loop-work.work-iterator ≡ [] = nil_from_length _ (sym c.loop-work.invariant.long ∙ c.in-None.ensures.steps.0) in
     c.loop-work.invariant.adds (open_in g.P.Lat.Event.Ord.cmp c.loop-work.self) (subst (λ ws. Adds ws (open_in g.P.Lat.Event.Ord.cmp c.loop-work.self) (open_in g.P.Lat.Event.Ord.cmp c.loop-work.self)) (sym empty) (adds_none (open_in g.P.Lat.Event.Ord.cmp c.loop-work.self)))

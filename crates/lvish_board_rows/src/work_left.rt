@@ -1,0 +1,41 @@
+//! Work that was left.
+
+use std::alloc::{AllocError, Global};
+
+/// Pieces of work, in the order in which they were left.
+#[derive(Drop)]
+pub struct WorkLeft<W: Drop> {
+    works: Vec<W>,
+}
+
+impl<W: Drop> WorkLeft<W> {
+    /// No work.
+    pub fn new(alloc: Global) -> WorkLeft<W> {
+        WorkLeft {
+            works: Vec::new(alloc),
+        }
+    }
+
+    pub fn works(&self) -> &[W] {
+        &self.works
+    }
+
+    /// Keeps a piece.
+    pub fn keep(&mut self, work: W) -> Result<(), AllocError> {
+        self.works.push(work)?;
+        Ok(())
+    }
+
+    /// Keeps these pieces, which are moved out of their list.
+    pub fn keep_all(&mut self, works: &mut Vec<W>) -> Result<(), AllocError> {
+        self.works.append(works)
+    }
+
+    /// Takes out the piece at this place, if there is one.
+    pub fn take_at(&mut self, place: usize) -> Option<W> {
+        if place >= self.works.len() {
+            return None;
+        }
+        Some(self.works.remove(place))
+    }
+}

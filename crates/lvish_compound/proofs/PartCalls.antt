@@ -1,0 +1,91 @@
+-- What comparing, merging and fresh events are on parts.
+use Rattle.std.specs.Prelude.{◌≡◌, ◌↔◌, ℤ, Bool, true, false, not, IsTrue, List, [], filter, refl}
+use Rattle.std.proofs.Common.{sym, ◌∙◌, ap}
+use Rattle.std.specs.Set.{is_member}
+use Rattle.std.specs.Ordering.{int_eq}
+use Rattle.std.proofs.lemmas.Cmp.{int_eq_equiv}
+use Rattle.lvish_lattice.specs.Lattice.{IsAtOrBelow, fresh_of}
+use Rattle.lvish_lattice.specs.declared.max_counter.MaxCounter.{MaxCounter}
+use Rattle.lvish_lattice.specs.GrowSet as set
+use Rattle.lvish_lattice.specs.MaxCounter as max
+use Rattle.lvish_compound.specs.declared.part.Part.{Part}
+use Rattle.lvish_compound.specs.declared.part.Part.TheVariants.{Empty, Set, Max}
+use Rattle.lvish_compound.specs.declared.side_of.SideOf.{SideOf}
+use Rattle.lvish_compound.specs.declared.side_of.SideOf.TheVariants.{One, Two}
+use Rattle.lvish_compound.specs.Held.{HeldState, held, held_by}
+use Rattle.lvish_compound.proofs.Carried.{carried_leq, carried_fresh, held_carried, none_beyond, all_beyond}
+use Rattle.lvish_compound.specs.Parts.{joined, events_of, set_in, max_in}
+use Rattle.lvish_compound.specs.laws.PartLaws.{OfSet, OfMax, inside, same_set, same_max, part_is_join}
+use Rattle.lvish_compound.specs.Pair.{sides}
+use Rattle.lvish_compound.specs.laws.PairLaws.{sides_beyond}
+use Rattle.lvish_compound.specs.laws.Pointwise.{right_unit}
+
+pub sets_leq : (t : Bool) (s r : Part) (x z : _) (p q : HeldState Set) → s ≡ Set x → r ≡ Set z → p ≡ x.state → q ≡ z.state → IsTrue t ↔ IsAtOrBelow set.joined p q → IsTrue t ↔ IsAtOrBelow joined s r
+sets_leq = carried_leq (held_carried Set Empty joined (λ x z. refl)) set_in (inside OfSet)
+
+pub maxes_leq : (t : Bool) (s r : Part) (x z : _) (p q : MaxCounter) → s ≡ Max x → r ≡ Max z → p ≡ x.state → q ≡ z.state → IsTrue t ↔ IsAtOrBelow max.joined p q → IsTrue t ↔ IsAtOrBelow joined s r
+maxes_leq = carried_leq (held_carried Max Empty joined (λ x z. refl)) max_in (inside OfMax)
+
+-- a test of events by their kinds
+pub record IsByKind (eq : SideOf ℤ (SideOf ℤ ℤ) → SideOf ℤ (SideOf ℤ ℤ) → Bool) : Type 0 where
+  pub cells : (x z : ℤ) → eq (One x) (One z) ≡ int_eq x z
+  pub sets : (x z : ℤ) → eq (Two (One x)) (Two (One z)) ≡ int_eq x z
+  pub maxes : (x z : ℤ) → eq (Two (Two x)) (Two (Two z)) ≡ int_eq x z
+  pub one_two : (x : ℤ) (y : SideOf ℤ ℤ) → eq (One x) (Two y) ≡ false
+  pub two_one : (x : ℤ) (y : SideOf ℤ ℤ) → eq (Two y) (One x) ≡ false
+  pub set_max : (x y : ℤ) → eq (Two (One x)) (Two (Two y)) ≡ false
+  pub max_set : (x y : ℤ) → eq (Two (Two y)) (Two (One x)) ≡ false
+
+module _ (eq : SideOf ℤ (SideOf ℤ ℤ) → SideOf ℤ (SideOf ℤ ℤ) → Bool) (k : IsByKind eq) where
+  event_itself : (e : SideOf ℤ (SideOf ℤ ℤ)) → eq e e ≡ true
+  event_itself (One x) = k.cells x x ∙ int_eq_equiv.refl x
+  event_itself (Two (One x)) = k.sets x x ∙ int_eq_equiv.refl x
+  event_itself (Two (Two x)) = k.maxes x x ∙ int_eq_equiv.refl x
+
+  abbrev inner : SideOf ℤ ℤ → SideOf ℤ ℤ → Bool
+  inner x z = eq (Two x) (Two z)
+
+  outer : (xs zs : List (SideOf ℤ ℤ)) → filter (λ n. not (is_member eq (sides [] xs) n)) (sides [] zs) ≡ sides [] (filter (λ e. not (is_member inner xs e)) zs)
+  outer xs zs = sides_beyond int_eq inner eq k.cells (λ x z. refl) k.one_two k.two_one [] [] xs zs
+
+  abbrev as_set : List ℤ → List (SideOf ℤ (SideOf ℤ ℤ))
+  as_set xs = sides [] (sides xs [])
+
+  abbrev as_max : List ℤ → List (SideOf ℤ (SideOf ℤ ℤ))
+  as_max xs = sides [] (sides [] xs)
+
+  set_beyond : (xs zs : List ℤ) → filter (λ n. not (is_member eq (as_set xs) n)) (as_set zs) ≡ as_set (filter (λ e. not (is_member int_eq xs e)) zs)
+  set_beyond xs zs = outer (sides xs []) (sides zs []) ∙ ap (λ l. sides [] l) (sides_beyond int_eq int_eq inner k.sets k.maxes k.set_max k.max_set xs zs [] [])
+
+  max_beyond : (xs zs : List ℤ) → filter (λ n. not (is_member eq (as_max xs) n)) (as_max zs) ≡ as_max (filter (λ e. not (is_member int_eq xs e)) zs)
+  max_beyond xs zs = outer (sides [] xs) (sides [] zs) ∙ ap (λ l. sides [] l) (sides_beyond int_eq int_eq inner k.sets k.maxes k.set_max k.max_set [] [] xs zs)
+
+  set_wraps : (s : HeldState Set) → events_of (held Set Empty s) ≡ as_set (set.items_of s)
+  set_wraps s = held_by Set Empty (λ v. events_of v ≡ as_set (set.items_of s)) s (λ e. ap (λ (v : HeldState Set). as_set (set.items_of v)) (sym (same_set s e))) (λ x e. ap (λ (v : HeldState Set). as_set (set.items_of v)) e)
+
+  max_wraps : (s : MaxCounter) → events_of (held Max Empty s) ≡ as_max (max.events_of s)
+  max_wraps s = held_by Max Empty (λ v. events_of v ≡ as_max (max.events_of s)) s (λ e. ap (λ (v : MaxCounter). as_max (max.events_of v)) (sym (same_max s e))) (λ x e. ap (λ (v : MaxCounter). as_max (max.events_of v)) e)
+
+  sets_fresh_by : (xs : List ℤ) (s r : Part) (x z : _) (p q : HeldState Set) → s ≡ Set x → r ≡ Set z → p ≡ x.state → q ≡ z.state → xs ≡ fresh_of set.joined int_eq set.items_of p q → sides [] (sides xs []) ≡ fresh_of joined eq events_of s r
+  sets_fresh_by = carried_fresh (held_carried Set Empty joined (λ x z. refl)) int_eq set.items_of eq events_of as_set refl set_beyond set_wraps
+
+  maxes_fresh_by : (xs : List ℤ) (s r : Part) (x z : _) (p q : MaxCounter) → s ≡ Max x → r ≡ Max z → p ≡ x.state → q ≡ z.state → xs ≡ fresh_of max.joined int_eq max.events_of p q → sides [] (sides [] xs) ≡ fresh_of joined eq events_of s r
+  maxes_fresh_by = carried_fresh (held_carried Max Empty joined (λ x z. refl)) int_eq max.events_of eq events_of as_max refl max_beyond max_wraps
+
+  first_fresh_by : (s r : Part) → s ≡ Empty → events_of r ≡ fresh_of joined eq events_of s r
+  first_fresh_by s r e = all_beyond eq (events_of r) ∙ ap (λ (v : Part). fresh_of joined eq events_of v r) (sym e)
+
+  nothing_fresh_by : (s r : Part) → r ≡ Empty → [] ≡ fresh_of joined eq events_of s r
+  nothing_fresh_by s r e = none_beyond eq event_itself events_of s (joined s r) (ap (joined s) e ∙ right_unit part_is_join s)
+
+pub first_fresh : (eq : SideOf ℤ (SideOf ℤ ℤ) → SideOf ℤ (SideOf ℤ ℤ) → Bool) (s r : Part) → s ≡ Empty → IsByKind eq → events_of r ≡ fresh_of joined eq events_of s r
+first_fresh eq s r e k = first_fresh_by eq k s r e
+
+pub nothing_fresh : (eq : SideOf ℤ (SideOf ℤ ℤ) → SideOf ℤ (SideOf ℤ ℤ) → Bool) (s r : Part) → r ≡ Empty → IsByKind eq → [] ≡ fresh_of joined eq events_of s r
+nothing_fresh eq s r e k = nothing_fresh_by eq k s r e
+
+pub sets_fresh : (eq : SideOf ℤ (SideOf ℤ ℤ) → SideOf ℤ (SideOf ℤ ℤ) → Bool) (xs : List ℤ) (s r : Part) (x z : _) (p q : HeldState Set) → s ≡ Set x → r ≡ Set z → p ≡ x.state → q ≡ z.state → xs ≡ fresh_of set.joined int_eq set.items_of p q → IsByKind eq → sides [] (sides xs []) ≡ fresh_of joined eq events_of s r
+sets_fresh eq xs s r x z p q es er ep' eq' e k = sets_fresh_by eq k xs s r x z p q es er ep' eq' e
+
+pub maxes_fresh : (eq : SideOf ℤ (SideOf ℤ ℤ) → SideOf ℤ (SideOf ℤ ℤ) → Bool) (xs : List ℤ) (s r : Part) (x z : _) (p q : MaxCounter) → s ≡ Max x → r ≡ Max z → p ≡ x.state → q ≡ z.state → xs ≡ fresh_of max.joined int_eq max.events_of p q → IsByKind eq → sides [] (sides [] xs) ≡ fresh_of joined eq events_of s r
+maxes_fresh eq xs s r x z p q es er ep' eq' e k = maxes_fresh_by eq k xs s r x z p q es er ep' eq' e

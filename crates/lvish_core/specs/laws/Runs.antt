@@ -1,0 +1,28 @@
+-- What a core without an error stands for, and the runs that lead to it.
+use Rattle.std.proofs.Common.{◌≡◌, List, Option, Some, None, refl, sym, ap, subst}
+use Rattle.lvish_calculus.specs.declared.label.Label.{Label}
+use Rattle.lvish_calculus.specs.Machine.{Machine}
+use Rattle.lvish_calculus.specs.Calculus.{State, Configuration, Running, CanStep, IsRun, start}
+use Rattle.lvish_picture.specs.Picture.{IsPictured}
+use Rattle.lvish_core.specs.declared.fault.RunError.{RunError}
+use Rattle.lvish_core.specs.Core.{CoreView, state, at_fault, picture, IsRunTo}
+
+pub running_same : {S E L : Type 0} {a b : State S E L} → Running a ≡ Running b → a ≡ b
+running_same e = cc
+
+-- after an error no step can be made
+pub no_error_before : {S E R A L : Type 0} (M : Machine S E R A L) (s : State S E L) (f : Option (RunError E)) (l : Label E) → CanStep M (at_fault s f) l → f ≡ None
+no_error_before M s None l h = refl
+no_error_before M s (Some f) l h = absurd h
+
+module _ {P S E R A L : Type 0} (M : Machine S E R A L) where
+  -- the configuration without an error
+  pub at_state : (c : CoreView P S E L) → c.fault ≡ None → picture M c ≡ Running (state M c)
+  at_state c f = ap (at_fault (state M c)) f
+
+  -- without an error, the runs to a core are those that picture its table
+  pub pictured_by : (c : CoreView P S E L) (xs : List (Label E)) → c.fault ≡ None → IsRunTo M c xs → IsPictured M c.table xs
+  pictured_by c xs f r = record { reached = subst (λ (q : Configuration S E L). IsRun M (Running (start M)) xs q) (at_state c f) r.reached; core = r.core; logs = r.logs; table = r.table }
+
+  pub run_to : (c : CoreView P S E L) (xs : List (Label E)) → c.fault ≡ None → IsPictured M c.table xs → IsRunTo M c xs
+  run_to c xs f k = record { reached = subst (λ (q : Configuration S E L). IsRun M (Running (start M)) xs q) (sym (at_state c f)) k.reached; core = k.core; logs = k.logs; table = k.table }

@@ -1,0 +1,3 @@
+pub mod FlatLaws
+pub mod MaxCounterLaws
+pub mod MembersLaws

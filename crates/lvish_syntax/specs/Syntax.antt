@@ -1,0 +1,23 @@
+-- What a script is made of: the types and their variants, by one name each. Those of statements, of their lines and of open blocks have names in common, and stay with their types.
+pub use Rattle.lvish_syntax.specs.Words.{Word}
+pub use Rattle.lvish_syntax.specs.declared.version.Version.{Version}
+pub use Rattle.lvish_syntax.specs.declared.version.Version.TheVariants.{One, Two}
+pub use Rattle.lvish_syntax.specs.declared.kind.SimpleKind.{SimpleKind}
+pub use Rattle.lvish_syntax.specs.declared.kind.SimpleKind.TheVariants.{Cell, Set, Max}
+pub use Rattle.lvish_syntax.specs.declared.kind.VariableKind.{VariableKind}
+pub use Rattle.lvish_syntax.specs.declared.kind.VariableKind.TheVariants.{Simple, Map, Pair, Tally}
+pub use Rattle.lvish_syntax.specs.declared.operator.Operator.{Operator}
+pub use Rattle.lvish_syntax.specs.declared.operator.Operator.TheVariants.{Add, Subtract, Multiply, Divide, Remainder, Less, Equal}
+pub use Rattle.lvish_syntax.specs.declared.term.Term.{Term}
+pub use Rattle.lvish_syntax.specs.declared.term.Term.TheVariants.{Local, Number}
+pub use Rattle.lvish_syntax.specs.declared.let_value.LetValue.{LetValue}
+pub use Rattle.lvish_syntax.specs.declared.let_value.LetValue.TheVariants.{Same, Combined}
+pub use Rattle.lvish_syntax.specs.declared.threshold.Threshold.{Threshold}
+pub use Rattle.lvish_syntax.specs.declared.threshold.Threshold.TheVariants.{Any, In, Has, Least, Total}
+pub use Rattle.lvish_syntax.specs.declared.declaration.Declaration.{Declaration}
+pub use Rattle.lvish_syntax.specs.declared.declaration.Declaration.TheVariants.{Variable, Pool}
+pub use Rattle.lvish_syntax.specs.declared.command.Command.{Command}
+pub use Rattle.lvish_syntax.specs.declared.command.Command.TheVariants.{Let, Put, PutAt, Get, GetAt, Fork, Call, Handle, Freeze, FreezeEach}
+pub use Rattle.lvish_syntax.specs.declared.statement.Statement.{Statement}
+pub use Rattle.lvish_syntax.specs.declared.statement.Block.{Block}
+pub use Rattle.lvish_syntax.specs.declared.procedure.Procedure.{Procedure}

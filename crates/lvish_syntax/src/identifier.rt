@@ -1,0 +1,74 @@
+ghost use Rattle.std.specs.Prelude.{◌≡◌, IfOk, string_bytes};
+ghost use Rattle.lvish_syntax.specs.Words.{is_name};
+ghost use Rattle.std.specs.Prelude.{true};
+
+use std::alloc::{AllocError, Global};
+use std::marker::Model;
+
+/// The name of a variable, a procedure or a local, seen as its bytes.
+#[derive(Debug, Drop)]
+pub struct Identifier {
+    text: String,
+}
+
+impl Model for Identifier {
+    ghost use Rattle.std.specs.Prelude.{List, ℕ, string_bytes};
+
+    ghost Value = { List ℕ };
+
+    ghost view = { λ n. string_bytes n.text };
+}
+
+impl PartialEq for Identifier {
+    ghost use Rattle.lvish_syntax.specs.Equality.{text_eq, text_equivalence};
+    ghost use Rattle.std.specs.Cmp.{partial_equiv_from_equiv};
+
+    ghost eq = { text_eq };
+
+    ghost laws = { partial_equiv_from_equiv text_equivalence };
+
+    fn eq(&self, other: &Identifier) -> bool {
+        self.as_str() == other.as_str()
+    }
+}
+
+impl Eq for Identifier {
+    ghost use Rattle.lvish_syntax.specs.Equality.{text_equivalence};
+
+    ghost laws = { text_equivalence };
+}
+
+impl Identifier {
+    /// The name that a word writes.
+    pub fn new(alloc: Global, word: &[u8]) -> Result<Identifier, AllocError>
+        requires { is_name word.now ≡ true }
+        ensures { IfOk result (λ n. n ≡ word.now) }
+    {
+        match str::from_utf8(word) {
+            Ok(text) => Identifier::from_text(alloc, text),
+            Err(_) => unreachable!(),
+        }
+    }
+
+    fn from_text(alloc: Global, text: &str) -> Result<Identifier, AllocError>
+        ensures { IfOk result (λ n. n ≡ text.now) }
+    {
+        Ok(Identifier {
+            text: String::from_str(alloc, text)?,
+        })
+    }
+
+    /// The name as text.
+    pub fn as_str(&self) -> &str
+        ensures { result.now ≡ self.now }
+    {
+        self.text.as_str()
+    }
+
+    /// An equal name.
+    pub fn copy(&self, alloc: Global) -> Result<Identifier, AllocError>
+        ensures { IfOk result (λ n. n ≡ self.now) }
+    {
+        Identifier::from_text(alloc, self.as_str())
+    }
+}

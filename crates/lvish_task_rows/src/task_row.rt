@@ -1,0 +1,22 @@
+use crate::answer::answer_of;
+use lvish_script::read_script;
+use std::alloc::{AllocError, Global};
+
+/// A worked example: a script, a question about it, and the answer that is expected.
+#[derive(Drop)]
+pub struct TaskRow {
+    pub name: String,
+    pub script: String,
+    pub question: String,
+    pub expected: String,
+}
+
+impl TaskRow {
+    /// The answer to the row's question.
+    pub fn answer(&self, alloc: Global) -> Result<String, AllocError> {
+        match read_script(alloc, self.script.as_bytes()) {
+            Ok(script) => answer_of(alloc, &script, self.question.as_str()),
+            Err(fault) => format!(in alloc; "no script: {fault:?}"),
+        }
+    }
+}
