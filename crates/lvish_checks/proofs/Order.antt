@@ -6,7 +6,7 @@ use Rattle.std.proofs.lemmas.List.{append-nil}
 use Rattle.std.specs.Option.{option_map}
 use Rattle.lvish_checks.specs.declared.fault.Fault.TheVariants.{TooLong, NotAscii, BadLine, BadNumber, DoubleName, UnknownName, WrongKind, WrongCount, OpenBlock, Compatible, NoMain, TooMany}
 use Rattle.lvish_syntax.specs.Words.{Word}
-use Rattle.lvish_syntax.specs.Limits.{most_bytes}
+use Rattle.lvish_syntax.specs.declared.limits.TheConstants.{MOST_BYTES}
 use Rattle.lvish_checks.specs.declared.line.Line.{Line}
 use Rattle.lvish_checks.specs.declared.fault.Fault.{Fault}
 use Rattle.lvish_checks.specs.Checks.{Parts, Passes, checks, fails, on_whole, IsLowest, IsFirstOn, IsFirstFault, IsAccepted, IsVerdict}
@@ -45,7 +45,7 @@ pub all_passed : (p : Parts) → PassedTo p [] → IsAccepted p
 all_passed p s = subst (AllByRecursion (Passes p)) (sym (s.order ∙ append-nil s.passed)) s.earlier
 
 -- a text that isn't too long
-pub not_too_long : (p : Parts) → nat_lt most_bytes (length p.bytes) ≡ false → PassedTo p (NotAscii ∷ BadLine ∷ BadNumber ∷ DoubleName ∷ UnknownName ∷ WrongKind ∷ WrongCount ∷ OpenBlock ∷ Compatible ∷ NoMain ∷ TooMany ∷ [])
+pub not_too_long : (p : Parts) → nat_lt MOST_BYTES (length p.bytes) ≡ false → PassedTo p (NotAscii ∷ BadLine ∷ BadNumber ∷ DoubleName ∷ UnknownName ∷ WrongKind ∷ WrongCount ∷ OpenBlock ∷ Compatible ∷ NoMain ∷ TooMany ∷ [])
 not_too_long p short = record { passed = TooLong ∷ []; order = refl; earlier = (whole_passes _ short, tt) }
 
 pub accepted_by : (p : Parts) → Passes p TooLong → Passes p NotAscii → Passes p BadLine → Passes p BadNumber → Passes p DoubleName → Passes p UnknownName → Passes p WrongKind → Passes p WrongCount → Passes p OpenBlock → Passes p Compatible → Passes p NoMain → Passes p TooMany → IsAccepted p

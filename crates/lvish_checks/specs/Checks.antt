@@ -4,7 +4,7 @@ use Rattle.std.specs.Option.{option_map, option_map_or}
 use Rattle.std.specs.List.{list_any, list_all, flat_map, AllByRecursion}
 use Rattle.std.specs.Str.{bytes_eq}
 use Rattle.lvish_syntax.specs.Words.{Word}
-use Rattle.lvish_syntax.specs.Limits.{most_bytes, most}
+use Rattle.lvish_syntax.specs.declared.limits.TheConstants.{MOST_BYTES, MOST}
 use Rattle.lvish_syntax.specs.Name.{has_name, has_repeat, is_known}
 use Rattle.lvish_syntax.specs.Sound.{variable_names, pool_names, command_binds, is_put_sound, is_get_of_kind, is_get_apart, is_pool_of, is_value_known, is_threshold_known}
 use Rattle.lvish_syntax.specs.Version.{is_name_in, is_term_in, is_command_in, is_declaration_in}
@@ -236,12 +236,12 @@ mixes lines l = false
 
 -- whether as many blocks are open as may be, the procedure among them
 abbrev pub is_full : List Opener → Bool
-is_full opened = nat_le most (length opened)
+is_full opened = nat_le MOST (length opened)
 
 abbrev pub is_past_limit : List Line → Line → Bool
-is_past_limit before (Declare (Variable n k)) = nat_le most (count_by is_variable before)
-is_past_limit before (Declare (Pool p v)) = nat_le most (count_by is_pool before)
-is_past_limit before (Proc n xs) = nat_le most (count_by is_procedure before)
+is_past_limit before (Declare (Variable n k)) = nat_le MOST (count_by is_variable before)
+is_past_limit before (Declare (Pool p v)) = nat_le MOST (count_by is_pool before)
+is_past_limit before (Proc n xs) = nat_le MOST (count_by is_procedure before)
 is_past_limit before (If t) = is_full (open_after [] before)
 is_past_limit before (While t) = is_full (open_after [] before)
 is_past_limit before l = false
@@ -282,7 +282,7 @@ parts_of text = record { bytes = text; lines = lines_of text; words = map words_
 
 -- whether a check fails on a line of a text
 abbrev pub fails : Fault → Parts → ℕ → Bool
-fails TooLong p = on_whole (nat_lt most_bytes (length p.bytes))
+fails TooLong p = on_whole (nat_lt MOST_BYTES (length p.bytes))
 fails NotAscii p = on_line (λ k line. list_any is_foreign line) p.lines
 fails BadNumber p = on_line (λ k words. list_any is_bad_number words) p.words
 fails NoMain p = on_whole (not (list_any is_main p.said))

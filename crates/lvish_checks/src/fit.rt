@@ -5,10 +5,8 @@ ghost use Rattle.std.specs.List.{list_all};
 ghost use Rattle.std.specs.Ordering.{int_eq};
 ghost use Rattle.lvish_syntax.specs.Sound.{kind_at, side_kind, is_level, are_of_kind, are_one, is_of_kind, is_apart, is_total_threshold, is_whole_read, is_read_of};
 
+use lvish_lattice::HIGHEST_LEVEL;
 use lvish_syntax::{SimpleKind, Term, Threshold, VariableKind};
-
-/// The highest state of a counter.
-const HIGHEST: i64 = 1000;
 
 /// The kind of a variable, where it is a cell, a set or a counter.
 pub fn kind_of_whole(kind: VariableKind) -> Option<SimpleKind>
@@ -47,7 +45,7 @@ pub fn kind_at(kind: VariableKind, place: &Term) -> Option<SimpleKind>
 fn is_level(number: i64) -> bool
     ensures { result ≡ is_level number }
 {
-    number >= 0 && number <= HIGHEST
+    number >= 0 && number <= i64::from(HIGHEST_LEVEL)
 }
 
 fn are_levels(numbers: &[i64]) -> bool

@@ -2,7 +2,6 @@ ghost use Rattle.std.specs.Prelude.{◌≡◌, ℕ, List, length, map, nat_lt, f
 ghost use Rattle.std.specs.List.{list_any};
 ghost use Rattle.std.specs.Option.{option_map};
 ghost use Rattle.lvish_syntax.specs.Words.{Word};
-ghost use Rattle.lvish_syntax.specs.Limits.{most_bytes};
 ghost use Rattle.lvish_checks.specs.Form.{is_bad_number};
 ghost use Rattle.lvish_checks.specs.Checks.{on_line, IsFirstOn, IsVerdict};
 
@@ -13,6 +12,7 @@ use crate::check::{
 use crate::fault::Fault;
 use crate::line::Line;
 use crate::script_fault::ScriptFault;
+use lvish_syntax::MOST_BYTES;
 use std::alloc::{AllocError, Global};
 
 fn at(fault: Fault, line: usize) -> Option<ScriptFault>
@@ -35,7 +35,7 @@ pub fn first_fault(
     bad_number: Option<usize>,
     said: &[Line],
 ) -> Result<Option<ScriptFault>, AllocError>
-    ensures { IfOk result (λ found. (bytes : List ℕ) (words : List (List Word)) → nat_lt most_bytes (length bytes) ≡ false → IsFirstOn (on_line (λ k ws. list_any is_bad_number ws) words) bad_number → IsVerdict (record { bytes = bytes; lines = map (λ w. w.now) lines.now; words = words; said = said.now }) found) }
+    ensures { IfOk result (λ found. (bytes : List ℕ) (words : List (List Word)) → nat_lt MOST_BYTES (length bytes) ≡ false → IsFirstOn (on_line (λ k ws. list_any is_bad_number ws) words) bad_number → IsVerdict (record { bytes = bytes; lines = map (λ w. w.now) lines.now; words = words; said = said.now }) found) }
 {
     if let Some(line) = first_not_ascii(lines) {
         return Ok(at(Fault::NotAscii, line));

@@ -30,6 +30,7 @@ use Rattle.lvish_code.specs.Sound.{IsRoutineSound, IsCodeSound, is_operand_sound
 use Rattle.lvish_code.specs.laws.Lists.{list_all_get, none_get, place_below}
 use Rattle.lvish_code.specs.laws.Names.{text_is, taking, parameters_le, has_local, kind_found, count_kinds, count_pools, pool_found}
 use Rattle.lvish_code.proofs.Landing.{routine_lands}
+use Rattle.lvish_syntax.specs.declared.limits.TheConstants.{MOST}
 
 -- ---- kinds
 
@@ -302,9 +303,9 @@ module _ (script : Script) where
 
   pub code_sound : IsCodeSound K Q (name_number (procedure_names ps) (codes "main")) rs
   code_sound = record {
-    few_variables = subst (λ m. m ≤ 64) (sym (count_kinds ds)) script.sound.few_variables;
-    few_pools = subst (λ m. m ≤ 64) (sym (count_pools V ds)) script.sound.few_pools;
-    few_routines = subst (λ m. m ≤ 64) (sym (length-map ps (λ p. routine_of (names_of script p) p))) script.sound.few_procedures;
+    few_variables = subst (λ m. m ≤ MOST) (sym (count_kinds ds)) script.sound.few_variables;
+    few_pools = subst (λ m. m ≤ MOST) (sym (count_pools V ds)) script.sound.few_pools;
+    few_routines = subst (λ m. m ≤ MOST) (sym (length-map ps (λ p. routine_of (names_of script p) p))) script.sound.few_procedures;
     pools_known = pools_there ds script.sound.pools_known;
     main_takes = takes_there (codes "main") 0 script.sound.main_stands;
     routines_sound = all_there;

@@ -7,6 +7,7 @@ use Rattle.lvish_code.specs.declared.operand.Operand.TheVariants.{Local, Number}
 use Rattle.lvish_code.specs.declared.expression.Expression.TheVariants.{Same, Combined}
 use Rattle.lvish_code.specs.declared.target.Target.TheVariants.{Whole, Entry, Side, Amount, Total}
 use Rattle.lvish_code.specs.declared.wanted.Wanted.TheVariants.{Any, In, At}
+use Rattle.lvish_syntax.specs.declared.limits.TheConstants.{MOST}
 
 -- whether there is a routine, and it takes this many values
 abbrev pub takes_count : ℕ → Option Routine → Bool
@@ -117,9 +118,9 @@ pub record IsRoutineSound (kinds : List VariableKind) (pools : List ℕ) (rs : L
 
 -- what holds of each code
 pub record IsCodeSound (kinds : List VariableKind) (pools : List ℕ) (main : ℕ) (rs : List Routine) : Type 0 where
-  pub few_variables : length kinds ≤ 64
-  pub few_pools : length pools ≤ 64
-  pub few_routines : length rs ≤ 64
+  pub few_variables : length kinds ≤ MOST
+  pub few_pools : length pools ≤ MOST
+  pub few_routines : length rs ≤ MOST
   pub pools_known : list_all (λ v. nat_lt v (length kinds)) pools ≡ true
   pub main_takes : takes_count 0 (slice_get rs main) ≡ true
   pub routines_sound : (k : ℕ) (r : Routine) → slice_get rs k ≡ Some r → IsRoutineSound kinds pools rs r

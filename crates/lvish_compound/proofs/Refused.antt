@@ -11,14 +11,16 @@ use Rattle.lvish_compound.specs.declared.place.Place.TheVariants as place
 use Rattle.lvish_compound.specs.Numbers.{max_by, is_level, are_levels, is_total, are_totals}
 use Rattle.lvish_compound.specs.Places.{test_fits, fits_kind, is_side}
 use Rattle.lvish_compound.specs.Refusals.{Mentions, IsBeyond, IsNoSide, IsBeyondCounters, IsBeyondTotal, IsBeyondTotals, IsReadRefused}
+use Rattle.lvish_lattice.specs.declared.limits.TheConstants.{HIGHEST_LEVEL}
+use Rattle.lvish_compound.specs.declared.limits.TheConstants.{HIGHEST_TOTAL}
 
-held_by : (n : ℕ) (t : Bool) (h : nat_le n 1000 ≡ t) → is_some (max_by n t h) ≡ t
+held_by : (n : ℕ) (t : Bool) (h : nat_le n HIGHEST_LEVEL ≡ t) → is_some (max_by n t h) ≡ t
 held_by n true h = refl
 held_by n false h = refl
 
 beyond : (n : ℤ) → (is_level n ≡ false) ↔ IsBeyond n
-beyond (pos n) = let same : is_level (pos n) ≡ nat_le n 1000 = held_by n (nat_le n 1000) refl in
-    (λ h. let few : nat_le n 1000 ≡ false = sym same ∙ h in inr (grind (arith, few)), λ w. same ∙ ⊎_elim (λ e. grind (arith, e)) (λ e. grind (arith, e)) w)
+beyond (pos n) = let same : is_level (pos n) ≡ nat_le n HIGHEST_LEVEL = held_by n (nat_le n HIGHEST_LEVEL) refl in
+    (λ h. let few : nat_le n HIGHEST_LEVEL ≡ false = sym same ∙ h in inr (grind (arith, few)), λ w. same ∙ ⊎_elim (λ e. grind (arith, e)) (λ e. grind (arith, e)) w)
 beyond (negsuc n) = (λ _. inl (omega arith), λ _. refl)
 
 not_true : (b : Bool) → b ≡ true → b ≡ false → ⊥
@@ -52,7 +54,7 @@ tests_beyond (In xs) = by_list is_level IsBeyond beyond xs
 tests_beyond (At m) = by_one is_level IsBeyond beyond m
 
 past_total : (n : ℤ) → (is_total n ≡ false) ↔ IsBeyondTotal n
-past_total (pos n) = (λ h. let few : nat_le n 10000 ≡ false = h in inr (grind (arith, few)), λ w. ⊎_elim (λ e. grind (arith, e)) (λ e. grind (arith, e)) w)
+past_total (pos n) = (λ h. let few : nat_le n HIGHEST_TOTAL ≡ false = h in inr (grind (arith, few)), λ w. ⊎_elim (λ e. grind (arith, e)) (λ e. grind (arith, e)) w)
 past_total (negsuc n) = (λ _. inl (omega arith), λ _. refl)
 
 totals_beyond : (t : Test) → (are_totals t ≡ false) ↔ IsBeyondTotals t

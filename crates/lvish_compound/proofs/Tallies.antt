@@ -11,6 +11,7 @@ use Rattle.lvish_compound.specs.laws.AmountLaws.{gain_within}
 use Rattle.lvish_compound.specs.MapOf as map_of
 use Rattle.lvish_compound.specs.Tally.{Amounts, entries_of, tally_of, joined, events_of}
 use Rattle.lvish_compound.specs.laws.TallyLaws.{same_tally, total_of_join, past_bound, made_there, joined_tally}
+use Rattle.lvish_compound.specs.declared.limits.TheConstants.{HIGHEST_TOTAL}
 
 -- a walk over the entries that are put
 pub gained_more : (es fs ks ms : List (ℤ × MaxCounter)) (f : ℤ × MaxCounter) (g : ℕ) → g + gain es ks ≡ gain es fs → ks ≡ f ∷ ms → (g + gains es f) + gain es ms ≡ gain es fs
@@ -29,7 +30,7 @@ sum s t = s.total + gain (entries_of s) (entries_of t)
 pub sum_of_join : (s t : Tally) (c : Amounts) → map_of.joined s.amounts t.amounts ≡ Some c → sum s t ≡ total_of c.entries
 sum_of_join s t c h = omega (arith, total_of_join s.amounts t.amounts c h, s.counted)
 
-pub past_is_top : (s t : Tally) → 10000 < sum s t → joined s t ≡ None
+pub past_is_top : (s t : Tally) → HIGHEST_TOTAL < sum s t → joined s t ≡ None
 past_is_top s t l = by_join (map_of.joined s.amounts t.amounts) refl
   where
     by_join : (o : Option Amounts) → map_of.joined s.amounts t.amounts ≡ o → option_and_then tally_of o ≡ None
@@ -58,7 +59,7 @@ pub merged : {Refused : Type 0} (s t n : Tally) (q : Result Bool Refused) → If
 merged s t n q h = IfOk-weaker q _ _ (λ b w. merged_one s t n b w.0 w.1) h
 
 -- what a put within the bound brings
-pub tally_fresh : (eq : ℤ × ℤ → ℤ × ℤ → Bool) (s t : Tally) → sum s t ≤ 10000 → fresh_of map_of.joined eq map_of.map_events_of s.amounts t.amounts ≡ fresh_of joined eq events_of s t
+pub tally_fresh : (eq : ℤ × ℤ → ℤ × ℤ → Bool) (s t : Tally) → sum s t ≤ HIGHEST_TOTAL → fresh_of map_of.joined eq map_of.map_events_of s.amounts t.amounts ≡ fresh_of joined eq events_of s t
 tally_fresh eq s t l = by_join (map_of.joined s.amounts t.amounts) refl
   where
     by_join : (o : Option Amounts) → map_of.joined s.amounts t.amounts ≡ o → events_beyond eq map_of.map_events_of s.amounts o ≡ events_beyond eq events_of s (option_and_then tally_of o)
@@ -67,5 +68,5 @@ tally_fresh eq s t l = by_join (map_of.joined s.amounts t.amounts) refl
         let m : (u : Tally) × (tally_of c ≡ Some u) × (u.amounts ≡ c) = made_there c (omega (arith, l, sum_of_join s t c e)) in
         ap (λ (v : Amounts). events_beyond eq map_of.map_events_of s.amounts (Some v)) (sym m.2) ∙ ap (events_beyond eq events_of s) (sym m.1)
 
-pub past_fresh : (eq : ℤ × ℤ → ℤ × ℤ → Bool) (s t : Tally) → 10000 < sum s t → [] ≡ fresh_of joined eq events_of s t
+pub past_fresh : (eq : ℤ × ℤ → ℤ × ℤ → Bool) (s t : Tally) → HIGHEST_TOTAL < sum s t → [] ≡ fresh_of joined eq events_of s t
 past_fresh eq s t l = ap (events_beyond eq events_of s) (sym (past_is_top s t l))

@@ -25,6 +25,7 @@ use Rattle.lvish_compound.specs.Keyed.{single_entry}
 use Rattle.lvish_compound.specs.Tally.{single, entries_of, amounts_of, amount_test}
 use Rattle.lvish_compound.specs.laws.TallyLaws.{same_tally}
 use Rattle.lvish_compound.specs.declared.tally.Tally.{Tally}
+use Rattle.lvish_lattice.specs.declared.limits.TheConstants.{HIGHEST_LEVEL}
 
 first_of : (x : ℤ) (xs : List ℤ) → Contains (x ∷ xs) x
 first_of x xs = (0, omega arith, refl)
@@ -49,13 +50,13 @@ one_item n (x ∷ y ∷ ys) s h =
 pub set_is : (s : HeldState Set) (n m : ℤ) → m ≡ n → ((x : ℤ) → Contains (grow_set.items_of s) x ↔ Contains (m ∷ []) x) → s ≡ singleton n
 set_is s n m e h = grow_set.same_set s (singleton m) (one_item m (grow_set.items_of s) s.ascending h) ∙ ap singleton e
 
-max_there : (n : ℕ) (t : Bool) (e : nat_le n 1000 ≡ t) (c : MaxCounter) → c.value ≡ n → t ≡ true → max_by n t e ≡ Some c
+max_there : (n : ℕ) (t : Bool) (e : nat_le n HIGHEST_LEVEL ≡ t) (c : MaxCounter) → c.value ≡ n → t ≡ true → max_by n t e ≡ Some c
 max_there n true e c v t = ap (λ (x : MaxCounter). Some x) (same_counter _ c (sym v))
 max_there n false e c v t = absurd cc
 
 -- each counter is the one of its number
 pub max_of_number : (c : MaxCounter) → max_of (number_of c) ≡ Some c
-max_of_number c = max_there c.value (nat_le c.value 1000) refl c refl (le-leb c.value 1000 c.bounded)
+max_of_number c = max_there c.value (nat_le c.value HIGHEST_LEVEL) refl c refl (le-leb c.value HIGHEST_LEVEL c.bounded)
 
 pub counter_is : (n : ℤ) (c : MaxCounter) (x : _) → number_of c ≡ n → state_in Max x ≡ c → counter n ≡ Some (Part (Max x))
 counter_is n c x e f = ap counter (sym e) ∙ ap (option_map (λ d. Part (held Max Empty d))) (max_of_number c ∙ ap (λ (d : MaxCounter). Some d) (sym f)) ∙ ap (λ s. Some (Part s)) (held_above Max Empty x)

@@ -8,14 +8,16 @@ use Rattle.lvish_compound.specs.declared.number_test.Test.{Test}
 use Rattle.lvish_compound.specs.declared.number_test.Test.TheVariants.{Any, In, At}
 use borrow.Author.Tests.{leb-true}
 use Rattle.lvish_lattice.specs.declared.max_counter.MaxCounter.{MaxCounter}
+use Rattle.lvish_lattice.specs.declared.limits.TheConstants.{HIGHEST_LEVEL}
+use Rattle.lvish_compound.specs.declared.limits.TheConstants.{HIGHEST_TOTAL}
 
-abbrev pub max_by : (n : ℕ) (t : Bool) → nat_le n 1000 ≡ t → Option MaxCounter
-max_by n true h = Some (record { value = n; bounded = leb-true n 1000 h })
+abbrev pub max_by : (n : ℕ) (t : Bool) → nat_le n HIGHEST_LEVEL ≡ t → Option MaxCounter
+max_by n true h = Some (record { value = n; bounded = leb-true n HIGHEST_LEVEL h })
 max_by n false h = None
 
 -- the counter that holds a number, where it is from 0 to 1000
 abbrev pub max_of : ℤ → Option MaxCounter
-max_of (pos n) = max_by n (nat_le n 1000) refl
+max_of (pos n) = max_by n (nat_le n HIGHEST_LEVEL) refl
 max_of (negsuc n) = None
 
 -- whether a test waits for a number
@@ -39,7 +41,7 @@ are_levels t = all_pass is_level t
 
 -- whether a tally can have this total
 abbrev pub is_total : ℤ → Bool
-is_total (pos n) = nat_le n 10000
+is_total (pos n) = nat_le n HIGHEST_TOTAL
 is_total (negsuc n) = false
 
 -- whether a tally can have each of the numbers as its total

@@ -7,10 +7,12 @@ use Rattle.lvish_compound.specs.declared.number_test.Test.{Test}
 use Rattle.lvish_compound.specs.declared.number_test.Test.TheVariants as test
 use Rattle.lvish_compound.specs.declared.place.Place.{Place}
 use Rattle.lvish_compound.specs.declared.place.Place.TheVariants as place
+use Rattle.lvish_lattice.specs.declared.limits.TheConstants.{HIGHEST_LEVEL}
+use Rattle.lvish_compound.specs.declared.limits.TheConstants.{HIGHEST_TOTAL}
 
 -- a number that no counter holds
 abbrev pub IsBeyond : ℤ → Type 0
-IsBeyond n = (n <ℤ pos 0) ⊎ (pos 1000 <ℤ n)
+IsBeyond n = (n <ℤ pos 0) ⊎ (pos HIGHEST_LEVEL <ℤ n)
 
 -- a number that no side has
 abbrev pub IsNoSide : ℕ → Type 0
@@ -35,7 +37,7 @@ IsBeyondCounters t = (n : ℤ) × Mentions t n × IsBeyond n
 
 -- a number that is the total of no tally
 abbrev pub IsBeyondTotal : ℤ → Type 0
-IsBeyondTotal n = (n <ℤ pos 0) ⊎ (pos 10000 <ℤ n)
+IsBeyondTotal n = (n <ℤ pos 0) ⊎ (pos HIGHEST_TOTAL <ℤ n)
 
 -- a test that mentions such a number
 abbrev pub IsBeyondTotals : Test → Type 0

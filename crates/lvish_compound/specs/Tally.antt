@@ -11,6 +11,7 @@ use Rattle.lvish_compound.specs.Amounts as amounts
 use Rattle.lvish_compound.specs.MapOf as map_of
 use Rattle.lvish_compound.specs.MapReads.{holding}
 use Rattle.lvish_lattice.specs.MaxCounter.{zero}
+use Rattle.lvish_compound.specs.declared.limits.TheConstants.{HIGHEST_TOTAL}
 
 -- the type of a function's values
 abbrev Codomain : {A B : Type 0} → (A → B) → Type 0
@@ -36,13 +37,13 @@ amount t k = map_of.at t.amounts k
 abbrev pub total : Tally → ℕ
 total t = amounts.total_of (entries_of t)
 
-abbrev pub tally_by : (m : Amounts) (t : Bool) → nat_le (amounts.total_of m.entries) 10000 ≡ t → Option Tally
-tally_by m true h = Some (record { amounts = m; total = amounts.total_of m.entries; counted = refl; bounded = leb-true (amounts.total_of m.entries) 10000 h })
+abbrev pub tally_by : (m : Amounts) (t : Bool) → nat_le (amounts.total_of m.entries) HIGHEST_TOTAL ≡ t → Option Tally
+tally_by m true h = Some (record { amounts = m; total = amounts.total_of m.entries; counted = refl; bounded = leb-true (amounts.total_of m.entries) HIGHEST_TOTAL h })
 tally_by m false h = None
 
 -- the tally of these amounts, where their total is at most 10,000
 abbrev pub tally_of : Amounts → Option Tally
-tally_of m = tally_by m (nat_le (amounts.total_of m.entries) 10000) refl
+tally_of m = tally_by m (nat_le (amounts.total_of m.entries) HIGHEST_TOTAL) refl
 
 -- no entries
 abbrev pub empty : Tally
@@ -78,7 +79,7 @@ greater_level s t k = max (amounts.level (amount s k)) (amounts.level (amount t 
 
 -- at some keys, each listed once, the greater amounts add up to more than 10,000
 abbrev pub IsPastTotal : Tally → Tally → Type 0
-IsPastTotal s t = (ks : List ℤ) × IsStrictlySortedBy int_cmp ks × (10000 < sum_by (greater_level s t) ks)
+IsPastTotal s t = (ks : List ℤ) × IsStrictlySortedBy int_cmp ks × (HIGHEST_TOTAL < sum_by (greater_level s t) ks)
 
 -- there are as many events as the total says
 abbrev pub IsTotalOfEvents : (Tally → List (ℤ × ℤ)) → Type 0

@@ -5,7 +5,7 @@ use thiserror::Error;
 /// Why there is no tally with an amount.
 #[derive(Clone, Copy, Debug, PartialEq, Eq, Error)]
 pub enum AmountFault {
-    /// The amount is outside 0 to 1000.
+    /// The amount is outside 0 to `HIGHEST_LEVEL`.
     #[error("an amount is from 0 to 1000")]
     Range,
     /// A growth was refused.

@@ -12,7 +12,7 @@ use crate::pair::Pair;
 use crate::part::Part;
 use crate::sides::Sides;
 use crate::tally::Tally;
-use lvish_lattice::{Flat, GrowSet, Lattice, MaxCounter, Range};
+use lvish_lattice::{Flat, GrowSet, HIGHEST_LEVEL, Lattice, MaxCounter, Range};
 use std::alloc::{AllocError, Global};
 use thiserror::Error;
 
@@ -52,11 +52,11 @@ impl Any {
         Ok(Any::Part(Part::of_set(alloc, set)))
     }
 
-    /// The counter that holds the number, where it is from 0 to 1000; at 0 it is empty.
+    /// The counter that holds the number, where it is from 0 to `HIGHEST_LEVEL`; at 0 it is empty.
     pub fn counter(number: i64) -> Result<Any, Range>
         ensures ok { IfOk result (λ s. counter number ≡ Some s) }
         ensures range { IfErr result (λ _. counter number ≡ None) }
-        ensures refused { IsErr result ↔ ((number <ℤ pos 0) ⊎ (pos 1000 <ℤ number)) }
+        ensures refused { IsErr result ↔ ((number <ℤ pos 0) ⊎ (pos HIGHEST_LEVEL <ℤ number)) }
     {
         let max = MaxCounter::new(number)?;
         if number == 0 {
@@ -73,7 +73,7 @@ impl Any {
         Ok(Any::of_map(alloc, map))
     }
 
-    /// The tally in which the key has the amount, where that is from 0 to 1000; at 0 it is empty.
+    /// The tally in which the key has the amount, where that is from 0 to `HIGHEST_LEVEL`; at 0 it is empty.
     pub fn amount(alloc: Global, key: i64, number: i64) -> Result<Any, AmountFault>
         ensures ok { IfOk result (λ s. amount key number ≡ Some s) }
         ensures why { IfErr result (λ f. (f ≡ fault.Range) ↔ IsBeyond number) }

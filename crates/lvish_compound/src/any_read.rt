@@ -24,8 +24,8 @@ impl AnyRead {
 
     /// The read of a place by a test.
     ///
-    /// Refused where a number of a counter or an amount is outside 0 to 1000, or a total outside 0
-    /// to 10,000, and where a side isn't 1 or 2 or is of another kind than cell, set or max.
+    /// Refused where a number of a counter or an amount is outside 0 to `HIGHEST_LEVEL`, or a
+    /// total outside 0 to `HIGHEST_TOTAL`, and where a side isn't 1 or 2 or is of another kind than cell, set or max.
     pub fn new(place: Place, test: Test) -> Result<AnyRead, Range>
         ensures place { IfOk result (λ r. place_of r ≡ place) }
         ensures test { IfOk result (λ r. test_of r ≡ test) }

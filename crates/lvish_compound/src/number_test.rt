@@ -6,7 +6,8 @@ ghost use Rattle.lvish_lattice.specs.declared.flat.Flat.TheVariants.{Value};
 ghost use Rattle.lvish_lattice.specs.GrowSet.{items_of};
 ghost use Rattle.lvish_compound.specs.Numbers.{is_level, are_levels, is_total, are_totals, cell_answer, first_that, is_reached, HasOne};
 
-use lvish_lattice::{GrowSet, Items, Plain};
+use crate::limits::HIGHEST_TOTAL;
+use lvish_lattice::{GrowSet, HIGHEST_LEVEL, Items, Plain};
 
 /// Which numbers are waited for: any, those of a list, or one.
 ///
@@ -23,14 +24,14 @@ pub enum Test {
 fn is_level(number: i64) -> bool
     ensures { result ≡ is_level number }
 {
-    0 <= number && number <= 1000
+    0 <= number && number <= i64::from(HIGHEST_LEVEL)
 }
 
 /// Whether a tally can have this total.
 fn is_total(number: i64) -> bool
     ensures { result ≡ is_total number }
 {
-    0 <= number && number <= 10_000
+    0 <= number && number <= i64::from(HIGHEST_TOTAL)
 }
 
 /// Whether a counter at this level has reached the number.

@@ -1,17 +1,19 @@
 ghost use Rattle.std.specs.Prelude.{◌≡◌, ◌≤◌, IfOk, pos, map, true};
 ghost use Rattle.std.specs.List.Sorted.{IsStrictlySortedBy};
 ghost use Rattle.std.specs.Ordering.{int_cmp};
+ghost use Rattle.lvish_compound.specs.declared.limits.TheConstants.{HIGHEST_TOTAL};
 ghost use Rattle.lvish_compound.specs.Amounts.{total_of, level, gain};
 ghost use Rattle.lvish_compound.specs.Keyed.{key, has_no, single_entry};
 ghost use Rattle.lvish_lattice.specs.MaxCounter.{zero};
 ghost use Rattle.lvish_compound.specs.MapOf as map_of;
 
+use crate::limits::HIGHEST_TOTAL;
 use crate::map_of::MapOf;
 use lvish_lattice::{Lattice, MaxCounter};
 use std::alloc::{AllocError, Global};
 use std::collections::btree_map::Iter;
 
-/// A map from keys to amounts that only grows, and whose amounts add up to at most 10,000.
+/// A map from keys to amounts that only grows, and whose amounts add up to at most `HIGHEST_TOTAL`.
 ///
 /// No key has the amount 0. The total is kept beside the amounts, and grows with them.
 #[derive(Debug, Drop)]
@@ -19,7 +21,7 @@ pub struct Tally {
     amounts: MapOf<i64, MaxCounter>,
     total: u16,
     ghost counted: { total ≡ total_of (map_of.entries_of amounts) },
-    ghost bounded: { total ≤ 10000 },
+    ghost bounded: { total ≤ HIGHEST_TOTAL },
 }
 
 /// The number of an amount.
@@ -72,7 +74,7 @@ impl Tally {
     /// How much the total grows where the other is joined to this.
     fn gain(&self, put: &Tally) -> u16
         ensures same { result ≡ gain (entries_of self.now) (entries_of put.now) }
-        ensures within { result ≤ 10000 }
+        ensures within { result ≤ HIGHEST_TOTAL }
     {
         let mut gained: u16 = 0;
         for (key, amount) in put.entries() {
@@ -122,7 +124,7 @@ impl Lattice for Tally {
 
     fn join(&self, alloc: Global, other: &Tally) -> Result<Option<Tally>, AllocError> {
         let total = self.total + self.gain(other);
-        if total > 10_000 {
+        if total > HIGHEST_TOTAL {
             return Ok(None);
         }
         match self.amounts.join(alloc, &other.amounts)? {
@@ -140,7 +142,7 @@ impl Lattice for Tally {
     }
 
     fn fresh(alloc: Global, old: &Tally, put: &Tally) -> Result<Vec<(i64, i64)>, AllocError> {
-        if old.total + old.gain(put) > 10_000 {
+        if old.total + old.gain(put) > HIGHEST_TOTAL {
             return Ok(Vec::new(alloc));
         }
         MapOf::fresh(alloc, &old.amounts, &put.amounts)
@@ -155,7 +157,7 @@ impl Lattice for Tally {
 
     fn merge(&mut self, alloc: Global, put: &Tally) -> Result<bool, AllocError> {
         let total = self.total + self.gain(put);
-        if total > 10_000 {
+        if total > HIGHEST_TOTAL {
             return Ok(false);
         }
         let merged = self.amounts.merge(alloc, &put.amounts)?;

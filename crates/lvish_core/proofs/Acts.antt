@@ -1,9 +1,9 @@
 -- What each act of a task does, over any machine.
-use Rattle.std.proofs.Common.{◌≡◌, ◌≤◌, ◌<◌, ◌++◌, ℕ, suc, Bool, true, false, not, ◌&&◌, if◌then◌else◌, nat_eq, List, [], Option, Some, None, is_some, slice_get, unwrap_or, option_map, refl, sym, ap, ◌∙◌, arith, length, length-set, append-nil}
+use Rattle.std.proofs.Common.{◌≡◌, ◌≤◌, ◌<◌, ◌++◌, ℕ, suc, Bool, true, false, not, ◌&&◌, if◌then◌else◌, List, [], Option, Some, None, is_some, slice_get, unwrap_or, option_map, refl, sym, ap, ◌∙◌, arith, length, length-set, append-nil}
 use mathlib.Core.Path.{fun_ext}
 use Rattle.std.proofs.lemmas.Bool.{false_from_ne_true, false≢true}
 use Rattle.lvish_lattice.specs.Lattice.{fresh_of}
-use Rattle.lvish_calculus.specs.declared.request.Request.TheVariants.{Put, Get, Fork, Freeze, Pause, End}
+use Rattle.lvish_calculus.specs.declared.request.Request.TheVariants.{Put, Get, Fork, Freeze, End}
 use Rattle.lvish_calculus.specs.declared.request.Reply.{Reply}
 use Rattle.lvish_calculus.specs.declared.request.Reply.TheVariants.{Done, Answer, Content}
 use Rattle.lvish_calculus.specs.declared.request.ErrorKind.TheVariants.{Frozen, Deep}
@@ -15,7 +15,7 @@ use Rattle.lvish_calculus.proofs.Names.{nat_eq-refl, nat_eq-true}
 use Rattle.lvish_variable.specs.declared.entry.Entry.{Entry}
 use Rattle.lvish_variable.specs.Variable.{VariableView as Variable, entries}
 use Rattle.lvish_handlers.specs.Handlers.{HandlersView as Handlers}
-use Rattle.lvish_picture.specs.Picture.{Table, task_of}
+use Rattle.lvish_picture.specs.Picture.{Table}
 use Rattle.lvish_picture.specs.Steps.{IsPutStep, IsFreezeStep, IsPlainStep}
 use Rattle.lvish_picture.specs.Laws.{ActKept, NewTaskIsNew}
 use Rattle.lvish_picture.specs.Counts.{ActCounted, PlainCounted, StartIsFollowed, EndIsFollowed, RestIsFollowed}

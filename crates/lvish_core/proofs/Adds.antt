@@ -6,7 +6,7 @@ use Rattle.lvish_calculus.specs.declared.request.Reply.TheVariants.{Done}
 use Rattle.lvish_calculus.specs.declared.request.ErrorKind.TheVariants.{Late, Deep}
 use Rattle.lvish_calculus.specs.declared.label.Label.TheVariants.{Act}
 use Rattle.lvish_calculus.specs.Machine.{Machine, IsLawful}
-use Rattle.lvish_calculus.specs.Calculus.{Post, Task, Live, Change, Changes, Fails, State, effect, add_effect}
+use Rattle.lvish_calculus.specs.Calculus.{Post, Task, Live, Change, Changes, Fails, effect, add_effect}
 use Rattle.lvish_names.specs.Names.{Name, Handler, is_deep, same_handler}
 use Rattle.lvish_variable.specs.Variable.{VariableView as Variable}
 use Rattle.lvish_handlers.specs.declared.held.Held.{Held}

@@ -1,5 +1,5 @@
 -- A core at the start, over any machine.
-use Rattle.std.proofs.Common.{◌≡◌, inl, inr, ◌<◌, ℕ, zero, suc, false, List, [], ◌∷◌, length, replicate, slice_get, Some, None, option_map, refl, sym, ap, subst, ◌∙◌, arith}
+use Rattle.std.proofs.Common.{◌≡◌, ◌<◌, ℕ, zero, suc, false, List, [], length, replicate, slice_get, Some, None, option_map, refl, sym, ap, subst, ◌∙◌, arith}
 use Rattle.std.proofs.Math.ListN.{length-replicate}
 use Rattle.std.proofs.lemmas.Option.{same_Some}
 use Rattle.lvish_calculus.specs.Machine.{Machine, IsLawful}

@@ -1,5 +1,5 @@
 -- What comes next for a handler, over any table.
-use Rattle.std.proofs.Common.{◌≡◌, ◌↔◌, inl, inr, suc, Bool, true, List, ◌∷◌, [], Option, Some, None, slice_get, refl, sym, ap, ◌∙◌, option_and_then, if◌then◌else◌, arith}
+use Rattle.std.proofs.Common.{◌≡◌, ◌↔◌, inl, inr, suc, Bool, true, List, ◌∷◌, [], Some, slice_get, sym, ap, ◌∙◌, if◌then◌else◌, arith}
 use Rattle.std.specs.List.{Contains}
 use Rattle.std.proofs.lemmas.Option.{option_and_then_some}
 use Rattle.std.proofs.lemmas.Bool.{cases_Bool}

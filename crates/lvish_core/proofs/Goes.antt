@@ -6,7 +6,7 @@ use Rattle.lvish_calculus.specs.declared.label.Label.{Label}
 use Rattle.lvish_calculus.specs.declared.label.Label.TheVariants.{Act}
 use Rattle.lvish_calculus.specs.declared.request.Request.{Request}
 use Rattle.lvish_calculus.specs.Machine.{Machine, IsLawful}
-use Rattle.lvish_calculus.specs.Calculus.{Task, State, Configuration, Running, IsLive, Change, Changes, CanStep, IsRun, after, changed, next, effect, request_effect, task_effect, start, with_task}
+use Rattle.lvish_calculus.specs.Calculus.{Task, State, Configuration, IsLive, Change, Changes, CanStep, after, changed, next, effect, request_effect, task_effect, with_task}
 use Rattle.lvish_names.specs.Names.{Name, Handler}
 use Rattle.lvish_calculus.specs.Live.{HasLive}
 use Rattle.lvish_variable.specs.declared.entry.Entry.{Entry}
@@ -18,7 +18,7 @@ use Rattle.lvish_picture.specs.Counts.{CountsRunning}
 use Rattle.lvish_core.specs.declared.handler_place.HandlerPlace.{HandlerPlace}
 use Rattle.lvish_core.specs.declared.touched.Touched.{Touched}
 use Rattle.lvish_core.specs.declared.fault.Stepped.TheVariants.{Done as DoneStep}
-use Rattle.lvish_core.specs.Core.{CoreView, state, at_fault, picture, IsRunTo, IsStep, HandsNext, says}
+use Rattle.lvish_core.specs.Core.{CoreView, state, IsStep, HandsNext, says}
 use Rattle.lvish_core.specs.Changes.{brings, put_brings, moved_by, moved_in, task_touches, touched_by}
 use Rattle.lvish_core.specs.Places.{IsIndex}
 use Rattle.lvish_core.specs.Tasks.{Sets}

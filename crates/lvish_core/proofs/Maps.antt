@@ -1,7 +1,7 @@
 -- Maps by name, as the lists that they stand for.
 use Rattle.std.proofs.Common.{◌≡◌, Bool, true, false, cond, if◌then◌else◌, List, [], ◌∷◌, Option, Some, None, refl, sym, ap, ◌∙◌, Ordering}
 use Rattle.std.specs.Map.{lookup, keys_of}
-use Rattle.lvish_calculus.specs.Calculus.{Task, Absent}
+use Rattle.lvish_calculus.specs.Calculus.{Absent}
 use Rattle.lvish_names.specs.Names.{Name, same_name, Handler, same_handler}
 use Rattle.lvish_core.specs.declared.stage.Stage.{Stage}
 use Rattle.lvish_picture.specs.Picture.{task_of}

@@ -14,7 +14,6 @@ use Rattle.lvish_names.specs.NameOrder.{name_cmp}
 use Rattle.std.proofs.lemmas.List.Sorted.{IsPermutation-sym, IsPermutation-map, Contains-permutation, sorted_far}
 use Rattle.std.proofs.lemmas.Map.Views.{Contains-from_lookup, lookup-from_Contains}
 use Rattle.lvish_names.specs.Names.{Name, same_name}
-use Rattle.lvish_picture.specs.Picture.{task_of}
 use Rattle.lvish_core.specs.declared.stage.Stage.{Stage}
 use Rattle.lvish_core.specs.Tasks.{SameTasks, standing_at, standings, entries_at, task_names}
 use Rattle.lvish_core.proofs.Maps.{names-standings, task_of-standings}

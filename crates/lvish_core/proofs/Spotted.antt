@@ -1,5 +1,5 @@
 -- What wakes a get that waits at a spot, over any machine.
-use Rattle.std.proofs.Common.{◌≡◌, inl, inr, ℕ, List, [], ◌∷◌, ◌++◌, Option, Some, None, Contains, slice_get, sym, ap, subst, ◌∙◌}
+use Rattle.std.proofs.Common.{◌≡◌, inl, inr, ℕ, [], ◌∷◌, ◌++◌, Option, Some, Contains, slice_get, sym, ap, subst, ◌∙◌}
 use Rattle.std.specs.Prelude.{option_map, unwrap_or}
 use Rattle.std.specs.Bool.{Decides}
 use Rattle.std.specs.Set.{is_member}
@@ -8,14 +8,12 @@ use Rattle.std.proofs.lemmas.List.{map-append}
 use Rattle.std.proofs.lemmas.Map.Made.{is_member-Decides}
 use Rattle.std.proofs.lemmas.List.Elements.{Contains-append_cases}
 use Rattle.lvish_lattice.specs.Lattice.{IsWatched}
-use Rattle.lvish_calculus.specs.declared.label.Label.{Label}
 use Rattle.lvish_calculus.specs.Machine.{Machine, IsLawful}
 use Rattle.lvish_variable.specs.declared.entry.Entry.{Entry}
 use Rattle.lvish_variable.specs.Variable.{VariableView as Variable, logged}
-use Rattle.lvish_core.specs.declared.fault.Stepped.{Stepped}
 use Rattle.lvish_core.specs.Changes.{brought}
-use Rattle.lvish_core.specs.Core.{CoreView, state, IsRunTo, IsStep}
-use Rattle.lvish_core.specs.Spots.{HasSpot, PassesAtItsSpot}
+use Rattle.lvish_core.specs.Core.{CoreView, state, IsRunTo}
+use Rattle.lvish_core.specs.Spots.{PassesAtItsSpot}
 
 module _ {S E R A L : Type 0} (M : Machine S E R A L) (ok : IsLawful M) where
   member : (s : S) (e : E) → Decides (is_member M.event_same (M.events s) e) (Contains (M.events s) e)

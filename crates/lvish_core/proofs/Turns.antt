@@ -1,5 +1,5 @@
 -- The tasks after a step, and how many of them are live.
-use Rattle.std.proofs.Common.{◌≡◌, ◌↔◌, ◌≤◌, ◌+◌, ◌-◌, inl, inr, ℕ, suc, Bool, true, Option, Some, None, length, refl, sym, subst, ◌∙◌, arith}
+use Rattle.std.proofs.Common.{◌≡◌, ◌↔◌, ◌≤◌, ◌+◌, ◌-◌, inl, inr, ℕ, Bool, true, Option, Some, None, length, sym, subst, ◌∙◌, arith}
 use Rattle.lvish_calculus.specs.Machine.{Machine, IsLawful}
 use Rattle.lvish_calculus.specs.Calculus.{Task, Absent, Live, Ended, State, Change, IsLive, is_live, changed, with_task}
 use Rattle.lvish_names.specs.Names.{Name}

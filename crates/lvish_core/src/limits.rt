@@ -1,2 +1,2 @@
 /// The most steps of a run.
-pub const MOST_STEPS: u64 = 1_000_000;
+pub const MOST_STEPS: u64 = lvish_handlers::MOST_STEPS;

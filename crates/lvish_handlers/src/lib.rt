@@ -22,7 +22,9 @@
 mod fault;
 mod handlers;
 mod held;
+mod limits;
 
 pub use fault::{AddFault, NothingToHand};
 pub use handlers::Handlers;
 pub use held::Held;
+pub use limits::MOST_STEPS;

@@ -1,17 +1,19 @@
 ghost use Rattle.std.specs.Prelude.{◌≡◌, ◌↔◌, ◌≤◌, ◌-◌, ◌+◌, IfOk, IsOk, pos, ◌≤ℤ◌, map};
 ghost use Rattle.std.specs.List.{range_with_len};
+ghost use Rattle.lvish_lattice.specs.declared.limits.TheConstants.{HIGHEST_LEVEL};
 
 use crate::items::Items;
 use crate::lattice::{Lattice, Plain, Reads};
+use crate::limits::HIGHEST_LEVEL;
 use crate::reads::{has_one_value, one_of};
 use std::alloc::{AllocError, Global};
 use thiserror::Error;
 
-/// A number from 0 to 1000 that only grows.
+/// A number from 0 to `HIGHEST_LEVEL` that only grows.
 #[derive(Clone, Copy, Debug, PartialEq, Eq, PartialOrd, Ord)]
 pub struct MaxCounter {
     value: u16,
-    ghost bounded: { value ≤ 1000 },
+    ghost bounded: { value ≤ HIGHEST_LEVEL },
 }
 
 /// The refusal of a number that no counter holds.
@@ -40,12 +42,12 @@ impl Levels {
 impl MaxCounter {
     ghost use Rattle.lvish_lattice.specs.MaxCounter.{number_of};
 
-    /// The counter that holds the number, where it is from 0 to 1000.
+    /// The counter that holds the number, where it is from 0 to `HIGHEST_LEVEL`.
     pub fn new(number: i64) -> Result<MaxCounter, Range>
         ensures ok { IfOk result (λ c. number_of c ≡ number) }
-        ensures accepts { IsOk result ↔ ((pos 0 ≤ℤ number) × (number ≤ℤ pos 1000)) }
+        ensures accepts { IsOk result ↔ ((pos 0 ≤ℤ number) × (number ≤ℤ pos HIGHEST_LEVEL)) }
     {
-        if number < 0 || number > 1000 {
+        if number < 0 || number > i64::from(HIGHEST_LEVEL) {
             return Err(Range);
         }
         Ok(MaxCounter {

@@ -14,6 +14,7 @@ use Rattle.lvish_names.specs.Names.{Name, Handler, main, forked, handed, part_co
 use Rattle.lvish_names.specs.NameOrder.{name_cmp, handler_cmp}
 pub use Rattle.lvish_names.specs.laws.OrderLaws.{same_name-refl, same_handler-refl}
 use Rattle.lvish_names.specs.laws.OrderLaws.{name_total, handler_total, name_ties, handler_ties}
+use Rattle.lvish_names.specs.declared.limits.TheConstants.{MOST_PARTS}
 
 -- ---- how many parts a name has
 
@@ -23,24 +24,24 @@ parts-length main = refl
 parts-length (forked t i) = ap suc (parts-length t)
 parts-length (handed t j e) = ap suc (parts-length t)
 
-pub is_deep-length : {E : Type 0} (t : Name E) → is_deep t ≡ nat_le 64 (length t)
-is_deep-length t = ap (λ n. nat_le 64 n) (parts-length t)
+pub is_deep-length : {E : Type 0} (t : Name E) → is_deep t ≡ nat_le MOST_PARTS (length t)
+is_deep-length t = ap (λ n. nat_le MOST_PARTS n) (parts-length t)
 
-pub is_deep-from_parts : {E : Type 0} (xs : List (NamePart E)) → is_deep (reverse xs) ≡ nat_le 64 (length xs)
-is_deep-from_parts xs = is_deep-length (reverse xs) ∙ ap (λ n. nat_le 64 n) (length-reverse xs)
+pub is_deep-from_parts : {E : Type 0} (xs : List (NamePart E)) → is_deep (reverse xs) ≡ nat_le MOST_PARTS (length xs)
+is_deep-from_parts xs = is_deep-length (reverse xs) ∙ ap (λ n. nat_le MOST_PARTS n) (length-reverse xs)
 
 -- a name that isn't deep has room for one more part
-pub lt-from_not_deep : {E : Type 0} (t : Name E) → is_deep t ≡ false → length t < 64
-lt-from_not_deep t h = leb-false 64 (length t) (sym (is_deep-length t) ∙ h)
+pub lt-from_not_deep : {E : Type 0} (t : Name E) → is_deep t ≡ false → length t < MOST_PARTS
+lt-from_not_deep t h = leb-false MOST_PARTS (length t) (sym (is_deep-length t) ∙ h)
 
-pub few-from_not_deep : {E : Type 0} (xs : List (NamePart E)) (t : Name E) → reverse xs ≡ t → is_deep t ≡ false → length xs < 64
-few-from_not_deep xs t e h = subst (λ n. n < 64) (sym (ap length e) ∙ length-reverse xs) (lt-from_not_deep t h)
+pub few-from_not_deep : {E : Type 0} (xs : List (NamePart E)) (t : Name E) → reverse xs ≡ t → is_deep t ≡ false → length xs < MOST_PARTS
+few-from_not_deep xs t e h = subst (λ n. n < MOST_PARTS) (sym (ap length e) ∙ length-reverse xs) (lt-from_not_deep t h)
 
-pub not_deep-from_lt : {E : Type 0} (t : Name E) → length t < 64 → is_deep t ≡ false
-not_deep-from_lt t h = is_deep-length t ∙ lt-leb 64 (length t) h
+pub not_deep-from_lt : {E : Type 0} (t : Name E) → length t < MOST_PARTS → is_deep t ≡ false
+not_deep-from_lt t h = is_deep-length t ∙ lt-leb MOST_PARTS (length t) h
 
-pub not_deep-from_parts : {E : Type 0} (xs : List (NamePart E)) → length xs < 64 → is_deep (reverse xs) ≡ false
-not_deep-from_parts xs h = is_deep-from_parts xs ∙ lt-leb 64 (length xs) h
+pub not_deep-from_parts : {E : Type 0} (xs : List (NamePart E)) → length xs < MOST_PARTS → is_deep (reverse xs) ≡ false
+not_deep-from_parts xs h = is_deep-from_parts xs ∙ lt-leb MOST_PARTS (length xs) h
 
 -- ---- `==` holds of one name alone
 

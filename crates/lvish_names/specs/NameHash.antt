@@ -1,6 +1,6 @@
 -- What a name feeds to a hasher: its parts, the last one first.
-use Rattle.std.specs.Prelude.{◌≡◌, Bool, true, false, List, [], ◌++◌, IsTrue, refl, nat_eq}
-use Rattle.std.proofs.Common.{sym, ◌∙◌, ap}
+use Rattle.std.specs.Prelude.{◌≡◌, Bool, true, false, [], ◌++◌, IsTrue, refl}
+use Rattle.std.proofs.Common.{ap}
 use Rattle.std.proofs.lemmas.Bool.{false≢true, and_parts, eqb-true}
 use Rattle.std.specs.Hash.{HashWrites, u64}
 use Rattle.lvish_names.specs.declared.name_part.NamePart.{NamePart}

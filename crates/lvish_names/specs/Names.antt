@@ -2,6 +2,7 @@
 use Rattle.std.specs.Prelude.{ℕ, suc, Bool, true, false, ◌&&◌, List, [], ◌∷◌, Option, Some, None, nat_eq, nat_le}
 use Rattle.lvish_names.specs.declared.name_part.NamePart.{NamePart}
 use Rattle.lvish_names.specs.declared.name_part.NamePart.TheVariants.{Fork as ForkPart, Hand as HandPart}
+use Rattle.lvish_names.specs.declared.limits.TheConstants.{MOST_PARTS}
 
 -- a task's name is its parts after main, the last one first
 abbrev pub Name : Type 0 → Type 0
@@ -31,7 +32,7 @@ part_count (handed t j e) = suc (part_count t)
 
 -- a name of 64 parts, which no part may be added to
 abbrev pub is_deep : {E : Type 0} → Name E → Bool
-is_deep t = nat_le 64 (part_count t)
+is_deep t = nat_le MOST_PARTS (part_count t)
 
 -- the handler of the last Hand part, in whose pool the task runs
 abbrev pub handler_of : {E : Type 0} → Name E → Option (Handler E)

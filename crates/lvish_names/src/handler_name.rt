@@ -22,13 +22,14 @@ pub struct HandlerName<E> {
 
 impl<E> Model for HandlerName<E> {
     ghost use Rattle.std.specs.Prelude.{length, ◌<◌};
+    ghost use Rattle.lvish_names.specs.declared.limits.TheConstants.{MOST_PARTS};
     ghost use Rattle.lvish_names.specs.Names.{Handler};
 
     ghost Value = { Handler E };
 
     ghost view = { λ h. record { adder = h.adder; number = h.number } };
 
-    ghost invariant = { λ h. length h.adder < 64 };
+    ghost invariant = { λ h. length h.adder < MOST_PARTS };
 }
 
 impl<E> HandlerName<E> {
@@ -60,8 +61,8 @@ impl<E: Plain> HandlerName<E> {
     ///
     /// # Errors
     ///
-    /// `Deep` where the task's name has 64 parts, else `Memory` where more names share it than can be
-    /// counted.
+    /// `Deep` where the task's name has `MOST_PARTS` parts, else `Memory` where more names share it
+    /// than can be counted.
     pub fn new(adder: &TaskName<E>, number: u64) -> Result<HandlerName<E>, NameFault>
         ensures ok { IfOk result (λ h. h ≡ record { adder = adder.now; number = number }) }
         ensures deep { IsErrOf result NameFault.Deep ↔ IsTrue (is_deep adder.now) }

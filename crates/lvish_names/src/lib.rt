@@ -14,12 +14,14 @@
 
 mod handler_name;
 mod laws;
+mod limits;
 mod name_fault;
 mod name_part;
 mod task_name;
 
 pub use handler_name::HandlerName;
 pub use laws::{handler_names_identical, task_names_identical};
+pub use limits::MOST_PARTS;
 pub use name_fault::NameFault;
 pub use name_part::NamePart;
 pub use task_name::TaskName;

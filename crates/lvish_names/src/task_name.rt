@@ -7,6 +7,7 @@ ghost use Rattle.lvish_names.specs.NameHash.{name_input};
 ghost use Rattle.std.specs.List.{fold};
 
 use crate::handler_name::HandlerName;
+use crate::limits::MOST_PARTS;
 use crate::name_fault::NameFault;
 use crate::name_part::NamePart;
 use lvish_lattice::{Numbered, Plain};
@@ -17,7 +18,7 @@ use std::hash::{Hash, Hasher};
 use std::marker::Model;
 use std::sync::ArcSlice;
 
-/// A task's name: the path from `main` to the task, of at most 64 parts.
+/// A task's name: the path from `main` to the task, of at most `MOST_PARTS` parts.
 ///
 /// Copies share it.
 #[derive(Debug, Drop)]
@@ -30,6 +31,7 @@ pub struct TaskName<E> {
 impl<E> Model for TaskName<E> {
     ghost use Rattle.std.specs.Prelude.{◌≤◌, option_map, reverse};
     ghost use Rattle.std.specs.Arc.{arc_slice_items};
+    ghost use Rattle.lvish_names.specs.declared.limits.TheConstants.{MOST_PARTS};
     ghost use Rattle.lvish_names.specs.Names.{Name};
     ghost use Rattle.lvish_names.specs.Path.{first_parts, path_length};
 
@@ -37,7 +39,7 @@ impl<E> Model for TaskName<E> {
 
     ghost view = { λ n. reverse (first_parts (option_map arc_slice_items n.path) n.depth) };
 
-    ghost invariant = { λ n. (n.depth ≤ path_length (option_map arc_slice_items n.path)) × (n.depth ≤ 64) };
+    ghost invariant = { λ n. (n.depth ≤ path_length (option_map arc_slice_items n.path)) × (n.depth ≤ MOST_PARTS) };
 }
 
 impl<E> TaskName<E> {
@@ -54,7 +56,7 @@ impl<E> TaskName<E> {
     /// The parts after `main`, in order from `main`.
     pub fn parts(&self) -> &[NamePart<E>]
         ensures parts { result.now ≡ reverse self.now }
-        ensures few { length result.now ≤ 64 }
+        ensures few { length result.now ≤ MOST_PARTS }
     {
         match &self.path {
             Some(path) => &path.as_slice()[..self.depth],
@@ -62,19 +64,19 @@ impl<E> TaskName<E> {
         }
     }
 
-    /// How many parts the name has after `main`, at most 64.
+    /// How many parts the name has after `main`, at most `MOST_PARTS`.
     pub fn len(&self) -> usize
         ensures length { result ≡ length self.now }
-        ensures few { result ≤ 64 }
+        ensures few { result ≤ MOST_PARTS }
     {
         self.parts().len()
     }
 
-    /// Whether the name has 64 parts, so that none may be added.
+    /// Whether the name has `MOST_PARTS` parts, so that none may be added.
     pub fn is_deep(&self) -> bool
         ensures { result ≡ is_deep self.now }
     {
-        self.len() >= 64
+        self.len() >= MOST_PARTS
     }
 }
 
@@ -83,7 +85,7 @@ impl<E: Plain> TaskName<E> {
     ///
     /// # Errors
     ///
-    /// `Deep` where this name has 64 parts, else `Memory` where there is no room for the new name.
+    /// `Deep` where this name has `MOST_PARTS` parts, else `Memory` where there is no room for the new name.
     pub fn child(&self, alloc: Global, number: u64) -> Result<TaskName<E>, NameFault>
         ensures ok { IfOk result (λ t. t ≡ forked self.now number) }
         ensures deep { IsErrOf result NameFault.Deep ↔ IsTrue (is_deep self.now) }

@@ -1,5 +1,5 @@
 -- The steps of tasks keep the picture.
-use Rattle.std.proofs.Common.{◌≡◌, ◌≢◌, inl, inr, ℕ, suc, ◌<◌, ◌≤◌, Bool, true, false, not, ◌&&◌, ◌||◌, List, [], ◌∷◌, ◌++◌, length, filter, slice_set, slice_get, Option, Some, None, unwrap_or, nat_eq, if◌then◌else◌, refl, sym, ap, ◌∙◌, subst, arith}
+use Rattle.std.proofs.Common.{◌≡◌, ◌≢◌, ℕ, suc, ◌<◌, ◌≤◌, Bool, true, false, not, ◌&&◌, ◌||◌, List, [], ◌∷◌, ◌++◌, length, filter, slice_set, slice_get, Option, Some, None, unwrap_or, nat_eq, if◌then◌else◌, refl, sym, ap, ◌∙◌, subst, arith}
 use Rattle.std.proofs.lemmas.Bool.{both_ways, false_from_ne_true, not-true}
 use Rattle.std.proofs.lemmas.List.{append-nil, map-append}
 use Rattle.std.proofs.lemmas.List.Kept.{AllPairs-filter}
@@ -12,11 +12,11 @@ use Rattle.lvish_calculus.specs.declared.label.Label.TheVariants.{Act}
 use Rattle.lvish_calculus.specs.declared.request.ErrorKind.{ErrorKind}
 use Rattle.lvish_calculus.specs.declared.request.ErrorKind.TheVariants.{Conflict, Frozen, Late, Deep}
 use Rattle.lvish_calculus.specs.declared.request.Request.{Request}
-use Rattle.lvish_calculus.specs.declared.request.Request.TheVariants.{Put, Get, Fork, Add, Freeze, Pause, End, Fault}
+use Rattle.lvish_calculus.specs.declared.request.Request.TheVariants.{Put, Fork, Add, Freeze, Fault}
 use Rattle.lvish_calculus.specs.declared.request.Reply.TheVariants.{Done, Content}
 use Rattle.lvish_calculus.specs.Machine.{Machine, IsLawful, IsBelow}
-use Rattle.lvish_calculus.specs.Calculus.{Task, Live, Post, State, Change, Changes, Fails, Effect, IsReady, after, changed, request_effect, put_effect, add_effect, with_task, with_join}
-use Rattle.lvish_names.specs.Names.{Name, Handler, is_deep, same_handler}
+use Rattle.lvish_calculus.specs.Calculus.{Task, Live, Post, State, Change, Changes, Fails, IsReady, after, changed, request_effect, with_task, with_join}
+use Rattle.lvish_names.specs.Names.{Name, Handler, same_handler}
 use Rattle.lvish_calculus.specs.Handing.{IsAmong, NoRepeats}
 use Rattle.lvish_calculus.proofs.Names.{nat_eq-true, nat_eq-refl}
 use Rattle.lvish_calculus.proofs.Sound.{IsSound}
@@ -30,7 +30,7 @@ use Rattle.lvish_picture.specs.Picture.{Table, HandlerAtLog, seats, seats_at, ta
 use Rattle.lvish_picture.specs.Steps.{IsPutStep, IsFreezeStep, IsAddStep, IsPlainStep, IsErring}
 use Rattle.lvish_picture.specs.Laws.{IsOrdered, IsTableStep, ActKept, ErrorsAreSteps}
 use Rattle.lvish_picture.proofs.Kept.{Fresh, same_state, none_fresh, unchanged, one_grown, act_kept, act_errs, reheld}
-use Rattle.lvish_picture.proofs.Seats.{Place, place, middle, all_among, among_mid, among_left}
+use Rattle.lvish_picture.proofs.Seats.{Place, place, middle, all_among, among_left}
 use Rattle.lvish_picture.proofs.Handed.{names_at, handled_longer, post_longer, handled_added, post_added, once_added, name_known}
 use Rattle.lvish_picture.proofs.Slots.{field_at, field_set, field_kept, field_other, contained, among, among_filter}
 use Rattle.lvish_picture.proofs.Tables.{logged_len, handlers_there, table_variable, table_handlers, table_held}

@@ -1,7 +1,7 @@
 -- What cursors tell, and that the names which a step makes are new.
 use Rattle.std.proofs.Common.{◌≡◌, inl, inr, suc, ◌<◌, List, [], ◌∷◌, refl, sym, subst, arith, All, ◌↔◌, ℕ, ◌≤◌, false, ◌++◌, length, take, get_or, slice_get, Some, ap, ◌∙◌}
 use Rattle.std.proofs.lemmas.Bool.{both_ways, cases_Bool, cases_lt}
-use Rattle.std.proofs.lemmas.Option.{slice_get_within, get_or_from_slice_get, slice_get-get_or}
+use Rattle.std.proofs.lemmas.Option.{slice_get_within, get_or_from_slice_get}
 use Rattle.std.proofs.lemmas.List.{get_or_default}
 use Rattle.std.proofs.lemmas.Map.Made.{is_member-Decides}
 use Rattle.lvish_calculus.specs.Machine.{Machine, IsLawful, IsBelow}

@@ -1,5 +1,5 @@
 -- What a handler is handed next, and a step that hands it.
-use Rattle.std.proofs.Common.{◌≡◌, ◌≢◌, ◌↔◌, inl, inr, ℕ, suc, zero, ◌<◌, ◌≤◌, Bool, true, false, ◌&&◌, ◌||◌, List, [], ◌∷◌, ◌++◌, length, take, get_or, AllPairs, Contains, slice_set, slice_get, Some, None, option_and_then, if◌then◌else◌, refl, sym, ap, ◌∙◌, subst, arith}
+use Rattle.std.proofs.Common.{◌≡◌, ◌≢◌, ◌↔◌, inl, inr, ℕ, suc, zero, ◌<◌, Bool, true, false, ◌&&◌, ◌||◌, List, [], ◌∷◌, ◌++◌, length, take, get_or, AllPairs, Contains, slice_set, slice_get, Some, None, option_and_then, if◌then◌else◌, refl, sym, ap, ◌∙◌, subst, arith}
 use Rattle.std.proofs.lemmas.Bool.{cases_Bool, both_ways}
 use Rattle.std.proofs.lemmas.Map.Made.{is_member-Decides}
 use Rattle.std.proofs.lemmas.Option.{get_or_from_slice_get}
@@ -20,7 +20,7 @@ use Rattle.lvish_picture.specs.Logs.{IsInOrder}
 use Rattle.lvish_picture.specs.Picture.{Table, HandlerAtLog, seats, seats_at, table_picture, task_of, post_in, handled_in, IsPictured}
 use Rattle.lvish_picture.specs.Laws.{IsTableStep, HandKept}
 use Rattle.lvish_picture.proofs.Kept.{next_entry, same_state, unchanged, kept_by, reheld}
-use Rattle.lvish_picture.proofs.Seats.{Place, place, middle, all_among, seat_there, among_mid, among_other}
+use Rattle.lvish_picture.proofs.Seats.{Place, place, middle, all_among, seat_there, among_other}
 use Rattle.lvish_picture.proofs.Handed.{names_at, post_there, handled_there, handled_more, post_more, names_more, one_seat}
 use Rattle.lvish_picture.proofs.Slots.{among_here}
 use Rattle.lvish_picture.proofs.Tables.{logged_len, table_handlers}

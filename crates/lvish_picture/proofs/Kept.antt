@@ -1,5 +1,5 @@
 -- What any step keeps: the order of logs, core runs, the table; and a table at the start.
-use Rattle.std.proofs.Common.{◌≡◌, ◌≢◌, ◌⊎◌, ◌↔◌, inl, inr, ℕ, ◌<◌, true, false, List, [], ◌∷◌, ◌++◌, length, take, get_or, refl, sym, ap, ◌∙◌, subst, arith, AllPairs, Contains, append_assoc, ◌+◌, length-append, slice_set, slice_get, Option, Some, suc, zero, ◌≤◌, replicate, All, slice_index, None, option_map, option_and_then, unwrap_or}
+use Rattle.std.proofs.Common.{◌≡◌, ◌≢◌, ◌⊎◌, ◌↔◌, inl, inr, ℕ, ◌<◌, true, false, List, [], ◌∷◌, ◌++◌, length, take, get_or, refl, sym, ap, ◌∙◌, subst, arith, AllPairs, Contains, ◌+◌, length-append, slice_set, slice_get, Option, Some, suc, zero, ◌≤◌, replicate, All, slice_index, None, option_map, option_and_then, unwrap_or}
 use Rattle.std.proofs.lemmas.List.Elements.{Contains-get_or, Contains-append_left, Contains-append_right, Contains-append_cases}
 use Rattle.std.proofs.lemmas.List.{append-nil, get_or_default, get_or-replicate}
 use Rattle.std.proofs.lemmas.Option.{slice_get_within}
@@ -7,11 +7,11 @@ use Rattle.std.proofs.Math.ListN.{length-replicate}
 use mathlib.Core.Path.{fun_ext}
 use Rattle.lvish_calculus.specs.Machine.{Machine, IsLawful, IsBelow}
 use Rattle.lvish_calculus.specs.declared.label.Label.{Label}
-use Rattle.lvish_calculus.specs.declared.label.Label.TheVariants.{Act, Hand}
-use Rattle.lvish_calculus.specs.Calculus.{State, IsOn, start, Task, Configuration, Running, Error, Change, Changes, Fails, IsReady, IsEnabled, IsRun, after, changed, step, effect, request_effect, task_effect, Post}
+use Rattle.lvish_calculus.specs.declared.label.Label.TheVariants.{Act}
+use Rattle.lvish_calculus.specs.Calculus.{State, start, Task, Running, Error, Change, Changes, Fails, IsReady, IsEnabled, IsRun, after, changed, step, effect, request_effect, task_effect, Post}
 use Rattle.lvish_names.specs.Names.{Name, Handler, handler_of}
 use Rattle.lvish_calculus.specs.Laws.{Reaches}
-use Rattle.lvish_calculus.specs.Handing.{IsNoLater, HandsOldestFirst, NoRepeats}
+use Rattle.lvish_calculus.specs.Handing.{HandsOldestFirst, NoRepeats}
 use Rattle.lvish_calculus.specs.declared.request.ErrorKind.{ErrorKind}
 use Rattle.lvish_calculus.specs.declared.request.Request.{Request}
 use Rattle.lvish_calculus.proofs.CoreRuns.{below_later, IsNext, no_later_one, no_later_less, no_later_new, core_act, core_none}

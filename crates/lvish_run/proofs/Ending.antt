@@ -1,5 +1,5 @@
 -- What one run without picks shows of all runs.
-use Rattle.std.proofs.Common.{◌≡◌, ◌<◌, ◌≤◌, ◌↔◌, ◌⊎◌, inl, inr, ℕ, ℤ, Bool, true, false, List, [], ◌∷◌, ◌++◌, length, Option, Some, None, refl, sym, ap, ◌∙◌, subst, arith}
+use Rattle.std.proofs.Common.{◌≡◌, ◌<◌, ◌≤◌, ◌↔◌, ◌⊎◌, inl, inr, ℕ, Bool, true, false, List, [], ◌∷◌, ◌++◌, length, Option, Some, None, refl, sym, ap, ◌∙◌, subst, arith}
 use Rattle.std.proofs.lemmas.List.{length-map, append-nil}
 use Rattle.std.proofs.lemmas.Bool.{cases_lt, false≢true}
 use Rattle.std.specs.declared.cmp.Ordering.{Ordering}
@@ -14,10 +14,8 @@ use Rattle.lvish_calculus.specs.Laws.{Reaches, NoLateError}
 use Rattle.lvish_calculus.specs.SameRuns.{HaveSameRuns}
 use Rattle.lvish_calculus.proofs.SameThere.{Base, over, flip_runs, reached, never_there, end_there}
 use Rattle.lvish_compound.specs.declared.any.Any.{Any}
-use Rattle.lvish_compound.specs.declared.any_read.AnyRead.{AnyRead}
 use Rattle.lvish_compound.specs.declared.event.Event.{Event}
 use Rattle.lvish_syntax.specs.declared.script.Script.{Script}
-use Rattle.lvish_task.specs.Meaning.{LocalState as Left}
 use Rattle.lvish_task.specs.Freezing.{AsksNoFreeze, has_freeze}
 use Rattle.lvish_board.specs.declared.trace_entry.TraceEntry.{TraceEntry}
 use Rattle.lvish_board.specs.declared.outcome.Outcome.{Outcome}
@@ -26,7 +24,8 @@ use Rattle.lvish_run.specs.declared.report.Report.{Report}
 use Rattle.lvish_run.specs.Honest.{Comes, IsOutcome, IsHonest}
 use Rattle.lvish_board.specs.Standing.{labels_of}
 use Rattle.lvish_run.specs.Picked.{IsPicked}
-use Rattle.lvish_run.specs.Scripts.{IsPickedRun}
+use Rattle.lvish_compound.specs.contracts.event.EventOrd.TheImpl.{ghosts as event_order}
+use Rattle.lvish_run.specs.Scripts.{script_machine, IsPickedRun}
 use Rattle.lvish_run.specs.Ends.{EndsAfter, AlwaysEnds, IsBound}
 use Rattle.lvish_run.proofs.Once.{goes_on}
 
@@ -133,24 +132,24 @@ module _ {S E R A L K : Type 0} (same : S → S → Bool) (event_same : E → E 
 
 -- ---- what is answered about a script
 
-module _ (cmp : Event → Event → Ordering) (M : Machine Any Event AnyRead ℤ Left) (script : Script) (budget : ℕ) where
+module _ (script : Script) (budget : ℕ) where
   none_is_some : {X : Type 0} (n : ℕ) → None ≡ Some n → X
   none_is_some n e = let no : ⊥ = cc in absurd no
 
-  unbound : ((n : ℕ) → has_freeze script ≡ false → EndsAfter cmp M n → n ≤ budget → ⊥) → IsBound cmp M script budget None
+  unbound : ((n : ℕ) → has_freeze script ≡ false → EndsAfter event_order.cmp (script_machine script) n → n ≤ budget → ⊥) → IsBound script budget None
   unbound never = record { exact = λ n. (λ e. none_is_some n e, λ k. absurd (never n k.0 k.1 k.2)); always = λ n e. none_is_some n e }
 
   -- a script with the line `freeze`
-  pub with_freeze : has_freeze script ≡ true → IsBound cmp M script budget None
+  pub with_freeze : has_freeze script ≡ true → IsBound script budget None
   with_freeze has = unbound (λ n none end within. false≢true (sym none ∙ has))
 
-  module _ (o : IsTotalOrder cmp) (r : Report Any Event) (run : IsPickedRun cmp M script [] budget r) where
+  module _ (o : IsTotalOrder event_order.cmp) (r : Report Any Event) (run : IsPickedRun script [] budget r) where
     -- a script whose run doesn't end, or errs
-    pub without_end : (r.outcome ≡ Ended → ⊥) → IsBound cmp M script budget None
-    without_end unended = unbound (λ n none end within. never_ended cmp o M _ budget r run.honest run.picked unended n end within)
+    pub without_end : (r.outcome ≡ Ended → ⊥) → IsBound script budget None
+    without_end unended = unbound (λ n none end within. never_ended event_order.cmp o (script_machine script) _ budget r run.honest run.picked unended n end within)
 
     -- and one whose run ends
-    pub with_end : r.outcome ≡ Ended → has_freeze script ≡ false → ((n : ℕ) → EndsAfter cmp M n → AlwaysEnds M n) → IsBound cmp M script budget (Some r.steps)
+    pub with_end : r.outcome ≡ Ended → has_freeze script ≡ false → ((n : ℕ) → EndsAfter event_order.cmp (script_machine script) n → AlwaysEnds (script_machine script) n) → IsBound script budget (Some r.steps)
     with_end ended none all = record {
       exact = λ n. (
         λ e. let same : r.steps ≡ n = cc in let k = (exactly n).0 same in (none, k.0, k.1),
@@ -159,5 +158,5 @@ module _ (cmp : Event → Event → Ordering) (M : Machine Any Event AnyRead ℤ
       always = λ n e. let same : r.steps ≡ n = cc in all n ((exactly n).0 same).0;
     }
       where
-        exactly : (n : ℕ) → (r.steps ≡ n) ↔ (EndsAfter cmp M n × (n ≤ budget))
-        exactly n = ended_exactly cmp o M _ budget r run.honest run.picked ended n
+        exactly : (n : ℕ) → (r.steps ≡ n) ↔ (EndsAfter event_order.cmp (script_machine script) n × (n ≤ budget))
+        exactly n = ended_exactly event_order.cmp o (script_machine script) _ budget r run.honest run.picked ended n

@@ -13,8 +13,8 @@ use crate::runner::run_program;
 use lvish_calculus::{Meaning, Program};
 use lvish_compound::{Any, Event};
 use lvish_syntax::Script;
+use lvish_task::ScriptCode;
 use lvish_task::laws::same_runs;
-use lvish_task::{ScriptCode, ScriptMeaning};
 use std::alloc::{AllocError, Global};
 use std::marker::Brand;
 
@@ -43,11 +43,11 @@ impl RunMeaning for Script {
     ghost use Rattle.lvish_run.specs.Ends.{IsBound};
     ghost use Rattle.lvish_run.specs.Scripts.{IsRunBy, IsPickedRun};
 
-    ghost is_run = { λ script workers budget r. IsRunBy (⟦<Script as ScriptMeaning>⟧.machine script) script workers budget r };
+    ghost is_run = { λ script workers budget r. IsRunBy script workers budget r };
 
-    ghost is_picked_run = { λ script picks budget r. IsPickedRun ⟦<Event as Ord>⟧.cmp (⟦<Script as ScriptMeaning>⟧.machine script) script picks budget r };
+    ghost is_picked_run = { λ script picks budget r. IsPickedRun script picks budget r };
 
-    ghost is_bound = { λ script budget bound. IsBound ⟦<Event as Ord>⟧.cmp (⟦<Script as ScriptMeaning>⟧.machine script) script budget bound };
+    ghost is_bound = { λ script budget bound. IsBound script budget bound };
 }
 
 /// Runs the script on one thread: at each step the enabled label whose number is the next pick

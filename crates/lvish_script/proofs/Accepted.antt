@@ -19,9 +19,10 @@ use Rattle.lvish_checks.proofs.Spelled.{said_written}
 use Rattle.lvish_script.proofs.Cleaned.{all_cleaned, any_cleaned}
 use Rattle.lvish_script.proofs.Cleared.{Passed, fine_without_blanks}
 use Rattle.lvish_script.proofs.Soundness.{sound_from_checks}
+use Rattle.lvish_syntax.specs.declared.limits.TheConstants.{MOST_BYTES}
 
 -- a text that is too long
-pub too_long : (p : Parts) → nat_lt 65536 (length p.bytes) ≡ true → IsFirstFault p TooLong 0
+pub too_long : (p : Parts) → nat_lt MOST_BYTES (length p.bytes) ≡ true → IsFirstFault p TooLong 0
 too_long p e = record { passed = []; rest = NotAscii ∷ BadLine ∷ BadNumber ∷ DoubleName ∷ UnknownName ∷ WrongKind ∷ WrongCount ∷ OpenBlock ∷ Compatible ∷ NoMain ∷ TooMany ∷ []; order = refl; earlier = tt; lowest = record { at = e; below = λ m lt. absurd (omega arith) } }
 
 -- a test that fails on no line holds of no line

@@ -38,6 +38,7 @@ use Rattle.lvish_script.proofs.Soundness.{lines_to, locals_here, lines_in}
 use Rattle.lvish_script.proofs.Commands.{Passes, each_passes, command_is, is_line_sound, line_is_own}
 use Rattle.lvish_script.proofs.Places.{Held, placed, no_repeat_at, few_at, follow_at, all_at_cut, any_at_cut}
 use Rattle.lvish_script.proofs.Texts.{line_bytes, bytes_known, numbers_good, all_say}
+use Rattle.lvish_syntax.specs.declared.limits.TheConstants.{MOST, MOST_BYTES}
 
 none_at : {X : Type 0} (p : X → Bool) (xs : List X) (k : ℕ) → list_any p xs ≡ false → option_map_or p (slice_get xs k) false ≡ false
 none_at p [] k e = refl
@@ -150,18 +151,18 @@ module _ (version : Version) (ds : List Declaration) (ps : List Procedure) (soun
   }
 
   few_head : (c : List Declaration) (d : Declaration) (e : List Declaration) → ds ≡ c ++ d ∷ e → is_past_limit (heads c) (Declare d) ≡ false
-  few_head c (Variable n k) e w = ap (nat_le 64) (variables_counted c) ∙ few_at (variable_names c) (variable_names e) n (subst (λ t. length t ≤ 64) (variable_at c (Variable n k) e w) sound.few_variables)
-  few_head c (Pool p v) e w = ap (nat_le 64) (pools_counted c) ∙ few_at (pool_names c) (pool_names e) p (subst (λ t. length t ≤ 64) (pool_at c (Pool p v) e w) sound.few_pools)
+  few_head c (Variable n k) e w = ap (nat_le MOST) (variables_counted c) ∙ few_at (variable_names c) (variable_names e) n (subst (λ t. length t ≤ MOST) (variable_at c (Variable n k) e w) sound.few_variables)
+  few_head c (Pool p v) e w = ap (nat_le MOST) (pools_counted c) ∙ few_at (pool_names c) (pool_names e) p (subst (λ t. length t ≤ MOST) (pool_at c (Pool p v) e w) sound.few_pools)
 
   shallow_here : (q : List Procedure) (r : Procedure) (more : List Procedure) → ps ≡ q ++ r ∷ more → goes has_room (InProcedure ∷ []) (body_lines (statements r.body)) ≡ true
   shallow_here q r more w =
-      room_of_body (statements r.body) ∙ all_at_cut (λ (p : Procedure). nat_le (all_depth (statements p.body)) 63) q r more (ap (list_all (λ (p : Procedure). nat_le (all_depth (statements p.body)) 63)) (sym w) ∙ sound.shallow)
+      room_of_body (statements r.body) ∙ all_at_cut (λ (p : Procedure). nat_lt (all_depth (statements p.body)) MOST) q r more (ap (list_all (λ (p : Procedure). nat_lt (all_depth (statements p.body)) MOST)) (sym w) ∙ sound.shallow)
 
   -- the checks that see the same without blank lines pass each line
   fine_lines : Held ds ps (Fine (script_lines ds ps))
   fine_lines = record {
     at_head = λ c d e w a. record { again = fresh_head c d e w; unknown = known_head (locals_in (heads c) (Declare d ∷ a)) c d e w; kinds = refl; counts = refl; apart = refl; few = few_head c d e w };
-    at_proc = λ q r more w a. record { again = fresh_procedure q r more w; unknown = refl; kinds = refl; counts = refl; apart = refl; few = ap (nat_le 64) (all_counted ds q) ∙ few_at q more r (subst (λ t. length t ≤ 64) w sound.few_procedures) };
+    at_proc = λ q r more w a. record { again = fresh_procedure q r more w; unknown = refl; kinds = refl; counts = refl; apart = refl; few = ap (nat_le MOST) (all_counted ds q) ∙ few_at q more r (subst (λ t. length t ≤ MOST) w sound.few_procedures) };
     at_body = λ q r more w c x e k. record {
       again = inner_name (lines_to ds q r ++ c) x (inner_at r c x e k);
       unknown = ap (λ t. unknown_given (script_lines ds ps) (lines_to ds q r ++ c) t x) (locals_here ds q r more c x e k) ∙ known_line (lines_to ds q r ++ c) (locals_of r) x (inner_at r c x e k) (sound_at q r more w c x e k);
@@ -215,7 +216,7 @@ version_under Two ds ps = refl
 abbrev pub parts : List Line → List ℕ → Parts
 parts ls text = record { bytes = text; lines = map line_bytes ls; words = map line_words ls; said = ls }
 
-pub accepted : (v : Version) (ds : List Declaration) (ps : List Procedure) → IsSound v ds ps → (text : List ℕ) → nat_lt 65536 (length text) ≡ false → list_all is_line_written (version_lines v ++ script_lines ds ps) ≡ true → IsAccepted (parts (version_lines v ++ script_lines ds ps) text)
+pub accepted : (v : Version) (ds : List Declaration) (ps : List Procedure) → IsSound v ds ps → (text : List ℕ) → nat_lt MOST_BYTES (length text) ≡ false → list_all is_line_written (version_lines v ++ script_lines ds ps) ≡ true → IsAccepted (parts (version_lines v ++ script_lines ds ps) text)
 accepted v ds ps sound text short w =
     let ls = version_lines v ++ script_lines ds ps in
     let clean : filter says_something ls ≡ script_lines ds ps = said_under v (script_lines ds ps) ∙ all_say ds ps in

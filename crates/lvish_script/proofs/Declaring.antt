@@ -26,6 +26,7 @@ use Rattle.lvish_checks.proofs.Cuts.{differ_by_cut}
 use Rattle.lvish_script.proofs.Cleaned.{count_cons}
 use Rattle.lvish_script.proofs.Bodies.{is_inner, inner, none_inner, no_procedures, none_counted}
 use Rattle.lvish_script.proofs.Levels.{open_append, balanced_body}
+use Rattle.lvish_syntax.specs.declared.limits.TheConstants.{MOST}
 
 -- the lines of declarations
 abbrev pub heads : List Declaration → List Line
@@ -244,18 +245,18 @@ pub one_pool : (d : Declaration) → length (pool_name d) ≤ 1
 one_pool (Variable n k) = omega arith
 one_pool (Pool p v) = omega arith
 
-below_limit : (n : ℕ) → nat_le 64 n ≡ false → n < 64
+below_limit : (n : ℕ) → nat_le MOST n ≡ false → n < MOST
 below_limit n e = grind (arith, nat_tests)
 
-pub few_variables_before : (d : Declaration) (b : List Declaration) → 1 ≤ length (variable_name d) → is_past_limit (heads b) (Declare d) ≡ false → length (variable_names b) < 64
+pub few_variables_before : (d : Declaration) (b : List Declaration) → 1 ≤ length (variable_name d) → is_past_limit (heads b) (Declare d) ≡ false → length (variable_names b) < MOST
 few_variables_before (Variable n k) b le h = let few = below_limit (count_by is_variable (heads b)) h in let all = variables_counted b in omega arith
 few_variables_before (Pool p v) b le h = absurd (omega (arith, le))
 
-pub few_pools_before : (d : Declaration) (b : List Declaration) → 1 ≤ length (pool_name d) → is_past_limit (heads b) (Declare d) ≡ false → length (pool_names b) < 64
+pub few_pools_before : (d : Declaration) (b : List Declaration) → 1 ≤ length (pool_name d) → is_past_limit (heads b) (Declare d) ≡ false → length (pool_names b) < MOST
 few_pools_before (Pool p v) b le h = let few = below_limit (count_by is_pool (heads b)) h in let all = pools_counted b in omega arith
 few_pools_before (Variable n k) b le h = absurd (omega (arith, le))
 
-pub few_procedures_before : (r : Procedure) (ds : List Declaration) (q : List Procedure) → is_past_limit (script_lines ds q) (Proc r.name r.parameters) ≡ false → length q < 64
+pub few_procedures_before : (r : Procedure) (ds : List Declaration) (q : List Procedure) → is_past_limit (script_lines ds q) (Proc r.name r.parameters) ≡ false → length q < MOST
 few_procedures_before r ds q h =
     let few = below_limit (count_by is_procedure (script_lines ds q)) h in
     let all = all_counted ds q in

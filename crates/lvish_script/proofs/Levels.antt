@@ -13,6 +13,7 @@ use Rattle.lvish_checks.specs.Checks.{open_step, open_after, is_full, is_misplac
 use Rattle.lvish_checks.specs.declared.open_blocks.Opener.{Opener}
 use Rattle.lvish_checks.specs.declared.open_blocks.Opener.TheVariants.{Procedure as InProcedure, If as InIf, Else as InElse, While as InWhile}
 use Rattle.lvish_script.specs.Spells.{statement_lines, row_lines, body_lines}
+use Rattle.lvish_syntax.specs.declared.limits.TheConstants.{MOST}
 
 -- ---- what is open after a statement is what was open before it
 
@@ -114,13 +115,13 @@ opens_block l = false
 abbrev pub has_room : List Opener → Line → Bool
 has_room os l = not (opens_block l && is_full os)
 
-none_deep : (n : ℕ) → n ≤ 64 → true ≡ nat_le (0 + n) 64
+none_deep : (n : ℕ) → n ≤ MOST → true ≡ nat_le (0 + n) MOST
 none_deep n le = grind (arith, nat_tests)
 
-one_deeper : (n d : ℕ) (b : Bool) → n ≤ 64 → (suc n ≤ 64 → b ≡ nat_le (d + suc n) 64) → (not (nat_le 64 n) && b) ≡ nat_le (suc d + n) 64
+one_deeper : (n d : ℕ) (b : Bool) → n ≤ MOST → (suc n ≤ MOST → b ≡ nat_le (d + suc n) MOST) → (not (nat_le MOST n) && b) ≡ nat_le (suc d + n) MOST
 one_deeper n d b le h = grind (arith, nat_tests)
 
-as_deep : (a b n : ℕ) → (nat_le (a + n) 64 && nat_le (b + n) 64) ≡ nat_le (max a b + n) 64
+as_deep : (a b n : ℕ) → (nat_le (a + n) MOST && nat_le (b + n) MOST) ≡ nat_le (max a b + n) MOST
 as_deep a b n = grind (arith, nat_tests)
 
 closed_room : (os : List Opener) (ls : List Line) → goes has_room os (ls ++ line.End ∷ []) ≡ goes has_room os ls
@@ -128,36 +129,36 @@ closed_room os ls = goes_append has_room os ls (line.End ∷ []) ∙ and-true _
 
 -- blocks have room just where they do not stand too deep
 mutual
-  levels : (o : Opener) (os : List Opener) (s : Statement) → suc (length os) ≤ 64 → goes has_room (o ∷ os) (statement_lines s) ≡ nat_le (depth s + suc (length os)) 64
+  levels : (o : Opener) (os : List Opener) (s : Statement) → suc (length os) ≤ MOST → goes has_room (o ∷ os) (statement_lines s) ≡ nat_le (depth s + suc (length os)) MOST
   levels o os (Do c) le = none_deep (suc (length os)) le
   levels o os (If' t s a) le = one_deeper (suc (length os)) (row_depth a) _ le (λ lt. closed_room _ (row_lines a) ∙ levels_row InIf (o ∷ os) a lt)
   levels o os (IfElse' t s a r b) le =
       one_deeper (suc (length os)) (max (row_depth a) (row_depth b)) _ le (λ lt.
       goes_on has_room (InIf ∷ (o ∷ os)) (row_lines a) _ (balanced_row InIf (o ∷ os) a)
       ∙ ap (λ x. x && goes has_room (InElse ∷ (o ∷ os)) (row_lines b ++ line.End ∷ [])) (levels_row InIf (o ∷ os) a lt)
-      ∙ ap (λ x. nat_le (row_depth a + suc (suc (length os))) 64 && x) (closed_room _ (row_lines b) ∙ levels_row InElse (o ∷ os) b lt)
+      ∙ ap (λ x. nat_le (row_depth a + suc (suc (length os))) MOST && x) (closed_room _ (row_lines b) ∙ levels_row InElse (o ∷ os) b lt)
       ∙ as_deep (row_depth a) (row_depth b) (suc (suc (length os))))
   levels o os (While' t s a) le = one_deeper (suc (length os)) (row_depth a) _ le (λ lt. closed_room _ (row_lines a) ∙ levels_row InWhile (o ∷ os) a lt)
 
-  levels_row : (o : Opener) (os : List Opener) {m : _} (r : Row_of-Statement m) → suc (length os) ≤ 64 → goes has_room (o ∷ os) (row_lines r) ≡ nat_le (row_depth r + suc (length os)) 64
+  levels_row : (o : Opener) (os : List Opener) {m : _} (r : Row_of-Statement m) → suc (length os) ≤ MOST → goes has_room (o ∷ os) (row_lines r) ≡ nat_le (row_depth r + suc (length os)) MOST
   levels_row o os end_of-Statement le = none_deep (suc (length os)) le
   levels_row o os (more_of-Statement s rest) le =
       goes_on has_room (o ∷ os) (statement_lines s) (row_lines rest) (balanced o os s)
-      ∙ ap (λ x. x && goes has_room (o ∷ os) (row_lines rest)) (levels o os s le) ∙ ap (λ x. nat_le (depth s + suc (length os)) 64 && x) (levels_row o os rest le)
+      ∙ ap (λ x. x && goes has_room (o ∷ os) (row_lines rest)) (levels o os s le) ∙ ap (λ x. nat_le (depth s + suc (length os)) MOST && x) (levels_row o os rest le)
       ∙ as_deep (depth s) (row_depth rest) (suc (length os))
 
-levels_body : (o : Opener) (os : List Opener) (ss : List Statement) → suc (length os) ≤ 64 → goes has_room (o ∷ os) (body_lines ss) ≡ nat_le (all_depth ss + suc (length os)) 64
+levels_body : (o : Opener) (os : List Opener) (ss : List Statement) → suc (length os) ≤ MOST → goes has_room (o ∷ os) (body_lines ss) ≡ nat_le (all_depth ss + suc (length os)) MOST
 levels_body o os [] le = none_deep (suc (length os)) le
 levels_body o os (s ∷ ss) le =
     goes_on has_room (o ∷ os) (statement_lines s) (body_lines ss) (balanced o os s)
-    ∙ ap (λ x. x && goes has_room (o ∷ os) (body_lines ss)) (levels o os s le) ∙ ap (λ x. nat_le (depth s + suc (length os)) 64 && x) (levels_body o os ss le)
+    ∙ ap (λ x. x && goes has_room (o ∷ os) (body_lines ss)) (levels o os s le) ∙ ap (λ x. nat_le (depth s + suc (length os)) MOST && x) (levels_body o os ss le)
     ∙ as_deep (depth s) (all_depth ss) (suc (length os))
 
 -- the statements of a procedure have room just where they do not stand too deep
-pub room_of_body : (ss : List Statement) → goes has_room (InProcedure ∷ []) (body_lines ss) ≡ nat_le (all_depth ss) 63
+pub room_of_body : (ss : List Statement) → goes has_room (InProcedure ∷ []) (body_lines ss) ≡ nat_lt (all_depth ss) MOST
 room_of_body ss = levels_body InProcedure [] ss (omega arith) ∙ one_less (all_depth ss)
   where
-    one_less : (n : ℕ) → nat_le (n + suc 0) 64 ≡ nat_le n 63
+    one_less : (n : ℕ) → nat_le (n + suc 0) MOST ≡ nat_lt n MOST
     one_less n = grind (arith, nat_tests)
 
 pub limit_here : (before : List Line) (x : Line) → is_past_limit before x ≡ false → has_room (open_after [] before) x ≡ true

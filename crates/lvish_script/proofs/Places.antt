@@ -22,6 +22,7 @@ use Rattle.lvish_checks.proofs.Cuts.{left_fails, right_fails}
 use Rattle.lvish_checks.proofs.Seen.{bytes_eq_flip}
 use Rattle.lvish_script.proofs.Bodies.{first_holds, second_holds}
 use Rattle.lvish_script.proofs.Soundness.{lines_to, lines_from}
+use Rattle.lvish_syntax.specs.declared.limits.TheConstants.{MOST}
 
 -- an item of two lists one after the other is one of the first or of the second
 side : {X R : Type 0} (xs ys b : List X) (x : X) (a : List X) → xs ++ ys ≡ b ++ x ∷ a → ((c : List X) → xs ≡ b ++ x ∷ c → a ≡ c ++ ys → R) → ((c : List X) → ys ≡ c ++ x ∷ a → b ≡ xs ++ c → R) → R
@@ -110,8 +111,8 @@ no_repeat_at (x ∷ xs) y ys e =
     let no : bytes_eq y x ≡ false = left_fails (bytes_eq y x) _ (right_fails (has_name x xs) _ there) in
     or_from (bytes_eq x y) _ (bytes_eq_flip x y ∙ no) (no_repeat_at xs y ys (right_fails (has_name x (xs ++ y ∷ ys)) _ e))
 
-pub few_at : {X : Type 0} (xs ys : List X) (y : X) → length (xs ++ y ∷ ys) ≤ 64 → nat_le 64 (length xs) ≡ false
-few_at xs ys y h = let n : length (xs ++ y ∷ ys) ≡ length xs + suc (length ys) = length-append xs (y ∷ ys) in let lt : length xs < 64 = omega (arith, h, n) in grind (arith, nat_tests)
+pub few_at : {X : Type 0} (xs ys : List X) (y : X) → length (xs ++ y ∷ ys) ≤ MOST → nat_le MOST (length xs) ≡ false
+few_at xs ys y h = let n : length (xs ++ y ∷ ys) ≡ length xs + suc (length ys) = length-append xs (y ∷ ys) in let lt : length xs < MOST = omega (arith, h, n) in grind (arith, nat_tests)
 
 pub follow_at : (before c : List Declaration) (d : Declaration) (e : List Declaration) → follow_variables before (c ++ d ∷ e) ≡ true → is_pool_known (before ++ c) d ≡ true
 follow_at before [] d e h = ap (λ t. is_pool_known t d) (append-nil before) ∙ first_holds (is_pool_known before d) _ h

@@ -18,6 +18,7 @@ use Rattle.lvish_script.proofs.Reading.{made}
 use Rattle.lvish_script.proofs.Reread.{is_good}
 use Rattle.lvish_script.proofs.Texts.{lines_are, words_are, said_are, all_good, all_say}
 use Rattle.lvish_script.proofs.Accepting.{said_under, version_under, accepted}
+use Rattle.lvish_syntax.specs.declared.limits.TheConstants.{MOST_BYTES}
 
 -- the line of a version before others
 
@@ -41,10 +42,10 @@ said_again s =
     let w = all_written s in
     ap (λ t. map line_of (map words_of t)) (lines_are ls w) ∙ ap (map line_of) (words_are ls w) ∙ said_are ls w (lines_good s)
 
-short_text : (n : ℕ) → n ≤ 65536 → nat_lt 65536 n ≡ false
+short_text : (n : ℕ) → n ≤ MOST_BYTES → nat_lt MOST_BYTES n ≡ false
 short_text n h = grind (arith, nat_tests)
 
-pub spelled_again : (s : Script) → length (text_of s) ≤ 65536 → Spells (text_of s) s
+pub spelled_again : (s : Script) → length (text_of s) ≤ MOST_BYTES → Spells (text_of s) s
 spelled_again s short =
     let ls = canonical_lines s in
     let w = all_written s in

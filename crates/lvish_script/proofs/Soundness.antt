@@ -1,6 +1,5 @@
 -- What the checks passed on the lines of a script say of the script.
 use Rattle.std.proofs.Common.{◌≡◌, Bool, true, false, not, ◌||◌, ◌&&◌, List, [], ◌∷◌, ◌++◌, Option, Some, None, refl, sym, ap, subst, ◌∙◌, append_assoc}
-use Rattle.std.specs.Prelude.{nat_le}
 use Rattle.std.specs.Option.{option_map_or}
 use Rattle.std.specs.List.{list_any, list_all, flat_map}
 use Rattle.std.specs.Str.{bytes_eq}
@@ -35,6 +34,7 @@ use Rattle.lvish_script.proofs.Bodies.{ByParts, own_line, all_of_body, all_of_sc
 use Rattle.lvish_script.proofs.Commands.{command_is, is_line_sound, line_is_own}
 use Rattle.lvish_script.proofs.Levels.{open_append, goes, has_room, goes_by_cut, room_of_body, limit_here}
 use Rattle.lvish_script.proofs.Declaring.{heads, declared, declared_heads, procedures_declared, main_declared, none_open, few_names, names_differ, one_variable, one_pool, few_variables_before, few_pools_before, few_procedures_before, new_variable, new_pool, known_further, follow_by_cut}
+use Rattle.lvish_syntax.specs.declared.limits.TheConstants.{MOST}
 
 -- ---- the locals at a line of a procedure
 
@@ -186,7 +186,7 @@ module _ (version : Version) (ds : List Declaration) (ps : List Procedure) (chec
   open_here : (q : List Procedure) (r : Procedure) → open_after [] (lines_to ds q r) ≡ InProcedure ∷ []
   open_here q r = open_append [] (script_lines ds q) (Proc r.name r.parameters ∷ []) ∙ ap (λ os. open_after os (Proc r.name r.parameters ∷ [])) (none_open ds q)
 
-  procedure_shallow : (q : List Procedure) (r : Procedure) (more : List Procedure) → ps ≡ q ++ r ∷ more → nat_le (all_depth (statements r.body)) 63 ≡ true
+  procedure_shallow : (q : List Procedure) (r : Procedure) (more : List Procedure) → ps ≡ q ++ r ∷ more → nat_lt (all_depth (statements r.body)) MOST ≡ true
   procedure_shallow q r more g =
       sym (room_of_body (statements r.body))
       ∙ subst (λ os. goes has_room os (body_lines (statements r.body)) ≡ true) (open_here q r)
@@ -213,10 +213,10 @@ module _ (version : Version) (ds : List Declaration) (ps : List Procedure) (chec
         pools_differ = names_differ pool_name one_pool ds (λ b d a v e w. new_pool d b v w (declaration_fine b d a e).again);
         procedures_differ = differ;
         pools_known = all_by_cut (is_pool_known ds) ds (λ b d a e. ap (λ t. is_pool_known t d) e ∙ known_further b d (d ∷ a) (pool_above b d a e));
-        few_variables = few_names variable_name one_variable ds 64 (λ b d a e k. few_variables_before d b k (declaration_fine b d a e).few);
-        few_pools = few_names pool_name one_pool ds 64 (λ b d a e k. few_pools_before d b k (declaration_fine b d a e).few);
-        few_procedures = few_by_cut 64 ps (λ q r more e. few_procedures_before r ds q (checked.fine (script_lines ds q) (Proc r.name r.parameters) _ (procedure_cut q r more e)).few);
-        shallow = all_by_cut (λ p. nat_le (all_depth (statements p.body)) 63) ps procedure_shallow;
+        few_variables = few_names variable_name one_variable ds MOST (λ b d a e k. few_variables_before d b k (declaration_fine b d a e).few);
+        few_pools = few_names pool_name one_pool ds MOST (λ b d a e k. few_pools_before d b k (declaration_fine b d a e).few);
+        few_procedures = few_by_cut MOST ps (λ q r more e. few_procedures_before r ds q (checked.fine (script_lines ds q) (Proc r.name r.parameters) _ (procedure_cut q r more e)).few);
+        shallow = all_by_cut (λ p. nat_lt (all_depth (statements p.body)) MOST) ps procedure_shallow;
         pools_follow = follow_by_cut [] ds pool_above;
         declarations_written = (and_parts _ _ all_written).0;
         procedures_written = (and_parts _ _ all_written).1;

@@ -2,7 +2,6 @@
 
 ghost use Rattle.std.specs.Prelude.{◌≡◌, ◌≤◌, length, List, ℕ};
 ghost use Rattle.std.specs.List.{AllZip};
-ghost use Rattle.lvish_syntax.specs.Limits.{most_bytes};
 ghost use Rattle.lvish_syntax.specs.declared.script.Script.{Script};
 ghost use Rattle.lvish_checks.specs.Checks.{parts_of};
 ghost use Rattle.lvish_checks.specs.Spelling.{Agree};
@@ -10,11 +9,13 @@ ghost use Rattle.lvish_script.specs.Spells.{Spells};
 ghost use Rattle.lvish_script.specs.Same.{IsSameProcedure};
 ghost use Rattle.lvish_script.specs.Canonical.{canonical_lines, text_of, text_words, script_words};
 
+use lvish_syntax::MOST_BYTES;
+
 /// The canonical text of each script spells that very script, where it isn't too long; and in any
 /// case its lines say the lines of the script, none of them blank.
 pub fn what_is_written_is_read()
     ensures said { (s : Script) → (parts_of (text_of s)).said ≡ canonical_lines s }
-    ensures spells { (s : Script) → length (text_of s) ≤ most_bytes → Spells (text_of s) s }
+    ensures spells { (s : Script) → length (text_of s) ≤ MOST_BYTES → Spells (text_of s) s }
 {}
 
 /// Two scripts that one text spells have one version, equal declarations, and the same procedures in

@@ -1,6 +1,5 @@
 ghost use Rattle.std.specs.Prelude.{◌≡◌, length, map, nat_lt, IfOk, MatchResult};
 ghost use Rattle.std.specs.List.{list_any};
-ghost use Rattle.lvish_syntax.specs.Limits.{most_bytes};
 ghost use Rattle.lvish_checks.specs.Text.{words_of};
 ghost use Rattle.lvish_checks.specs.Form.{is_bad_number, line_of};
 ghost use Rattle.lvish_checks.specs.Checks.{on_line, IsFirstOn};
@@ -11,16 +10,13 @@ use lvish_checks::{
     Fault, Line, ScriptFault, first_bad_number, first_fault, line_of, lines_of, version_of,
     words_of,
 };
-use lvish_syntax::Script;
+use lvish_syntax::{MOST_BYTES, Script};
 use std::alloc::{AllocError, Global};
 
-/// How many bytes a text may have.
-const LONGEST: usize = 65536;
-
 fn is_too_long(text: &[u8]) -> bool
-    ensures { result ≡ nat_lt most_bytes (length text.now) }
+    ensures { result ≡ nat_lt MOST_BYTES (length text.now) }
 {
-    text.len() > LONGEST
+    text.len() > MOST_BYTES
 }
 
 /// What lines say, and the first of them with a number word that is no number. The words of a line are

@@ -1,6 +1,5 @@
 pub mod Equality
 pub mod Words
-pub mod Limits
 pub mod Name
 pub mod Nested
 pub mod Written

@@ -1,11 +1,12 @@
 -- What holds of every script.
-use Rattle.std.specs.Prelude.{◌≡◌, ℕ, ◌≤◌, Bool, true, false, ◌&&◌, ◌==◌, nat_le, int_le, codes, List, [], ◌∷◌, ◌++◌, length, map, Option, Some, None, is_some, if◌then◌else◌, ℤ, pos}
+use Rattle.std.specs.Prelude.{◌≡◌, ℕ, ◌≤◌, Bool, true, false, ◌&&◌, ◌==◌, nat_lt, int_le, codes, List, [], ◌∷◌, ◌++◌, length, map, Option, Some, None, is_some, if◌then◌else◌, ℤ, pos}
 use Rattle.std.specs.Option.{option_map_or}
 use Rattle.std.specs.Ordering.{int_eq}
 use Rattle.std.specs.List.{list_any, list_all, flat_map}
 use Rattle.std.specs.Str.{bytes_eq}
 use Rattle.lvish_syntax.specs.Syntax.{Word, Version, SimpleKind, Cell, Set, Max, VariableKind, Simple, Map, Pair, Tally, Term, Local, Number, LetValue, Same, Combined, Threshold, Any, In, Has, Least, Total, Declaration, Variable, Pool, Statement, Block, Command, Let, Put, PutAt, Get, GetAt, Fork, Call, Handle, Freeze, FreezeEach, Procedure}
-use Rattle.lvish_syntax.specs.Limits.{most, highest}
+use Rattle.lvish_lattice.specs.declared.limits.TheConstants.{HIGHEST_LEVEL}
+use Rattle.lvish_syntax.specs.declared.limits.TheConstants.{MOST}
 use Rattle.lvish_syntax.specs.Name.{has_name, has_repeat, is_known}
 use Rattle.lvish_syntax.specs.Written.{is_declaration_written, is_procedure_written}
 use Rattle.lvish_syntax.specs.Version.{is_declaration_in, is_procedure_in}
@@ -102,7 +103,7 @@ kind_at k at = None
 
 -- from 0 to the highest state of a counter
 abbrev pub is_level : ℤ → Bool
-is_level z = int_le (pos 0) z && int_le z (pos highest)
+is_level z = int_le (pos 0) z && int_le z (pos HIGHEST_LEVEL)
 
 -- whether no two numbers differ
 abbrev pub are_one : List ℤ → Bool
@@ -215,11 +216,11 @@ pub record IsSound (version : Version) (ds : List Declaration) (ps : List Proced
   pub pools_differ : has_repeat (pool_names ds) ≡ false
   pub procedures_differ : has_repeat (procedure_names ps) ≡ false
   pub pools_known : list_all (is_pool_known ds) ds ≡ true
-  pub few_variables : length (variable_names ds) ≤ most
-  pub few_pools : length (pool_names ds) ≤ most
-  pub few_procedures : length ps ≤ most
+  pub few_variables : length (variable_names ds) ≤ MOST
+  pub few_pools : length (pool_names ds) ≤ MOST
+  pub few_procedures : length ps ≤ MOST
   -- no more than 64 blocks stand one in the other, the procedure the first of them
-  pub shallow : list_all (λ p. nat_le (all_depth (statements p.body)) 63) ps ≡ true
+  pub shallow : list_all (λ p. nat_lt (all_depth (statements p.body)) MOST) ps ≡ true
   pub pools_follow : follow_variables [] ds ≡ true
   pub declarations_written : list_all is_declaration_written ds ≡ true
   pub procedures_written : list_all is_procedure_written ps ≡ true

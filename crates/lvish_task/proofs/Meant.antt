@@ -31,7 +31,7 @@ use Rattle.lvish_task.specs.declared.script_code.ScriptCode.{ScriptCode}
 use Rattle.lvish_task.specs.CodeOf.{IsScriptCodeOf}
 use Rattle.lvish_task.specs.States.{events_below}
 use Rattle.lvish_task.specs.Meaning as m
-use Rattle.lvish_task.specs.Meaning.{Activation, LocalState, Turn, LocalAsked, turns, most_below, quiet, script_functions}
+use Rattle.lvish_task.specs.Meaning.{Activation, LocalState, Turn, LocalAsked, quiet, script_functions}
 use Rattle.lvish_task.specs.Run as f
 use Rattle.lvish_task.specs.Run.{FlatTurn, FlatAsked, stepped, routine, instruction, instructions, instructions_in, jump_in, landing, landed, is_frame_over, is_end, stack_fits, functions}
 use Rattle.lvish_task.specs.laws.Landing.{jump_is, landing_induction, landing_lands}
@@ -41,6 +41,7 @@ use Rattle.lvish_calculus.specs.SameRuns.{SameRequest, IsMatch}
 use Rattle.lvish_task.specs.Pictures.{CallsAlike, BeginsOnTwo, PicturesFrame, PicturesAll, Pictures}
 use Rattle.lvish_task.proofs.Inner.{rest_sound, first_sound}
 use Rattle.lvish_task.proofs.Alike as alike
+use Rattle.lvish_task.specs.declared.limits.TheConstants.{TURNS, MOST_BELOW}
 
 -- whether no statement follows
 abbrev none_follow : List Statement → Bool
@@ -102,7 +103,7 @@ module _ (script : Script) (c : flat.Code) (is_code : compile.IsCodeOf script c)
   more_is a b acts left [] (s ∷ ks) = refl
   more_is a b acts left [] [] = refl
 
-  pub returned_alike : (g : Frame) (a : Activation) (below : List Frame) (acts : List Activation) (left : ℕ) → Frames g a → PicturesAll script below acts → length below ≤ most_below → left ≤ turns → Pictures script (f.returned c g below left) (m.returned script a acts left a.events a.following)
+  pub returned_alike : (g : Frame) (a : Activation) (below : List Frame) (acts : List Activation) (left : ℕ) → Frames g a → PicturesAll script below acts → length below ≤ MOST_BELOW → left ≤ TURNS → Pictures script (f.returned c g below left) (m.returned script a acts left a.events a.following)
   returned_alike g a [] [] left pic all few some =
       subst (λ s. Pictures script (f.returned c g [] left) s) (sym (last_is a left a.events a.following))
       (record { top = landed_pictures g a pic; below = tt; left = refl; few_below = few; few_left = some })
@@ -127,12 +128,12 @@ module _ (script : Script) (c : flat.Code) (is_code : compile.IsCodeOf script c)
     pub request : SameRequest (Pictures script) a.request b.request
     pub at : Pictures script a.at b.at
 
-  went_alike : (l : Stack) (s : LocalState) → Pictures script l s → (go : Frame → List Frame → FlatAsked) (on : Activation → List Activation → LocalAsked) → ((g : Frame) (a : Activation) (below : List Frame) (acts : List Activation) → Frames g a → PicturesAll script below acts → length below ≤ most_below → AskedAlike (go g below) (on a acts)) → (t : FlatTurn) (u : Turn) → alike.TurnAlike script c is_code t u → AskedAlike (f.went c l go t) (m.went script s on u)
+  went_alike : (l : Stack) (s : LocalState) → Pictures script l s → (go : Frame → List Frame → FlatAsked) (on : Activation → List Activation → LocalAsked) → ((g : Frame) (a : Activation) (below : List Frame) (acts : List Activation) → Frames g a → PicturesAll script below acts → length below ≤ MOST_BELOW → AskedAlike (go g below) (on a acts)) → (t : FlatTurn) (u : Turn) → alike.TurnAlike script c is_code t u → AskedAlike (f.went c l go t) (m.went script s on u)
   went_alike l s pic go on next (f.Goes g below) (m.Goes a acts) h = next g a below acts h.0 h.1 h.2
   went_alike l s pic go on next (f.Asks r) (m.Asks q) h = record { request = h; at = pic }
   went_alike l s pic go on next t u h = absurd h
 
-  run_alike : (n : ℕ) (g : Frame) (a : Activation) (below : List Frame) (acts : List Activation) → Frames g a → PicturesAll script below acts → length below ≤ most_below → n ≤ turns → AskedAlike (f.run c n g below) (m.run script n a acts)
+  run_alike : (n : ℕ) (g : Frame) (a : Activation) (below : List Frame) (acts : List Activation) → Frames g a → PicturesAll script below acts → length below ≤ MOST_BELOW → n ≤ TURNS → AskedAlike (f.run c n g below) (m.run script n a acts)
   run_alike zero g a below acts pic all few some = record { request = tt; at = returned_alike g a below acts zero pic all few some }
   run_alike (suc n) g a below acts pic all few some =
       let l = f.returned c g below (suc n) in
@@ -184,7 +185,7 @@ module _ (script : Script) (c : flat.Code) (is_code : compile.IsCodeOf script c)
 
   -- no call is replied to
   call_unanswered : (k : ℕ) (xs : List ℤ) (caller : Frame) (below : List Frame) (r : Reply Any ℤ) → Replied (f.called c k xs caller below) r → ⊥
-  call_unanswered k xs caller below r = cond_both (nat_lt (length below) most_below) (f.entered c caller below (f.callee c k xs)) (f.Asks (ask.Fault fault.Deep)) (λ t. Replied t r → ⊥) (λ e. into (f.callee c k xs)) (λ e h. h)
+  call_unanswered k xs caller below r = cond_both (nat_lt (length below) MOST_BELOW) (f.entered c caller below (f.callee c k xs)) (f.Asks (ask.Fault fault.Deep)) (λ t. Replied t r → ⊥) (λ e. into (f.callee c k xs)) (λ e h. h)
     where
       into : (o : Option Frame) → Replied (f.entered c caller below o) r → ⊥
       into None h = h

@@ -23,6 +23,7 @@ use Rattle.lvish_compound.specs.declared.kind.Kind.TheVariants as kind
 use Rattle.lvish_task.specs.States.{put_at, read_at, events_below}
 use Rattle.lvish_compound.specs.declared.place.Place.TheVariants as place
 use Rattle.lvish_compound.specs.declared.number_test.Test.TheVariants as test
+use Rattle.lvish_task.specs.declared.limits.TheConstants.{TURNS, MOST_BELOW}
 
 -- ---- states
 
@@ -52,14 +53,6 @@ pub data Turn : Type 0 where
 pub record LocalAsked : Type 0 where
   pub request : Request Any AnyRead LocalState
   pub at : LocalState
-
--- local statements between two pauses
-abbrev pub turns : ℕ
-turns = 1000
-
--- the frames that a task can have below the innermost one
-abbrev pub most_below : ℕ
-most_below = 63
 
 -- ---- values
 
@@ -128,7 +121,7 @@ begins arguments p = quiet (bound p.parameters arguments) (statements p.body)
 
 -- a task in one frame
 abbrev pub local_alone : Activation → LocalState
-local_alone a = record { top = a; below = []; left = turns }
+local_alone a = record { top = a; below = []; left = TURNS }
 
 -- ---- the statements of a script
 
@@ -159,7 +152,7 @@ module _ (script : Script) where
 
   -- a call, which at 64 frames is too deep
   abbrev pub called : Word → List ℤ → Activation → List Activation → Turn
-  called n arguments caller below = if nat_lt (length below) most_below then entered arguments caller below (named n) else Asks (ask.Fault fault.Deep)
+  called n arguments caller below = if nat_lt (length below) MOST_BELOW then entered arguments caller below (named n) else Asks (ask.Fault fault.Deep)
 
   -- a `let`, which fails or gives its local a value
   abbrev pub assigned : Valuation → Word → List Statement → List Activation → Result ℤ ErrorKind → Turn
@@ -276,7 +269,7 @@ module _ (script : Script) where
 
   -- what follows the reply to the request that is made in this state
   abbrev pub resumed : LocalState → Reply Any ℤ → LocalState
-  resumed s r = record { top = resumed_top s.top r s.left; below = s.below; left = turns }
+  resumed s r = record { top = resumed_top s.top r s.left; below = s.below; left = TURNS }
 
   -- ---- the whole script
 

@@ -9,7 +9,8 @@ use Rattle.lvish_code.specs.Compile.{names_of, local_names, routine_of}
 use Rattle.lvish_code.specs.Follows.{Follows}
 use Rattle.lvish_task.specs.declared.frame.Frame.{Frame}
 use Rattle.lvish_task.specs.declared.stack.Stack.{Stack}
-use Rattle.lvish_task.specs.Meaning.{Activation, LocalState, turns, most_below, procedure}
+use Rattle.lvish_task.specs.Meaning.{Activation, LocalState, procedure}
+use Rattle.lvish_task.specs.declared.limits.TheConstants.{TURNS, MOST_BELOW}
 
 module _ (script : Script) where
   -- where an `each` has events left, the procedure that it calls takes two values
@@ -47,5 +48,5 @@ module _ (script : Script) where
     pub top : PicturesFrame l.top s.top
     pub below : PicturesAll l.below s.below
     pub left : l.left ≡ s.left
-    pub few_below : length l.below ≤ most_below
-    pub few_left : l.left ≤ turns
+    pub few_below : length l.below ≤ MOST_BELOW
+    pub few_left : l.left ≤ TURNS

@@ -19,7 +19,8 @@ use Rattle.lvish_compound.specs.declared.number_test.Test.TheVariants as test
 use Rattle.lvish_task.specs.declared.frame.Frame.{Frame}
 use Rattle.lvish_task.specs.declared.stack.Stack.{Stack}
 use Rattle.lvish_task.specs.declared.script_code.ScriptCode.{ScriptCode}
-use Rattle.lvish_task.specs.Meaning.{turns, most_below, chosen, whole_place, kind_meant}
+use Rattle.lvish_task.specs.Meaning.{chosen, whole_place, kind_meant}
+use Rattle.lvish_task.specs.declared.limits.TheConstants.{TURNS, MOST_BELOW}
 
 -- ---- values
 
@@ -97,7 +98,7 @@ begun k arguments r = record { place = 0; procedure = k; values = arguments ++ r
 
 -- a task in one frame
 abbrev pub stack_alone : Frame → Stack
-stack_alone f = record { left = turns; top = f; below = [] }
+stack_alone f = record { left = TURNS; top = f; below = [] }
 
 -- a put of a state, or a fault where no counter and no amount is this number
 abbrev pub putting : ℕ → Option Any → FlatTurn
@@ -183,7 +184,7 @@ module _ (c : flat.Code) where
 
   -- a call, which at 64 frames is too deep
   abbrev pub called : ℕ → List ℤ → Frame → List Frame → FlatTurn
-  called k arguments caller below = if nat_lt (length below) most_below then entered caller below (callee k arguments) else Asks (ask.Fault fault.Deep)
+  called k arguments caller below = if nat_lt (length below) MOST_BELOW then entered caller below (callee k arguments) else Asks (ask.Fault fault.Deep)
 
   -- what an action asks for
   abbrev pub action_turn : List ℤ → Action → FlatTurn
@@ -257,7 +258,7 @@ module _ (c : flat.Code) where
 
   -- at most 64 frames that fit, and at most 1,000 local statements left
   abbrev pub stack_fits : Stack → Bool
-  stack_fits l = fits_frame l.top && list_all fits_frame l.below && nat_le (length l.below) most_below && nat_le l.left turns
+  stack_fits l = fits_frame l.top && list_all fits_frame l.below && nat_le (length l.below) MOST_BELOW && nat_le l.left TURNS
 
   -- the request that comes next, and the local state in which it is made; End at once where the local state doesn't fit
   abbrev pub asked : Stack → FlatAsked
@@ -272,7 +273,7 @@ module _ (c : flat.Code) where
 
   -- the local state after the reply to the request that is made in this one; the same where it doesn't fit
   abbrev pub resumed : Stack → Reply Any ℤ → Stack
-  resumed l r = if stack_fits l then record { left = turns; top = resumed_top l.top r l.left; below = l.below } else l
+  resumed l r = if stack_fits l then record { left = TURNS; top = resumed_top l.top r l.left; below = l.below } else l
 
 -- ---- code as a program
 

@@ -5,9 +5,9 @@ ghost use Rattle.lvish_code.specs.Sound.{takes_count};
 
 use crate::frame::Frame;
 use crate::frames::Frames;
+use crate::limits::{MOST_BELOW, TURNS};
 use crate::local::Local;
 use crate::script_code::ScriptCode;
-use crate::turn::{DEPTH, TURNS};
 
 impl ScriptCode {
     /// Whether there is a procedure with this number, and it takes this many values.
@@ -47,14 +47,15 @@ impl ScriptCode {
 
     /// Whether the local state is one of this code: each frame's procedure is there, its place lies
     /// within it, it has a value for each of its locals, and an `each` calls a procedure of two
-    /// parameters; there are 64 frames at most, and 1,000 local statements left at most.
+    /// parameters; there are `MOST_BELOW` frames below the innermost one at most, and `TURNS`
+    /// local statements left at most.
     pub fn fits(&self, local: &Local) -> bool
         ensures { result ≡ is_fitting self.now local.now }
     {
         let stack = local.stack();
         self.fits_frame(&stack.top)
             && self.fit_all(&stack.below)
-            && stack.below.len() <= DEPTH
+            && stack.below.len() <= MOST_BELOW
             && stack.left <= TURNS
     }
 }

@@ -7,6 +7,7 @@ mod fits;
 mod frame;
 mod frames;
 pub mod laws;
+mod limits;
 mod local;
 mod meaning;
 mod program;

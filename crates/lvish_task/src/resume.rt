@@ -2,11 +2,12 @@ ghost use Rattle.std.specs.Prelude.{◌≡◌, ◌<◌, ◌+◌, ◌^◌, IfOk, 
 ghost use Rattle.lvish_task.specs.Run.{answered, asked, resumed, resumed_top};
 
 use crate::frame::Frame;
+use crate::limits::TURNS;
 use crate::local::Local;
 use crate::remaining::Remaining;
 use crate::script_code::ScriptCode;
 use crate::states::events_below;
-use crate::turn::{Ask, TURNS};
+use crate::turn::Ask;
 use lvish_calculus::{Reply, Request};
 use lvish_code::{Action, Instruction};
 use lvish_compound::Any;

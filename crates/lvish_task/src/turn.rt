@@ -5,6 +5,7 @@ ghost use Rattle.lvish_compound.specs.declared.event.Event.{Event};
 use crate::evaluate::{evaluate, place_of, test_of, value_of, values_of};
 use crate::frame::Frame;
 use crate::frames::Frames;
+use crate::limits::{MOST_BELOW, TURNS};
 use crate::local::Local;
 use crate::remaining::Remaining;
 use crate::script_code::ScriptCode;
@@ -19,12 +20,6 @@ use std::mem;
 
 /// What a task asks for.
 pub type Ask = Request<Any, AnyRead, Local>;
-
-/// The frames that a task can have below the innermost one.
-pub const DEPTH: usize = 63;
-
-/// The local statements between two pauses.
-pub const TURNS: usize = 1000;
 
 impl Stack {
     /// Goes into a frame above the others, as a local statement.
@@ -136,7 +131,7 @@ impl ScriptCode {
         ensures asks { IfOk result (λ r. r ≡ requested (called self.now.flat procedure (map (operand_value local.old.top.values) operands.now) (placed local.old.top (local.old.top.place + 1)) local.old.below)) }
         ensures moves { IfOk result (λ _. local.new ≡ moved local.old (called self.now.flat procedure (map (operand_value local.old.top.values) operands.now) (placed local.old.top (local.old.top.place + 1)) local.old.below)) }
     {
-        if local.below.len() >= DEPTH {
+        if local.below.len() >= MOST_BELOW {
             return Ok(Some(Request::Fault(ErrorKind::Deep)));
         }
         let arguments = values_of(alloc, &local.top.values, operands)?;
@@ -162,7 +157,7 @@ impl ScriptCode {
         ensures asks { IfOk result (λ r. r ≡ requested (flat_turn self.now.flat local.old)) }
         ensures moves { IfOk result (λ _. local.new ≡ moved local.old (flat_turn self.now.flat local.old)) }
     {
-        if local.below.len() >= DEPTH {
+        if local.below.len() >= MOST_BELOW {
             return Ok(Some(Request::Fault(ErrorKind::Deep)));
         }
         let arguments = [event.key, event.number].to_vec(alloc)?;

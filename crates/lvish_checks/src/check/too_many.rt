@@ -6,11 +6,8 @@ ghost use Rattle.lvish_checks.specs.Checks.{is_variable, is_pool, is_procedure, 
 use crate::declared::{is_pool, is_procedure, is_variable};
 use crate::line::Line;
 use crate::open_blocks::OpenBlocks;
-use lvish_syntax::Declaration;
+use lvish_syntax::{Declaration, MOST};
 use std::alloc::{AllocError, Global};
-
-/// How many variables, pools and procedures there may be, and how many blocks may be open.
-const MOST: usize = 64;
 
 /// How many variables, pools and procedures lines declare, and what is open below them.
 #[derive(Drop)]

@@ -40,6 +40,7 @@ use Rattle.lvish_compound.specs.laws.PartLaws.{OfCell, OfSet, OfMax, part_one_of
 use Rattle.lvish_compound.specs.Parts.{of_cell, joined}
 use Rattle.lvish_compound.specs.Places.{IsApart, fits_kind}
 use Rattle.lvish_compound.specs.StateReads.{part_answer}
+use Rattle.lvish_lattice.specs.declared.limits.TheConstants.{HIGHEST_LEVEL}
 
 first_contained : (n : ℤ) → Contains (n ∷ []) n
 first_contained n = (0, omega arith, refl)
@@ -167,13 +168,13 @@ pub sets_answers : (t : Test) → IsChecked set.joined (ByNumber t (StandsFor se
 sets_answers t checked s n =
     first_answers set.joined (StandsFor set_at) t ((sets_one t).1 checked) s (is_member int_eq (set.items_of s)) (λ n w h. (singleton n, refl, (sets_below s n (singleton n) refl).0 h)) (λ n m e. (sets_below s n m e).1) n
 
-number_by : (n : ℕ) (b : Bool) (e : nat_le n 1000 ≡ b) (c : MaxCounter) → max_by n b e ≡ Some c → c.value ≡ n
+number_by : (n : ℕ) (b : Bool) (e : nat_le n HIGHEST_LEVEL ≡ b) (c : MaxCounter) → max_by n b e ≡ Some c → c.value ≡ n
 number_by n true e c h = sym (ap (λ (x : MaxCounter). x.value) (same_Some _ _ h))
 number_by n false e c h = absurd cc
 
 -- the counter made from a number holds that number
 pub number_of_max : (n : ℤ) (c : MaxCounter) → max_of n ≡ Some c → max.number_of c ≡ n
-number_of_max (pos n) c h = ap pos (number_by n (nat_le n 1000) refl c h)
+number_of_max (pos n) c h = ap pos (number_by n (nat_le n HIGHEST_LEVEL) refl c h)
 number_of_max (negsuc n) c h = absurd cc
 
 maxes_below : (s : MaxCounter) (n : ℤ) (m : MaxCounter) → max_of n ≡ Some m → (is_reached (max.number_of s) n ≡ true) ↔ IsAtOrBelow max.joined m s

@@ -27,11 +27,12 @@ use Rattle.lvish_compound.specs.MapOf as map_of
 use Rattle.lvish_compound.specs.laws.MapLaws as map_laws
 use Rattle.lvish_compound.specs.Tally.{Amounts, amounts_of, amount, total, tally_by, tally_of, empty, joined, events_of, amount_test, alike, greater_level, IsPastTotal}
 use Rattle.lvish_compound.specs.laws.Pointwise.{bound, joins_below, IsPointwise, back, pointwise_is_join, viewed_has_events}
+use Rattle.lvish_compound.specs.declared.limits.TheConstants.{HIGHEST_TOTAL}
 
 pub same_tally : (s t : Tally) → s.amounts ≡ t.amounts → s ≡ t
 same_tally s t h =
     let totals : s.total ≡ t.total = s.counted ∙ ap (λ (m : Amounts). total_of m.entries) h ∙ sym t.counted in
-    let pairs : ◌≡◌ {A = (p : Amounts × ℕ) × ((p.1 ≡ total_of p.0.entries) × (p.1 ≤ 10000))} ((s.amounts, s.total), (s.counted, s.bounded)) ((t.amounts, t.total), (t.counted, t.bounded)) = Σ_prop_path (λ p. ×_prop (ℕ_set _ _) le_prop) (λ i. (h i, totals i)) in
+    let pairs : ◌≡◌ {A = (p : Amounts × ℕ) × ((p.1 ≡ total_of p.0.entries) × (p.1 ≤ HIGHEST_TOTAL))} ((s.amounts, s.total), (s.counted, s.bounded)) ((t.amounts, t.total), (t.counted, t.bounded)) = Σ_prop_path (λ p. ×_prop (ℕ_set _ _) le_prop) (λ i. (h i, totals i)) in
     λ i. record { amounts = (pairs i).0.0; total = (pairs i).0.1; counted = (pairs i).1.0; bounded = (pairs i).1.1 }
 
 ties : (x y : ℤ) → int_cmp x y ≡ Equal → x ≡ y
@@ -66,31 +67,31 @@ total_of_join a b c h = join_total a.entries b.entries c.entries a.ascending b.a
 pub total_below : (a b : Amounts) → IsAtOrBelow map_of.joined a b → total_of a.entries ≤ total_of b.entries
 total_below a b h = omega (arith, total_of_join a b b h)
 
-made : (m : Amounts) (b : Bool) (h : nat_le (total_of m.entries) 10000 ≡ b) (t : Tally) → t.amounts ≡ m → tally_by m b h ≡ Some t
+made : (m : Amounts) (b : Bool) (h : nat_le (total_of m.entries) HIGHEST_TOTAL ≡ b) (t : Tally) → t.amounts ≡ m → tally_by m b h ≡ Some t
 made m true h t e = ap (λ (x : Tally). Some x) (same_tally _ t (sym e))
-made m false h t e = let lt = leb-false (total_of m.entries) 10000 h in absurd (omega (arith, lt, t.counted, t.bounded, ap (λ (v : Amounts). total_of v.entries) e))
+made m false h t e = let lt = leb-false (total_of m.entries) HIGHEST_TOTAL h in absurd (omega (arith, lt, t.counted, t.bounded, ap (λ (v : Amounts). total_of v.entries) e))
 
 pub made_is : (m : Amounts) (t : Tally) → t.amounts ≡ m → tally_of m ≡ Some t
-made_is m t e = made m (nat_le (total_of m.entries) 10000) refl t e
+made_is m t e = made m (nat_le (total_of m.entries) HIGHEST_TOTAL) refl t e
 
-made_from : (m : Amounts) (b : Bool) (h : nat_le (total_of m.entries) 10000 ≡ b) (t : Tally) → tally_by m b h ≡ Some t → t.amounts ≡ m
+made_from : (m : Amounts) (b : Bool) (h : nat_le (total_of m.entries) HIGHEST_TOTAL ≡ b) (t : Tally) → tally_by m b h ≡ Some t → t.amounts ≡ m
 made_from m true h t e = ap amounts_of (sym (same_Some _ _ e))
 made_from m false h t e = absurd cc
 
 -- a map whose total is within the bound is that of a tally
-pub made_there : (m : Amounts) → total_of m.entries ≤ 10000 → (t : Tally) × (tally_of m ≡ Some t) × (t.amounts ≡ m)
+pub made_there : (m : Amounts) → total_of m.entries ≤ HIGHEST_TOTAL → (t : Tally) × (tally_of m ≡ Some t) × (t.amounts ≡ m)
 made_there m h = let t : Tally = record { amounts = m; total = total_of m.entries; counted = refl; bounded = h } in (t, made_is m t refl, refl)
 
-too_much : (m : Amounts) (b : Bool) (h : nat_le (total_of m.entries) 10000 ≡ b) → 10000 < total_of m.entries → tally_by m b h ≡ None
-too_much m true h l = let le = leb-true (total_of m.entries) 10000 h in absurd (omega (arith, le, l))
+too_much : (m : Amounts) (b : Bool) (h : nat_le (total_of m.entries) HIGHEST_TOTAL ≡ b) → HIGHEST_TOTAL < total_of m.entries → tally_by m b h ≡ None
+too_much m true h l = let le = leb-true (total_of m.entries) HIGHEST_TOTAL h in absurd (omega (arith, le, l))
 too_much m false h l = refl
 
 -- a map whose total is past the bound is that of no tally
-pub past_bound : (m : Amounts) → 10000 < total_of m.entries → tally_of m ≡ None
-past_bound m l = too_much m (nat_le (total_of m.entries) 10000) refl l
+pub past_bound : (m : Amounts) → HIGHEST_TOTAL < total_of m.entries → tally_of m ≡ None
+past_bound m l = too_much m (nat_le (total_of m.entries) HIGHEST_TOTAL) refl l
 
 pub joined_amounts : (s t u : Tally) → joined s t ≡ Some u → map_of.joined s.amounts t.amounts ≡ Some u.amounts
-joined_amounts s t u e = let m = bound tally_of (map_of.joined s.amounts t.amounts) u e in m.1 ∙ ap Some (sym (made_from m.0 (nat_le (total_of m.0.entries) 10000) refl u m.2))
+joined_amounts s t u e = let m = bound tally_of (map_of.joined s.amounts t.amounts) u e in m.1 ∙ ap Some (sym (made_from m.0 (nat_le (total_of m.0.entries) HIGHEST_TOTAL) refl u m.2))
 
 -- two tallies below a third have a join
 there : (s t u : Tally) → IsAtOrBelow map_of.joined s.amounts u.amounts → IsAtOrBelow map_of.joined t.amounts u.amounts → (v : Tally) × (joined s t ≡ Some v)
@@ -146,14 +147,14 @@ greater_at s t c h q = greater (amount s q) (amount t q) (map_of.at c q) (map_la
 pub amounts_join : (a b : Amounts) → (c : Amounts) × (map_of.joined a b ≡ Some c)
 amounts_join a b = map_laws.joins_exist int_cmp_total ties counters_are_join amount_itself same_amount a b (λ q. (_, refl))
 
-beyond : (m : Amounts) (b : Bool) (h : nat_le (total_of m.entries) 10000 ≡ b) → tally_by m b h ≡ None → 10000 < total_of m.entries
+beyond : (m : Amounts) (b : Bool) (h : nat_le (total_of m.entries) HIGHEST_TOTAL ≡ b) → tally_by m b h ≡ None → HIGHEST_TOTAL < total_of m.entries
 beyond m true h e = absurd cc
-beyond m false h e = let lt = leb-false (total_of m.entries) 10000 h in omega (arith, lt)
+beyond m false h e = let lt = leb-false (total_of m.entries) HIGHEST_TOTAL h in omega (arith, lt)
 
 top_is_past : (s t : Tally) → joined s t ≡ None → IsPastTotal s t
 top_is_past s t h =
     let c : (c : Amounts) × (map_of.joined s.amounts t.amounts ≡ Some c) = amounts_join s.amounts t.amounts in
-    let past : 10000 < total_of c.0.entries = beyond c.0 (nat_le (total_of c.0.entries) 10000) refl (sym (ap (option_and_then tally_of) c.1) ∙ h) in
+    let past : HIGHEST_TOTAL < total_of c.0.entries = beyond c.0 (nat_le (total_of c.0.entries) HIGHEST_TOTAL) refl (sym (ap (option_and_then tally_of) c.1) ∙ h) in
     let sum : sum_by (greater_level s t) (map key c.0.entries) ≡ total_of c.0.entries = ap (λ (f : ℤ → ℕ). sum_by f (map key c.0.entries)) (λ i q. sym (greater_at s t c.0 c.1 q) i) ∙ keys_total c.0.entries c.0.ascending in
     (map key c.0.entries, c.0.ascending, omega (arith, past, sum))
 

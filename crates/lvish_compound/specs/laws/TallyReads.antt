@@ -27,6 +27,8 @@ use Rattle.lvish_compound.specs.States.{of_tally, amount, joined, tally_in}
 use Rattle.lvish_compound.specs.Tally as tally
 use Rattle.lvish_compound.specs.Tally.{Amounts, single, total}
 use Rattle.lvish_compound.specs.laws.TallyLaws.{same_amount, amount_itself, joined_tally, amounts_below, tally_is_join, total_grows, total_reached}
+use Rattle.lvish_lattice.specs.declared.limits.TheConstants.{HIGHEST_LEVEL}
+use Rattle.lvish_compound.specs.declared.limits.TheConstants.{HIGHEST_TOTAL}
 
 -- the map of one key and its amount
 abbrev one_key : ℤ → MaxCounter → Amounts
@@ -62,7 +64,7 @@ amount_answers k t h = answered_same (composed (amounts_embedded k) tallies_embe
 
 -- a tally with the greatest total
 thousand : MaxCounter
-thousand = record { value = 1000; bounded = lit≤ tt }
+thousand = record { value = HIGHEST_LEVEL; bounded = lit≤ tt }
 
 full : Tally
 unfolding thousand
@@ -72,12 +74,12 @@ full = record {
     ascending = rises_by_test int_cmp _ refl;
     above = refl;
   };
-  total = 10000;
+  total = HIGHEST_TOTAL;
   counted = refl;
   bounded = lit≤ tt;
 }
 
-total_of_full : total full ≡ 10000
+total_of_full : total full ≡ HIGHEST_TOTAL
 unfolding full thousand
 total_of_full = refl
 
@@ -87,7 +89,7 @@ TotalIs n t = pos (total t) ≡ n
 
 -- below the greatest there is one of each total
 one_of_total : (n : ℤ) → is_total n ≡ true → (t : Tally) × IsAtOrBelow tally.joined t full × TotalIs n t
-one_of_total (pos n) h = let le = leb-true n 10000 h in let w = total_reached n full (omega (arith, le, total_of_full)) in (w.0, w.1, ap pos w.2)
+one_of_total (pos n) h = let le = leb-true n HIGHEST_TOTAL h in let w = total_reached n full (omega (arith, le, total_of_full)) in (w.0, w.1, ap pos w.2)
 one_of_total (negsuc n) h = absurd cc
 
 -- two tallies below one have a join

@@ -17,11 +17,12 @@ use Rattle.lvish_lattice.specs.declared.max_counter.Levels.{Levels}
 use Rattle.lvish_lattice.specs.Lattice.{IsIdentity, IsJoin, IsAtOrBelow, HasEvents, fresh_of, IsChecked, IsAnswered, IsWatched}
 use Rattle.lvish_lattice.specs.Listed.{found, found_one, mapped, unmapped, some_is_not_none, one_of, one_is_each, missed}
 use Rattle.lvish_lattice.specs.MaxCounter.{number_of, zero as none, joined, events_of, listed, Member, answer_of, spot_of, watched}
+use Rattle.lvish_lattice.specs.declared.limits.TheConstants.{HIGHEST_LEVEL}
 
 -- two counters of the same number are the same
 pub same_counter : (a b : MaxCounter) → a.value ≡ b.value → a ≡ b
 same_counter a b h =
-    let pairs : ◌≡◌ {A = (n : ℕ) × (n ≤ 1000)} (a.value, a.bounded) (b.value, b.bounded) = Σ_prop_path (λ n. le_prop) h in
+    let pairs : ◌≡◌ {A = (n : ℕ) × (n ≤ HIGHEST_LEVEL)} (a.value, a.bounded) (b.value, b.bounded) = Σ_prop_path (λ n. le_prop) h in
     λ i. record { value = (pairs i).0; bounded = (pairs i).1 }
 
 pub counters_identical : (test : MaxCounter → MaxCounter → Bool) → ((a b : MaxCounter) → test a b ≡ nat_eq a.value b.value) → IsIdentity test

@@ -24,12 +24,13 @@ use Rattle.lvish_code.specs.laws.Lists.{list_all_get}
 use Rattle.lvish_task.specs.declared.frame.Frame.{Frame}
 use Rattle.lvish_task.specs.declared.stack.Stack.{Stack}
 use Rattle.lvish_task.specs.Run.{FlatTurn, Goes, Asks, FlatAsked, operand_value, expression_value, landing, placed, begun, stack_alone, answered, assigned, putting, getting, instructions, instructions_in, instruction, routine, landed, callee_in, callee, started, nowhere, entered, called, action_turn, instruction_turn, frame_turn, flat_turn, is_frame_over, returned, settled, went, run, fits_in, fits_frame, stack_fits, asked, frame_after, resumed_top, resumed}
-use Rattle.lvish_task.specs.Meaning.{turns, most_below, chosen}
+use Rattle.lvish_task.specs.Meaning.{chosen}
 use Rattle.lvish_task.specs.States.{events_below}
 use Rattle.lvish_task.specs.Freezing.{is_freeze_action, is_freeze, routine_freezes, code_freezes}
 use Rattle.lvish_task.specs.laws.Landing.{jump_is, landing_induction}
 use Rattle.lvish_task.specs.laws.Settling.{settled_again, returned_left, Makes, asked_here}
 use Rattle.lvish_task.specs.laws.Reads.{passes, read_checked, apart_at}
+use Rattle.lvish_task.specs.declared.limits.TheConstants.{TURNS, MOST_BELOW}
 
 -- whether an `each` calls a procedure of two parameters
 abbrev pub each_fits : flat.Code → ℕ → List Event → Bool
@@ -56,12 +57,12 @@ module _ (c : flat.Code) where
   pub record AreFrames (top : Frame) (below : List Frame) : Type 0 where
     pub first : IsFrame top
     pub others : list_all (fits_frame c) below ≡ true
-    pub few : length below ≤ most_below
+    pub few : length below ≤ MOST_BELOW
 
   -- a local state that fits
   pub record IsLocal (l : Stack) : Type 0 where
     pub frames : AreFrames l.top l.below
-    pub left : l.left ≤ turns
+    pub left : l.left ≤ TURNS
 
   to_frame : (f : Frame) → fits_frame c f ≡ true → IsFrame f
   to_frame f e = by (routine c f.procedure) refl e
@@ -86,7 +87,7 @@ module _ (c : flat.Code) where
   pub of_local : (l : Stack) → IsLocal l → stack_fits c l ≡ true
   of_local l i =
       let f = i.frames in
-      and_from _ _ (and_from _ _ (and_from _ _ (of_frame l.top f.first) f.others) (le-leb (length l.below) most_below f.few)) (le-leb l.left turns i.left)
+      and_from _ _ (and_from _ _ (and_from _ _ (of_frame l.top f.first) f.others) (le-leb (length l.below) MOST_BELOW f.few)) (le-leb l.left TURNS i.left)
 
   -- at another place within the procedure, with as many values
   moved_fits : (f : Frame) (i : IsFrame f) (q : ℕ) (values : List ℤ) → q < length i.routine_of.instructions → length values ≡ length f.values → IsFrame (record { place = q; procedure = f.procedure; values = values; each = f.each; events = f.events })
@@ -103,7 +104,7 @@ module _ (c : flat.Code) where
       let here = subst (λ js. landing js f.place < length is) (sym (instructions_are f i)) there in
       moved_fits f i (landing (instructions c f) f.place) f.values here refl
 
-  returned_fits : (f : Frame) (below : List Frame) (left : ℕ) → AreFrames f below → left ≤ turns → IsLocal (returned c f below left)
+  returned_fits : (f : Frame) (below : List Frame) (left : ℕ) → AreFrames f below → left ≤ TURNS → IsLocal (returned c f below left)
   returned_fits f [] left i some = record { frames = record { first = frame_landed f i.first; others = refl; few = i.few }; left = some }
   returned_fits f (h ∷ below) left i some =
       let k = and_parts _ _ i.others in
@@ -167,9 +168,9 @@ module _ (c : flat.Code) where
 
   called_fits : (k : ℕ) (xs : List ℤ) (caller : Frame) (below : List Frame) → IsFrame caller → list_all (fits_frame c) below ≡ true → TurnFits (called c k xs caller below)
   called_fits k xs caller below i all =
-      cond_both (nat_lt (length below) most_below) (entered c caller below (callee c k xs)) (Asks (ask.Fault fault.Deep)) TurnFits (λ e. into (callee c k xs) (callee_fits k xs) (ltb-true _ _ e)) (λ e. tt)
+      cond_both (nat_lt (length below) MOST_BELOW) (entered c caller below (callee c k xs)) (Asks (ask.Fault fault.Deep)) TurnFits (λ e. into (callee c k xs) (callee_fits k xs) (ltb-true _ _ e)) (λ e. tt)
     where
-      into : (o : Option Frame) → ((f : Frame) → o ≡ Some f → IsFrame f) → length below < most_below → TurnFits (entered c caller below o)
+      into : (o : Option Frame) → ((f : Frame) → o ≡ Some f → IsFrame f) → length below < MOST_BELOW → TurnFits (entered c caller below o)
       into None there few = tt
       into (Some f) there few = record { first = there f refl; others = and_from _ _ (of_frame caller i) all; few = omega arith }
 
@@ -256,7 +257,7 @@ module _ (c : flat.Code) where
   went_fits l n i is left on (Goes top below) e t = on top below t
   went_fits l n i is left on (Asks r) e t = record { at = i; request = t; still = is; makes = subst (λ m. Makes c m l r) (sym left) e }
 
-  run_fits : (n : ℕ) (top : Frame) (below : List Frame) → AreFrames top below → n ≤ turns → AskedFits (run c n top below)
+  run_fits : (n : ℕ) (top : Frame) (below : List Frame) → AreFrames top below → n ≤ TURNS → AskedFits (run c n top below)
   run_fits zero top below s few =
       let pauses = subst (λ m. Makes c m (returned c top below zero) ask.Pause) (sym (returned_left c top below zero)) refl in
       record { at = returned_fits top below zero s few; request = tt; still = settled_again c top below zero; makes = pauses }
@@ -313,5 +314,5 @@ module _ (c : flat.Code) where
   pub resumed_fits : (l : Stack) (r : Reply Any ℤ) → stack_fits c l ≡ true → stack_fits c (resumed c l r) ≡ true
   resumed_fits l r e =
       let f = (to_local l e).frames in
-      let next : Stack = record { left = turns; top = resumed_top c l.top r l.left; below = l.below } in
+      let next : Stack = record { left = TURNS; top = resumed_top c l.top r l.left; below = l.below } in
       ap (stack_fits c) (cond-true _ _ _ e) ∙ of_local next (record { frames = record { first = resumed_top_fits l.top f.first r l.left; others = f.others; few = f.few }; left = omega arith })

@@ -1,4 +1,3 @@
-use Rattle.std.proofs.Common.{◌∙◌}
 use Rattle.std.proofs.lemmas.Option.{slice_get_within}
 use Rattle.lvish_core.proofs.Acts.{freezing}
 use Rattle.lvish_core.proofs.Gets.{get_some}

@@ -1,4 +1,4 @@
-use Rattle.std.proofs.Common.{[], sym, ap, ◌∙◌, refl, subst}
+use Rattle.std.proofs.Common.{[], ap, ◌∙◌, refl}
 use Rattle.std.specs.Map.Iter.{deref_pair}
 use Rattle.std.proofs.lemmas.Map.Iter.{rest_all, rest_more}
 use Rattle.std.proofs.lemmas.Bool.{both_ways, false≢true}

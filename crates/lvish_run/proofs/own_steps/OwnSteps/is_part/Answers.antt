@@ -1,4 +1,4 @@
-use Rattle.std.proofs.Common.{◌≡◌, ◌≤◌, length, IsTrue, Some, ◌∙◌, true, false, sym, ap, subst, refl, slice_get, arith}
+use Rattle.std.proofs.Common.{◌≤◌, length, IsTrue, true, false, sym, subst, refl, arith}
 use Rattle.std.proofs.lemmas.Bool.{eq-eqb, ne_eqb}
 use Rattle.std.proofs.lemmas.Option.{slice_get_read}
 use Rattle.std.proofs.lemmas.Option.{slice_get_within}

@@ -1,5 +1,4 @@
 use Rattle.std.proofs.Common.{◌≡◌, IsTrue, sym, ap, subst, ◌∙◌}
-use Rattle.lvish_calculus.specs.declared.label.Label.TheVariants.{Act, Hand}
 use Rattle.lvish_compound.specs.declared.event.Event.{Event}
 use Rattle.lvish_names.specs.Names.{Name, Handler}
 use Rattle.lvish_run.specs.declared.own_steps.Step.TheVariants.{Act as ActOn, Hand as HandTo}
