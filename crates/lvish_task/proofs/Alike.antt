@@ -31,7 +31,8 @@ use Rattle.lvish_code.specs.laws.Following.{follows_start, does_here}
 use Rattle.lvish_task.specs.declared.frame.Frame.{Frame}
 use Rattle.lvish_task.specs.States.{put_at, read_at}
 use Rattle.lvish_task.specs.Meaning as m
-use Rattle.lvish_task.specs.Meaning.{most_below, Valuation, Activation, Turn, term_value, with_value, quiet, begins}
+use Rattle.lvish_task.specs.Meaning.{Valuation, Activation, Turn, term_value, with_value, quiet, begins}
+use Rattle.lvish_task.specs.declared.limits.TheConstants.{MOST_BELOW}
 use Rattle.lvish_task.specs.Run as f
 use Rattle.lvish_task.specs.Run.{FlatTurn, operand_value, target_place, placed, stepped, begun, nowhere, routine, instructions, instruction, jump_in, callee, callee_in}
 use Rattle.lvish_calculus.specs.SameRuns.{SameRequest}
@@ -98,7 +99,7 @@ module _ (script : Script) (c : flat.Code) (is_code : compile.IsCodeOf script c)
   -- ---- turns
 
   abbrev pub TurnAlike : FlatTurn → Turn → Type 0
-  TurnAlike (f.Goes top below) (m.Goes a acts) = PicturesFrame script top a × PicturesAll script below acts × (length below ≤ most_below)
+  TurnAlike (f.Goes top below) (m.Goes a acts) = PicturesFrame script top a × PicturesAll script below acts × (length below ≤ MOST_BELOW)
   TurnAlike (f.Goes top below) (m.Asks q) = ⊥
   TurnAlike (f.Asks r) (m.Goes a acts) = ⊥
   TurnAlike (f.Asks r) (m.Asks q) = SameRequest (Pictures script) r q
@@ -110,10 +111,10 @@ module _ (script : Script) (c : flat.Code) (is_code : compile.IsCodeOf script c)
 
   pub called_alike : (n : Word) (k : ℕ) (p : Procedure) (xs : List ℤ) (caller : Frame) (a : Activation) (below : List Frame) (acts : List Activation) → k ≡ m.procedure script n → slice_get script.procedures k ≡ Some p → length xs ≡ length p.parameters → PicturesFrame script caller a → PicturesAll script below acts → TurnAlike (f.called c k xs caller below) (m.called script n xs a acts)
   called_alike n k p xs caller a below acts is e count pic all =
-      subst (λ len. TurnAlike (f.called c k xs caller below) (if nat_lt len most_below then m.entered script xs a acts (m.named script n) else m.Asks (ask.Fault fault.Deep))) (pictures_length below acts all)
-      (by (nat_lt (length below) most_below) refl)
+      subst (λ len. TurnAlike (f.called c k xs caller below) (if nat_lt len MOST_BELOW then m.entered script xs a acts (m.named script n) else m.Asks (ask.Fault fault.Deep))) (pictures_length below acts all)
+      (by (nat_lt (length below) MOST_BELOW) refl)
     where
-      by : (b : Bool) → nat_lt (length below) most_below ≡ b → TurnAlike (if b then f.entered c caller below (callee c k xs) else f.Asks (ask.Fault fault.Deep)) (if b then m.entered script xs a acts (m.named script n) else m.Asks (ask.Fault fault.Deep))
+      by : (b : Bool) → nat_lt (length below) MOST_BELOW ≡ b → TurnAlike (if b then f.entered c caller below (callee c k xs) else f.Asks (ask.Fault fault.Deep)) (if b then m.entered script xs a acts (m.named script n) else m.Asks (ask.Fault fault.Deep))
       by true less =
           let few = ltb-true _ _ less in
           let nested_is : m.named script n ≡ Some p = found_at n ∙ ap (slice_get script.procedures) (sym is) ∙ e in
@@ -167,7 +168,7 @@ module _ (script : Script) (c : flat.Code) (is_code : compile.IsCodeOf script c)
           sound = sound;
         }
 
-    assigned_alike : (x : Word) (ks : List Statement) (below : List Frame) (acts : List Activation) (d e : Result ℤ ErrorKind) → d ≡ e → has_name x (locals_of pic.procedure) ≡ true → Follows here code (g.place + 1) ks → SoundList ks → PicturesAll script below acts → length below ≤ most_below → TurnAlike (f.assigned g below (name_number (local_names pic.procedure) x) d) (m.assigned script a.values x ks acts e)
+    assigned_alike : (x : Word) (ks : List Statement) (below : List Frame) (acts : List Activation) (d e : Result ℤ ErrorKind) → d ≡ e → has_name x (locals_of pic.procedure) ≡ true → Follows here code (g.place + 1) ks → SoundList ks → PicturesAll script below acts → length below ≤ MOST_BELOW → TurnAlike (f.assigned g below (name_number (local_names pic.procedure) x) d) (m.assigned script a.values x ks acts e)
     assigned_alike x ks below acts d e same has follows sound all few = subst (λ r. TurnAlike (f.assigned g below (name_number (local_names pic.procedure) x) d) (m.assigned script a.values x ks acts r)) same (itself d)
       where
         itself : (d : Result ℤ ErrorKind) → TurnAlike (f.assigned g below (name_number (local_names pic.procedure) x) d) (m.assigned script a.values x ks acts d)
@@ -199,7 +200,7 @@ module _ (script : Script) (c : flat.Code) (is_code : compile.IsCodeOf script c)
     known : (n : Word) (ts : List Term) → list_any (takes n (length ts)) script.procedures ≡ true → list_any (takes n (length (map (operand_value g.values) (map (operand_of here) ts)))) script.procedures ≡ true
     known n ts e = ap (λ k. list_any (takes n k) script.procedures) (length-map (map (operand_of here) ts) (operand_value g.values) ∙ length-map ts (operand_of here)) ∙ e
 
-    module _ (below : List Frame) (acts : List Activation) (all : PicturesAll script below acts) (few : length below ≤ most_below) (rest : List Statement) (follows : Follows here code (g.place + 1) rest) (sound : SoundList rest) where
+    module _ (below : List Frame) (acts : List Activation) (all : PicturesAll script below acts) (few : length below ≤ MOST_BELOW) (rest : List Statement) (follows : Follows here code (g.place + 1) rest) (sound : SoundList rest) where
       pub command_alike : (d : Command) → SoundCommand d → TurnAlike (f.instruction_turn c g below (Some (command_code here d))) (m.command_turn script a.values rest acts d)
       command_alike (command.Let x v) e = assigned_alike x rest below acts _ _ (given_at here g.values a.values pic.values v) (and_parts _ _ e).0 follows sound all few
       command_alike (command.Put v t) e = puts_alike (m.variable script v) _ _ _ _ (whole_is v (and_parts _ _ e).0) (value t)
@@ -224,7 +225,7 @@ module _ (script : Script) (c : flat.Code) (is_code : compile.IsCodeOf script c)
         by true = moved q ls second sound_second
         by false = moved p ks first sound_first
 
-    module _ (below : List Frame) (acts : List Activation) (all : PicturesAll script below acts) (few : length below ≤ most_below) where
+    module _ (below : List Frame) (acts : List Activation) (all : PicturesAll script below acts) (few : length below ≤ MOST_BELOW) where
       abbrev Nested : List Statement → Turn
       Nested ks = m.list_turn script a.values acts ks
 
@@ -277,7 +278,7 @@ module _ (script : Script) (c : flat.Code) (is_code : compile.IsCodeOf script c)
       more (d ∷ ds) calls = calls
 
   -- a turn of the code is one of the statements, where no jump stands at the place
-  pub turn_alike : (g : Frame) (a : Activation) (below : List Frame) (acts : List Activation) → PicturesFrame script g a → PicturesAll script below acts → length below ≤ most_below → jump_in (instruction c g) ≡ None → TurnAlike (f.frame_turn c g below g.events) (m.frame_turn script a acts a.events)
+  pub turn_alike : (g : Frame) (a : Activation) (below : List Frame) (acts : List Activation) → PicturesFrame script g a → PicturesAll script below acts → length below ≤ MOST_BELOW → jump_in (instruction c g) ≡ None → TurnAlike (f.frame_turn c g below g.events) (m.frame_turn script a acts a.events)
   turn_alike g a below acts pic all few landed = subst (λ es. TurnAlike (f.frame_turn c g below es) (m.frame_turn script a acts a.events)) (sym pic.events) (by a.events refl)
     where
       by : (es : List Event) → a.events ≡ es → TurnAlike (f.frame_turn c g below es) (m.frame_turn script a acts es)

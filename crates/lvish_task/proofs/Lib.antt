@@ -5,3 +5,4 @@ mod Places
 mod Alike
 mod Meant
 mod Freezing
+mod Strides

@@ -15,4 +15,5 @@ AllLand is = (place : ℕ) (i : Instruction) → slice_get is place ≡ Some i �
 -- the places to which an instruction leads are numbers of 64 bits
 abbrev pub HasPlaces : ℕ → Instruction → Type 0
 HasPlaces place (SkipIfZero a n) = place + 1 + n < 2 ^ 64
+HasPlaces place (GoOn n) = place + 1 + n < 2 ^ 64
 HasPlaces place i = place + 1 < 2 ^ 64

@@ -5,6 +5,7 @@ pub mod States
 pub mod Meaning
 pub mod Run
 pub mod Jumps
+pub mod Stride
 pub mod CodeOf
 pub mod NoCode
 pub mod Pictures

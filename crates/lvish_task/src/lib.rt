@@ -18,6 +18,7 @@ mod script_code;
 mod stack;
 mod states;
 mod step;
+mod stride;
 mod turn;
 mod values;
 

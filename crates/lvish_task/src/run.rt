@@ -6,11 +6,12 @@ ghost use Rattle.lvish_task.specs.Jumps.{JumpsStay, AllLand, HasPlaces};
 use crate::frame::Frame;
 use crate::script_code::ScriptCode;
 use crate::stack::Stack;
+use crate::stride::next;
 use lvish_code::{Instruction, Routine};
 use std::alloc::{AllocError, Global};
 
 /// The instruction at a place.
-fn at(instructions: &[Instruction], place: usize) -> Option<&Instruction>
+pub fn at(instructions: &[Instruction], place: usize) -> Option<&Instruction>
     ensures { option_copied result ≡ slice_get instructions.now place }
 {
     instructions.get(place)
@@ -71,7 +72,7 @@ impl ScriptCode {
         ensures value { option_copied result ≡ instruction self.now.flat frame.now }
         ensures room { IfSome result (λ i. HasPlaces frame.now.place i.now) }
     {
-        at(self.instructions(frame.procedure), frame.place)
+        next(self.instructions(frame.procedure), frame.place)
     }
 
     /// Moves past the jumps at the frame's place, and answers whether nothing follows there.

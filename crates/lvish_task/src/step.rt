@@ -31,7 +31,7 @@ impl Stack {
     }
 
     /// A test, which leads to the one place where the operand isn't 0 and to the other where it is.
-    fn test(&mut self, operand: Operand, if_not: usize, if_zero: usize)
+    pub(crate) fn test(&mut self, operand: Operand, if_not: usize, if_zero: usize)
         requires { 0 < self.old.left }
         ensures { self.new ≡ record { left = self.old.left - 1; top = placed self.old.top (chosen (operand_value self.old.top.values operand) if_not if_zero); below = self.old.below } }
     {
@@ -119,11 +119,13 @@ impl ScriptCode {
         ensures request { IfOk result (λ r. r ≡ (run self.now.flat local.old.left local.old.top local.old.below).request) }
         ensures at { IfOk result (λ _. local.new ≡ (run self.now.flat local.old.left local.old.top local.old.below).at) }
     {
+        self.stride(local);
         self.settle(local);
         while local.left > 0 {
             if let Some(request) = self.turn(alloc, local)? {
                 return Ok(request);
             }
+            self.stride(local);
             self.settle(local);
         }
         Ok(Request::Pause)
