@@ -8,7 +8,7 @@ mod scripts;
 use gates::{Away, Meeting, Resting, fork_of_main};
 use lvish_calculus::Label;
 use lvish_compound::{Any, Event};
-use lvish_run::{Open, Outcome, Report, RunFault, TraceEntry, run, run_picks};
+use lvish_run::{MOST_STEPS, Open, Outcome, Report, RunFault, TraceEntry, run, run_picks};
 use lvish_script::read_script;
 use lvish_syntax::Script;
 use std::alloc::{AllocError, Global};
@@ -55,7 +55,7 @@ fn run_at_last<R: Threads + Wait + Sync>(
 ) -> Result<Report<Any, Event>, RunFault>
     requires some { 0 < workers }
     requires few { workers ≤ 8 }
-    requires bounded { budget ≤ 1000000 }
+    requires bounded { budget ≤ MOST_STEPS }
 {
     match run(rt, alloc, script, workers, budget, &Open) {
         Err(RunFault::Memory | RunFault::NoThread) => {
@@ -138,7 +138,7 @@ fn outcome_of<R: Threads + Wait + Sync>(
 ) -> Result<String, Fail>
     requires some { 0 < workers }
     requires few { workers ≤ 8 }
-    requires bounded { budget ≤ 1000000 }
+    requires bounded { budget ≤ MOST_STEPS }
 {
     let script = read_script(alloc, text.as_bytes())?;
     let report = run_at_last(rt, alloc, &script, workers, budget)?;

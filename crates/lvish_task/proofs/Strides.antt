@@ -54,6 +54,7 @@ module _ (c : flat.Code) where
     where
       rest : settled c l ≡ l
       rest = at_rest l none (ap jump_in is ∙ here) (ap is_end is ∙ more)
+
       by : (n : ℕ) → l.left ≡ n → 0 < n → AsksAlike l m
       by zero left z = absurd (omega (arith, z))
       by (suc k) left z =

@@ -13,14 +13,14 @@ use crate::answer::{RowAnswer, done, refusal};
 use crate::answers::likeness::{are_alike, is_same_outcome};
 use crate::host::Host;
 use lvish_compound::{Any, Event};
-use lvish_run::{Open, Report, RunFault, run, run_picks};
+use lvish_run::{MOST_STEPS, Open, Report, RunFault, run, run_picks};
 use lvish_script::read_script;
 use lvish_syntax::Script;
 use lvish_task::ScriptCode;
 use otherwise::Otherwise;
 use picking::check_picked;
 use replay_counts::ReplayCounts;
-use replay_question::{MOST_STEPS, ReplayQuestion, asked_by};
+use replay_question::{MOST_REPLAYED, ReplayQuestion, asked_by};
 use replaying::replay;
 use std::alloc::{AllocError, Global};
 
@@ -57,7 +57,7 @@ fn replayed_by_all<R: Host>(
 ) -> Result<RowAnswer, AllocError> {
     let alloc = rt.alloc();
     let code = ScriptCode::new(alloc, script)?;
-    let budget = replay_question.budget.min(MOST_STEPS);
+    let budget = replay_question.budget.min(MOST_REPLAYED);
     let usual = run_picks(alloc, script, &[], budget)?;
     if let Err(why) = replay(alloc, &code, &usual, 1, budget) {
         return found(alloc, 0, why);
@@ -105,7 +105,7 @@ fn replayed_by<R: Host>(
 ) -> Result<Report<Any, Event>, Otherwise>
     requires some { 0 < workers }
     requires few { workers ≤ 8 }
-    requires bounded { budget ≤ 1000000 }
+    requires bounded { budget ≤ MOST_STEPS }
 {
     let alloc = rt.alloc();
     let report = run(rt, alloc, script, workers, budget, &Open)?;

@@ -11,7 +11,7 @@ use lvish_syntax::Script;
 use std::alloc::{AllocError, Global};
 
 /// The most steps that a run of a row may have.
-const MOST_STEPS: u64 = 100_000;
+const MOST_PICKED: u64 = 100_000;
 
 /// The report of the script's run by the picks of these words, which begin with `pick`.
 pub fn report_of(alloc: Global, words: &[&str], script: &[u8]) -> Result<RowAnswer, AllocError> {
@@ -46,7 +46,7 @@ pub fn run_by(
     picks: &[u64],
     budget: u64,
 ) -> Result<Report<Any, Event>, AllocError> {
-    run_picks(alloc, script, picks, budget.min(MOST_STEPS))
+    run_picks(alloc, script, picks, budget.min(MOST_PICKED))
 }
 
 fn report_line(alloc: Global, report: &Report<Any, Event>) -> Result<String, AllocError> {

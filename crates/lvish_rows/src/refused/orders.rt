@@ -14,7 +14,7 @@ use lvish_refusals::{is_spared, refuse};
 use std::alloc::AllocError;
 
 /// The most steps of a run each of whose growths is refused.
-const MOST_STEPS: u64 = 1_000;
+const MOST_REFUSED: u64 = 1_000;
 
 /// Tries a check of the script, and answers whether it is one.
 pub fn try_check<R: Host>(
@@ -26,7 +26,7 @@ pub fn try_check<R: Host>(
 ) -> Result<bool> {
     let order = Order::Check {
         ends,
-        budget: budget.min(MOST_STEPS),
+        budget: budget.min(MOST_REFUSED),
     };
     Ok(try_order(rt, case, &order, tried)?.status == 0)
 }
@@ -45,7 +45,7 @@ pub fn try_run<R: Host>(
 {
     let order = Order::Run {
         workers,
-        budget: budget.min(MOST_STEPS),
+        budget: budget.min(MOST_REFUSED),
         all,
     };
     let _usual = try_order(rt, case, &order, tried)?;
@@ -64,7 +64,7 @@ pub fn try_pick<R: Host>(
     let picks = picks.iter().copied().collect::<Vec<u64>>(rt.alloc())?;
     let order = Order::Pick {
         picks: Picks::from(picks),
-        budget: budget.min(MOST_STEPS),
+        budget: budget.min(MOST_REFUSED),
         all,
     };
     let _usual = try_order(rt, case, &order, tried)?;

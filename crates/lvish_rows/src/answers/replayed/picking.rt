@@ -7,7 +7,7 @@ use crate::answers::replayed::otherwise::Otherwise;
 use crate::answers::replayed::retracing::places;
 use lvish_compound::{Any, Event};
 use lvish_core::Core;
-use lvish_run::{Report, run_picks};
+use lvish_run::{MOST_STEPS, Report, run_picks};
 use lvish_syntax::Script;
 use lvish_task::ScriptCode;
 use std::alloc::Global;
@@ -21,7 +21,7 @@ pub fn check_picked(
     report: &Report<Any, Event>,
     budget: u64,
 ) -> Result<(), Otherwise>
-    requires { budget ≤ 1000000 }
+    requires { budget ≤ MOST_STEPS }
 {
     let mut core = Core::new(alloc, code)?;
     let picks = places(alloc, &mut core, report.trace.as_slice())?;

@@ -1,7 +1,7 @@
 //! What is asked about the runs.
 
 /// The most steps that a run of a row may have.
-pub const MOST_STEPS: u64 = 100_000;
+pub const MOST_REPLAYED: u64 = 100_000;
 
 /// How many steps a run may have where no number is given.
 const USUAL_STEPS: u64 = 10_000;
