@@ -47,4 +47,4 @@ pub use lattice::{Lattice, Plain, Reads};
 pub use limits::HIGHEST_LEVEL;
 pub use max_counter::{Levels, MaxCounter, Range};
 pub use numbered::Numbered;
-pub use reads::one_of;
+pub use reads::{has_one_value, one_of};
