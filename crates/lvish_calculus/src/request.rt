@@ -23,9 +23,16 @@ pub enum ErrorKind {
 }
 
 /// The pools that a freeze names, by number.
-#[derive(Debug, Drop)]
+#[derive(Debug)]
 pub struct Pools {
     items: Vec<usize>,
+}
+
+// Written out, so that it is proved once, and not at each exit of a function that owns one.
+impl Drop for Pools {
+    fn drop(self) {
+        let Pools { items: _ } = self;
+    }
 }
 
 impl Model for Pools {
@@ -66,7 +73,7 @@ impl Pools {
 }
 
 /// What a task asks for: over states `S`, reads `R` and local states `L`.
-#[derive(Debug, Drop)]
+#[derive(Debug)]
 pub enum Request<S, R, L> {
     /// Joins the state to the variable's.
     Put(usize, S),
@@ -86,8 +93,24 @@ pub enum Request<S, R, L> {
     Fault(ErrorKind),
 }
 
+// Written out, so that it is proved once, and not at each exit of a function that owns one.
+impl<S: Drop, R: Drop, L: Drop> Drop for Request<S, R, L> {
+    fn drop(self) {
+        match self {
+            Request::Put(_, _) => {}
+            Request::Get(_, _) => {}
+            Request::Fork(_) => {}
+            Request::Add(_, _) => {}
+            Request::Freeze(_, _) => {}
+            Request::Pause => {}
+            Request::End => {}
+            Request::Fault(_) => {}
+        }
+    }
+}
+
 /// The reply to a task's request: over states `S` and answers `A`.
-#[derive(Debug, Drop)]
+#[derive(Debug)]
 pub enum Reply<S, A> {
     /// The action was made.
     Done,
@@ -95,4 +118,15 @@ pub enum Reply<S, A> {
     Answer(A),
     /// The exact content of a frozen variable.
     Content(S),
+}
+
+// Written out, so that it is proved once, and not at each exit of a function that owns one.
+impl<S: Drop, A: Drop> Drop for Reply<S, A> {
+    fn drop(self) {
+        match self {
+            Reply::Done => {}
+            Reply::Answer(_) => {}
+            Reply::Content(_) => {}
+        }
+    }
 }

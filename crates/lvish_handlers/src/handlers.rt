@@ -11,12 +11,23 @@ use std::alloc::{AllocError, Global};
 use std::marker::Model;
 
 /// The handlers of a variable, and how many tasks run in each pool.
-#[derive(Debug, Drop)]
+#[derive(Debug)]
 pub struct Handlers<L: Lattice> {
     held: Vec<Held<L::Event>>,
     // how many entries were handed in all, so that `drained` need not go through the handlers
     total: u128,
     running: Vec<u64>,
+}
+
+// Written out, so that it is proved once, and not at each exit of a function that owns one.
+impl<L: Lattice> Drop for Handlers<L> {
+    fn drop(self) {
+        let Handlers {
+            held: _,
+            total: _,
+            running: _,
+        } = self;
+    }
 }
 
 impl<L: Lattice> Model for Handlers<L> {

@@ -7,12 +7,24 @@ use lvish_names::HandlerName;
 
 /// A handler: the pool in which its tasks run, the procedure that they run, and how many entries
 /// of the variable's log it was handed.
-#[derive(Debug, Drop)]
+#[derive(Debug)]
 pub struct Held<E> {
     pub name: HandlerName<E>,
     pub pool: usize,
     pub procedure: usize,
     pub handed: usize,
+}
+
+// Written out, so that it is proved once, and not at each exit of a function that owns one.
+impl<E: Drop> Drop for Held<E> {
+    fn drop(self) {
+        let Held {
+            name: _,
+            pool: _,
+            procedure: _,
+            handed: _,
+        } = self;
+    }
 }
 
 /// Where the handler of this name is, or where it would go.

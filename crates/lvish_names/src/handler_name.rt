@@ -14,10 +14,20 @@ use std::hash::{Hash, Hasher};
 use std::marker::Model;
 
 /// A handler's name: the task that added it, and which of that task's handlers it is, from 1.
-#[derive(Debug, Drop)]
+#[derive(Debug)]
 pub struct HandlerName<E> {
     adder: TaskName<E>,
     number: u64,
+}
+
+// Written out, so that it is proved once, and not at each exit of a function that owns one.
+impl<E: Drop> Drop for HandlerName<E> {
+    fn drop(self) {
+        let HandlerName {
+            adder: _,
+            number: _,
+        } = self;
+    }
 }
 
 impl<E> Model for HandlerName<E> {

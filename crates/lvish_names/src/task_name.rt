@@ -21,11 +21,18 @@ use std::sync::ArcSlice;
 /// A task's name: the path from `main` to the task, of at most `MOST_PARTS` parts.
 ///
 /// Copies share it.
-#[derive(Debug, Drop)]
+#[derive(Debug)]
 pub struct TaskName<E> {
     path: Option<ArcSlice<NamePart<E>>>,
     // how many parts of the path are the name's, from `main` on
     depth: usize,
+}
+
+// Written out, so that it is proved once, and not at each exit of a function that owns one.
+impl<E: Drop> Drop for TaskName<E> {
+    fn drop(self) {
+        let TaskName { path: _, depth: _ } = self;
+    }
 }
 
 impl<E> Model for TaskName<E> {

@@ -6,13 +6,24 @@ use lvish_names::TaskName;
 use std::alloc::{AllocError, Global};
 
 /// An event of a variable, and the put that brought it.
-#[derive(Debug, Drop)]
+#[derive(Debug)]
 pub struct Entry<E> {
     pub event: E,
     /// The task that put it.
     pub task: TaskName<E>,
     /// The number of the put among that task's puts, from 1.
     pub number: u64,
+}
+
+// Written out, so that it is proved once, and not at each exit of a function that owns one.
+impl<E: Drop> Drop for Entry<E> {
+    fn drop(self) {
+        let Entry {
+            event: _,
+            task: _,
+            number: _,
+        } = self;
+    }
 }
 
 /// The entries of one put.

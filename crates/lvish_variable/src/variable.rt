@@ -9,11 +9,22 @@ use std::alloc::{AllocError, Global};
 use std::marker::Model;
 
 /// A state that only grows, whether it is frozen, and its events in the order in which they came.
-#[derive(Debug, Drop)]
+#[derive(Debug)]
 pub struct Variable<L: Lattice> {
     state: L,
     frozen: bool,
     log: Vec<Entry<L::Event>>,
+}
+
+// Written out, so that it is proved once, and not at each exit of a function that owns one.
+impl<L: Lattice> Drop for Variable<L> {
+    fn drop(self) {
+        let Variable {
+            state: _,
+            frozen: _,
+            log: _,
+        } = self;
+    }
 }
 
 impl<L: Lattice> Model for Variable<L> {
