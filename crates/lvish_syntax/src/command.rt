@@ -9,7 +9,7 @@ use crate::threshold::Threshold;
 use std::alloc::{AllocError, Global};
 
 /// A statement of one line.
-#[derive(Debug, Drop)]
+#[derive(Debug)]
 pub enum Command {
     /// `let`: the local takes the value.
     Let(Identifier, LetValue),
@@ -34,6 +34,24 @@ pub enum Command {
     Freeze(Identifier, Identifier, Identifiers),
     /// `freeze` with `each`: the procedure is then called on each of these events.
     FreezeEach(Identifier, Identifier, Identifiers, Identifier),
+}
+
+// Written out, so that it is proved once, and not at each exit of a function that owns one.
+impl Drop for Command {
+    fn drop(self) {
+        match self {
+            Command::Let(_, _) => {}
+            Command::Put(_, _) => {}
+            Command::PutAt(_, _, _) => {}
+            Command::Get(_, _, _) => {}
+            Command::GetAt(_, _, _, _) => {}
+            Command::Fork(_, _) => {}
+            Command::Call(_, _) => {}
+            Command::Handle(_, _) => {}
+            Command::Freeze(_, _, _) => {}
+            Command::FreezeEach(_, _, _, _) => {}
+        }
+    }
 }
 
 impl Command {

@@ -6,12 +6,22 @@ use std::alloc::{AllocError, Global};
 use std::marker::Model;
 
 /// A line at the head of a script.
-#[derive(Debug, Drop)]
+#[derive(Debug)]
 pub enum Declaration {
     /// Declares a variable of this kind.
     Variable(Identifier, VariableKind),
     /// Declares a pool on a variable: the pool, then the variable.
     Pool(Identifier, Identifier),
+}
+
+// Written out, so that it is proved once, and not at each exit of a function that owns one.
+impl Drop for Declaration {
+    fn drop(self) {
+        match self {
+            Declaration::Variable(_, _) => {}
+            Declaration::Pool(_, _) => {}
+        }
+    }
 }
 
 impl Declaration {
@@ -31,9 +41,16 @@ impl Declaration {
 }
 
 /// The declarations of a script in the order of its lines.
-#[derive(Debug, Drop)]
+#[derive(Debug)]
 pub struct Declarations {
     items: Vec<Declaration>,
+}
+
+// Written out, so that it is proved once, and not at each exit of a function that owns one.
+impl Drop for Declarations {
+    fn drop(self) {
+        let Declarations { items: _ } = self;
+    }
 }
 
 impl Model for Declarations {

@@ -6,9 +6,16 @@ use std::alloc::{AllocError, Global};
 use std::marker::Model;
 
 /// The name of a variable, a procedure or a local, seen as its bytes.
-#[derive(Debug, Drop)]
+#[derive(Debug)]
 pub struct Identifier {
     text: String,
+}
+
+// Written out, so that it is proved once, and not at each exit of a function that owns one.
+impl Drop for Identifier {
+    fn drop(self) {
+        let Identifier { text: _ } = self;
+    }
 }
 
 impl Model for Identifier {

@@ -5,9 +5,16 @@ use std::alloc::{AllocError, Global};
 use std::marker::Model;
 
 /// Names in order.
-#[derive(Debug, Drop)]
+#[derive(Debug)]
 pub struct Identifiers {
     items: Vec<Identifier>,
+}
+
+// Written out, so that it is proved once, and not at each exit of a function that owns one.
+impl Drop for Identifiers {
+    fn drop(self) {
+        let Identifiers { items: _ } = self;
+    }
 }
 
 impl Model for Identifiers {

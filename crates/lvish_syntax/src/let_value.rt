@@ -5,12 +5,22 @@ use crate::term::Term;
 use std::alloc::{AllocError, Global};
 
 /// What a `let` gives its local.
-#[derive(Debug, PartialEq, Eq, Drop)]
+#[derive(Debug, PartialEq, Eq)]
 pub enum LetValue {
     /// The value of the term.
     Same(Term),
     /// What the operator makes of the values of two terms.
     Combined(Term, Operator, Term),
+}
+
+// Written out, so that it is proved once, and not at each exit of a function that owns one.
+impl Drop for LetValue {
+    fn drop(self) {
+        match self {
+            LetValue::Same(_) => {}
+            LetValue::Combined(_, _, _) => {}
+        }
+    }
 }
 
 impl LetValue {

@@ -4,9 +4,16 @@ use std::alloc::{AllocError, Global};
 use std::marker::Model;
 
 /// Numbers in order.
-#[derive(Debug, Drop)]
+#[derive(Debug)]
 pub struct Numbers {
     items: Vec<i64>,
+}
+
+// Written out, so that it is proved once, and not at each exit of a function that owns one.
+impl Drop for Numbers {
+    fn drop(self) {
+        let Numbers { items: _ } = self;
+    }
 }
 
 impl Model for Numbers {

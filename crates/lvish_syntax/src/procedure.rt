@@ -14,9 +14,16 @@ pub struct Procedure {
 }
 
 /// The procedures of a script in the order of their `proc` lines.
-#[derive(Debug, Drop)]
+#[derive(Debug)]
 pub struct Procedures {
     items: Vec<Procedure>,
+}
+
+// Written out, so that it is proved once, and not at each exit of a function that owns one.
+impl Drop for Procedures {
+    fn drop(self) {
+        let Procedures { items: _ } = self;
+    }
 }
 
 impl Model for Procedures {

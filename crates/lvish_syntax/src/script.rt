@@ -9,12 +9,23 @@ use crate::version::Version;
 /// Every name in it is declared, the counts of terms and parameters agree, its names differ, its
 /// tables are within their limits and its lines are those of its version, by its type:
 /// `IsSound version declarations procedures` holds of each script.
-#[derive(Debug, Drop)]
+#[derive(Debug)]
 pub struct Script {
-    version: Version,
-    declarations: Declarations,
-    procedures: Procedures,
+    pub version: Version,
+    pub declarations: Declarations,
+    pub procedures: Procedures,
     pub ghost sound: { IsSound version declarations procedures },
+}
+
+// Written out, so that it is proved once, and not at each exit of a function that owns one.
+impl Drop for Script {
+    fn drop(self) {
+        let Script {
+            version: _,
+            declarations: _,
+            procedures: _,
+        } = self;
+    }
 }
 
 impl Script {

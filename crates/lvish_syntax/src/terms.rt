@@ -5,9 +5,16 @@ use std::alloc::{AllocError, Global};
 use std::marker::Model;
 
 /// Terms in order.
-#[derive(Debug, Drop)]
+#[derive(Debug)]
 pub struct Terms {
     items: Vec<Term>,
+}
+
+// Written out, so that it is proved once, and not at each exit of a function that owns one.
+impl Drop for Terms {
+    fn drop(self) {
+        let Terms { items: _ } = self;
+    }
 }
 
 impl Model for Terms {

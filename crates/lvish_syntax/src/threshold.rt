@@ -5,7 +5,7 @@ use crate::term::Term;
 use std::alloc::{AllocError, Global};
 
 /// What a `get` waits for.
-#[derive(Debug, PartialEq, Eq, Drop)]
+#[derive(Debug, PartialEq, Eq)]
 pub enum Threshold {
     /// `any`: a number in a cell.
     Any,
@@ -17,6 +17,19 @@ pub enum Threshold {
     Least(Term),
     /// `total`: a tally whose amounts come to at least the term's value.
     Total(Term),
+}
+
+// Written out, so that it is proved once, and not at each exit of a function that owns one.
+impl Drop for Threshold {
+    fn drop(self) {
+        match self {
+            Threshold::Any => {}
+            Threshold::In(_) => {}
+            Threshold::Has(_) => {}
+            Threshold::Least(_) => {}
+            Threshold::Total(_) => {}
+        }
+    }
 }
 
 impl Threshold {
