@@ -1,5 +1,5 @@
 -- What the entries of a put bring.
-use Rattle.std.proofs.Common.{◌≡◌, ◌==◌, ℕ, Bool, true, false, not, ◌&&◌, ◌||◌, List, [], ◌∷◌, map, filter, length, Option, Some, None, is_some, true≢false, refl, sym, ◌∙◌, ap, subst, arith, ◌++◌}
+use Rattle.std.proofs.Common.{◌≡◌, ◌==◌, ℕ, Bool, true, false, not, ◌&&◌, ◌||◌, List, [], ◌∷◌, map, filter, length, Option, Some, None, is_some, true≢false, refl, sym, ◌∙◌, ap, subst, arith, ◌++◌, append_assoc}
 use Rattle.std.proofs.lemmas.Bool.Decides.{nat_tests}
 use Rattle.std.specs.declared.cmp.Ordering.{Ordering}
 use Rattle.std.specs.declared.cmp.Ordering.TheVariants.{Less, Equal, Greater}
@@ -11,7 +11,7 @@ use Rattle.std.proofs.lemmas.Map.Made.{is_member-filter}
 use Rattle.std.proofs.lemmas.List.Kept.{IsStrictlySortedBy-filter}
 use Rattle.lvish_lattice.specs.Lattice.{IsJoin, IsAtOrBelow, HasEvents, fresh_of, events_beyond}
 use Rattle.lvish_lattice.specs.Ascending.{same_members, nothing_rises}
-use Rattle.lvish_compound.specs.Keyed.{key, at, both_tie, by_both, events_by, events_of}
+use Rattle.lvish_compound.specs.Keyed.{key, at, both_tie, by_both, of_key, events_by, events_of}
 use Rattle.lvish_compound.specs.laws.KeyedLaws.{events_have, events_rise}
 use Rattle.std.proofs.lemmas.List.{append-nil}
 
@@ -132,5 +132,9 @@ module _ {L E : Type 0} {least : L} {join : L → L → Option L} {ev : L → Li
         ∙ kept_has (at R least join es q.0) (ev (at R least join gs q.0)) q.1))
 
 module _ {K L E : Type 0} (ev : K → L → List E) where
+  -- the events of one entry more
+  pub events_more : (all old new : List (K × E)) (xs ys : List (K × L)) (k : K) (p : L) (part : List E) → old ++ events_by ev xs ≡ all → xs ≡ (k, p) ∷ ys → part ≡ ev k p → new ≡ old ++ of_key k part → new ++ events_by ev ys ≡ all
+  events_more all old new xs ys k p part h e is add = ap (λ zs. zs ++ events_by ev ys) (add ∙ ap (λ es. old ++ of_key k es) is) ∙ append_assoc old (of_key k (ev k p)) (events_by ev ys) ∙ ap (λ zs. old ++ events_by ev zs) (sym e) ∙ h
+
   pub events_all : (all old : List (K × E)) (xs : List (K × L)) → old ++ events_by ev xs ≡ all → xs ≡ [] → old ≡ all
   events_all all old xs h e = sym (append-nil old) ∙ ap (λ zs. old ++ events_by ev zs) (sym e) ∙ h

@@ -6,6 +6,7 @@ pub mod Maps
 pub mod PairFresh
 pub mod PartCalls
 pub mod Parts
+pub mod Pushed
 pub mod Refused
 pub mod StateCalls
 pub mod StatesClash

@@ -31,6 +31,14 @@ module _ {K L : Type 0} (R : K → K → Ordering) where
   abbrev S : List (K × L) → Type 0
   S es = IsStrictlySortedBy R (map key es)
 
+  -- no entry has a key that is above the greatest
+  pub past_last : (k last : K) (es : List (K × L)) → R last k ≡ Less → (IsSome (lookup (is_at (R k)) es) → is_lt (R last k) ≡ false) → lookup (is_at (R k)) es ≡ None
+  past_last k last es r h = by_found (lookup (is_at (R k)) es) (λ some. true≢false (sym (ap is_lt r) ∙ h some))
+    where
+      by_found : (x : Option L) → (IsSome x → ⊥) → x ≡ None
+      by_found None n = refl
+      by_found (Some y) n = absurd (n refl)
+
   set_same : (k : K) (x : L) (es : List (K × L)) → lookup (is_at (R k)) es ≡ Some x → set_value (is_at (R k)) es x ≡ es
   set_same k x [] h = refl
   set_same k x (e ∷ es) h = elim (R k e.0) as (λ r. cond (is_eq r) (Some e.1) (lookup (is_at (R k)) es) ≡ Some x → cond (is_eq r) ((e.0, x) ∷ es) (e ∷ set_value (is_at (R k)) es x) ≡ e ∷ es) [
@@ -77,18 +85,11 @@ module _ {K L : Type 0} (R : K → K → Ordering) (least : L) (join : L → L �
         | Greater ↦ λ h. ap (option_map (λ fs. e ∷ fs)) (add_new k v es h)
       ] h
 
-  -- no entry has a key that is above the greatest
-  pub past_last : (k last : K) (es : List (K × L)) → R last k ≡ Less → (IsSome (lookup (is_at (R k)) es) → is_lt (R last k) ≡ false) → lookup (is_at (R k)) es ≡ None
-  past_last k last es r h = by_found (lookup (is_at (R k)) es) (λ some. true≢false (sym (ap is_lt r) ∙ h some))
-    where
-      by_found : (x : Option L) → (IsSome x → ⊥) → x ≡ None
-      by_found None n = refl
-      by_found (Some y) n = absurd (n refl)
-
   -- a part at a key that holds none
-  pub put_new : (k : K) (v w : L) (es fs : List (K × L)) → lookup (is_at (R k)) es ≡ None → w ≡ v → fs ≡ insert_entry R es k w → (true ≡ is_some (add R least join k v es)) × (fs ≡ unwrap_or (add R least join k v es) es)
-  put_new k v w es fs h same new = let there : add R least join k v es ≡ Some (insert_entry R es k v) = add_new k v es h in
-      (ap is_some (sym there), new ∙ ap (insert_entry R es k) same ∙ ap (λ a. unwrap_or a es) (sym there))
+  pub put_new : {Refused : Type 0} (k : K) (v : L) (es fs : List (K × L)) (q : Result Bool Refused) → lookup (is_at (R k)) es ≡ None → IfOk q (λ b. (b ≡ true) × (fs ≡ insert_entry R es k v))
+      → IfOk q (λ b. (b ≡ is_some (add R least join k v es)) × (fs ≡ unwrap_or (add R least join k v es) es))
+  put_new k v es fs q h put = let there : add R least join k v es ≡ Some (insert_entry R es k v) = add_new k v es h in
+      IfOk-weaker q _ _ (λ b p. (p.0 ∙ ap is_some (sym there), p.1 ∙ ap (λ a. unwrap_or a es) (sym there))) put
 
   module _ (o : IsTotalOrder R) where
     add_found : (k : K) (v x : L) (es : List (K × L)) → S R es → lookup (is_at (R k)) es ≡ Some x → add R least join k v es ≡ option_map (λ w. set_value (is_at (R k)) es w) (join x v)
@@ -190,6 +191,16 @@ module _ {K L : Type 0} (R : K → K → Ordering) (least : L) (join : L → L �
     -- each entry of the second list has a join with what the first holds
     abbrev pub Each : List (K × L) → List (K × L) → Type 0
     Each es fs = AllByRecursion (λ f. is_some (join (at R least join es f.0) f.1) ≡ true) fs
+
+    pub each_same : (es xs ys : List (K × L)) → xs ≡ ys → (Each es xs ↔ Each es ys)
+    each_same es xs ys e = (subst (λ zs. Each es zs) e, subst (λ zs. Each es zs) (sym e))
+
+    -- one entry more
+    pub each_more : (es all xs ys : List (K × L)) (k : K) (p : L) → (Each es xs ↔ Each es all) → xs ≡ (k, p) ∷ ys → is_some (join (At es k) p) ≡ true → (Each es ys ↔ Each es all)
+    each_more es all xs ys k p h e there = (
+      λ r. h.0 (subst (λ zs. Each es zs) (sym e) (there, r)),
+      λ r. (subst (λ zs. Each es zs) e (h.1 r)).1,
+    )
 
     each_from : (es fs : List (K × L)) → S R fs → ((q : K) → is_some (join (At es q) (At fs q)) ≡ true) → Each es fs
     unfolding IsStrictlySortedBy

@@ -6,7 +6,7 @@ use std::alloc::{AllocError, Global};
 /// A state that isn't bottom.
 #[derive(Debug, Drop)]
 pub struct Above<L: Lattice> {
-    state: L,
+    pub(crate) state: L,
     ghost rises: { L.eq state L.least ≡ false },
 }
 

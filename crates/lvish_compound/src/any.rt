@@ -20,7 +20,7 @@ use thiserror::Error;
 /// both empty, or a tally above its bottom.
 ///
 /// Bottom is the empty part. Different kinds join to top.
-#[derive(Debug, Drop)]
+#[derive(Debug)]
 pub enum Any {
     Part(Part),
     Map(Above<MapOf<i64, Flat<i64>>>),
@@ -33,6 +33,18 @@ pub enum Any {
 #[derive(Clone, Copy, Debug, PartialEq, Eq, Error)]
 #[error("a side is a cell, a set or a counter, and its number 1 or 2")]
 pub struct Wrong;
+
+// Written out, so that it is proved once, and not at each exit of a function that owns one.
+impl Drop for Any {
+    fn drop(self) {
+        match self {
+            Any::Part(_) => {}
+            Any::Map(_) => {}
+            Any::Sides(_) => {}
+            Any::Tally(_) => {}
+        }
+    }
+}
 
 impl Any {
     ghost use Rattle.lvish_compound.specs.States.{cell, set, counter, entry, amount, side, of_map, of_pair, of_tally, unless_part, events_of};
@@ -163,9 +175,9 @@ impl PartialEq for Any {
     fn eq(&self, other: &Any) -> bool {
         match (self, other) {
             (Any::Part(a), Any::Part(b)) => a == b,
-            (Any::Map(a), Any::Map(b)) => a == b,
+            (Any::Map(a), Any::Map(b)) => a.state == b.state,
             (Any::Sides(a), Any::Sides(b)) => a == b,
-            (Any::Tally(a), Any::Tally(b)) => a == b,
+            (Any::Tally(a), Any::Tally(b)) => a.state == b.state,
             _ => false,
         }
     }
@@ -198,7 +210,7 @@ impl Lattice for Any {
                 Some(part) => Ok(Some(Any::Part(part))),
                 None => Ok(None),
             },
-            (Any::Map(a), Any::Map(b)) => match a.state().join(alloc, b.state())? {
+            (Any::Map(a), Any::Map(b)) => match a.state.join(alloc, &b.state)? {
                 Some(map) => Ok(Some(Any::of_map(alloc, map))),
                 None => Ok(None),
             },
@@ -206,7 +218,7 @@ impl Lattice for Any {
                 Some(pair) => Ok(Some(Any::of_pair(pair))),
                 None => Ok(None),
             },
-            (Any::Tally(a), Any::Tally(b)) => match a.state().join(alloc, b.state())? {
+            (Any::Tally(a), Any::Tally(b)) => match a.state.join(alloc, &b.state)? {
                 Some(tally) => Ok(Some(Any::of_tally(alloc, tally))),
                 None => Ok(None),
             },
@@ -219,9 +231,9 @@ impl Lattice for Any {
     fn leq(&self, other: &Any) -> bool {
         match (self, other) {
             (Any::Part(a), Any::Part(b)) => a.leq(b),
-            (Any::Map(a), Any::Map(b)) => a.state().leq(b.state()),
+            (Any::Map(a), Any::Map(b)) => a.state.leq(&b.state),
             (Any::Sides(a), Any::Sides(b)) => a.pair().leq(b.pair()),
-            (Any::Tally(a), Any::Tally(b)) => a.state().leq(b.state()),
+            (Any::Tally(a), Any::Tally(b)) => a.state.leq(&b.state),
             (Any::Part(a), _) => a.is_empty(),
             _ => false,
         }
@@ -230,9 +242,9 @@ impl Lattice for Any {
     fn events(&self, alloc: Global) -> Result<Vec<Event>, AllocError> {
         match self {
             Any::Part(a) => part_events(alloc, &a.events(alloc)?),
-            Any::Map(a) => entry_events(alloc, &a.state().events(alloc)?),
+            Any::Map(a) => entry_events(alloc, &a.state.events(alloc)?),
             Any::Sides(a) => side_events(alloc, &a.pair().events(alloc)?),
-            Any::Tally(a) => tally_events(alloc, &a.state().events(alloc)?),
+            Any::Tally(a) => tally_events(alloc, &a.state.events(alloc)?),
         }
     }
 
@@ -240,13 +252,13 @@ impl Lattice for Any {
         match (old, put) {
             (Any::Part(a), Any::Part(b)) => part_events(alloc, &Part::fresh(alloc, a, b)?),
             (Any::Map(a), Any::Map(b)) => {
-                entry_events(alloc, &MapOf::fresh(alloc, a.state(), b.state())?)
+                entry_events(alloc, &MapOf::fresh(alloc, &a.state, &b.state)?)
             }
             (Any::Sides(a), Any::Sides(b)) => {
                 side_events(alloc, &Pair::fresh(alloc, a.pair(), b.pair())?)
             }
             (Any::Tally(a), Any::Tally(b)) => {
-                tally_events(alloc, &Tally::fresh(alloc, a.state(), b.state())?)
+                tally_events(alloc, &Tally::fresh(alloc, &a.state, &b.state)?)
             }
             (Any::Part(a), Any::Map(_)) => Any::fresh_to_part(alloc, a, put),
             (Any::Part(a), Any::Sides(_)) => Any::fresh_to_part(alloc, a, put),

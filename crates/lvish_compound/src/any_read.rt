@@ -12,11 +12,18 @@ use crate::spots::at_spot;
 use lvish_lattice::{Flat, Range, Reads};
 
 /// A read of a script's variable.
-#[derive(Debug, Drop)]
+#[derive(Debug)]
 pub struct AnyRead {
-    place: Place,
-    test: Test,
-    ghost fits: { test_fits place test ≡ true },
+    pub place: Place,
+    pub test: Test,
+    pub ghost fits: { test_fits place test ≡ true },
+}
+
+// Written out, so that it is proved once, and not at each exit of a function that owns one.
+impl Drop for AnyRead {
+    fn drop(self) {
+        let AnyRead { place: _, test: _ } = self;
+    }
 }
 
 impl AnyRead {
@@ -70,11 +77,11 @@ impl Test {
                 _ => None,
             },
             Kind::Set => match part {
-                Part::Set(set) => self.in_set(set.state()),
+                Part::Set(set) => self.in_set(&set.state),
                 _ => None,
             },
             Kind::Max => match part {
-                Part::Max(max) => self.in_max(max.state().get()),
+                Part::Max(max) => self.in_max(max.state.get()),
                 _ => self.in_max(0),
             },
             Kind::Map => None,
@@ -114,7 +121,7 @@ impl Test {
         ensures { result ≡ cell_answer self.now (at (map_in state.now) key) }
     {
         match state {
-            Any::Map(map) => match map.state().get(key) {
+            Any::Map(map) => match map.state.get(key) {
                 Some(Flat::Value(value)) => self.in_cell(*value),
                 _ => None,
             },
@@ -127,7 +134,7 @@ impl Test {
         ensures { result ≡ first_that (is_reached (number_of (amount (tally_in state.now) key))) self.now }
     {
         match state {
-            Any::Tally(tally) => self.in_max(tally.state().amount(key).get()),
+            Any::Tally(tally) => self.in_max(tally.state.amount(key).get()),
             _ => self.in_max(0),
         }
     }
@@ -137,7 +144,7 @@ impl Test {
         ensures { result ≡ first_that (is_reached (pos (total (tally_in state.now)))) self.now }
     {
         match state {
-            Any::Tally(tally) => self.in_max(tally.state().total()),
+            Any::Tally(tally) => self.in_max(tally.state.total()),
             _ => self.in_max(0),
         }
     }

@@ -14,10 +14,17 @@ use std::collections::btree_map::Iter;
 use std::marker::Model;
 
 /// Keys with their parts, seen as the list of entries in the order of the keys.
-#[derive(Debug, Drop)]
+#[derive(Debug)]
 pub struct Entries<K: Ord, L> {
     parts: BTreeMap<K, L>,
     alloc: Global,
+}
+
+// Written out, so that it is proved once, and not at each exit of a function that owns one.
+impl<K: Ord + Drop, L: Drop> Drop for Entries<K, L> {
+    fn drop(self) {
+        let Entries { parts: _, alloc: _ } = self;
+    }
 }
 
 impl<K: Ord, L> Model for Entries<K, L> {
@@ -28,7 +35,7 @@ impl<K: Ord, L> Model for Entries<K, L> {
     ghost view = { λ s. s.parts.entries };
 }
 
-impl<K: Plain, L: Lattice> Entries<K, L> {
+impl<K: Ord, L> Entries<K, L> {
     pub fn new(alloc: Global) -> Entries<K, L>
         ensures { result ≡ [] }
     {
@@ -60,6 +67,41 @@ impl<K: Plain, L: Lattice> Entries<K, L> {
         self.parts.first_key_value()
     }
 
+    /// Whether the key is above the greatest one there.
+    fn is_past_last(&self, of: &K) -> bool
+        ensures { IsTrue result → lookup (is_at (K.cmp of.now)) self.now ≡ None }
+    {
+        let Some((last, _part)) = self.parts.last_key_value() else {
+            return false;
+        };
+        if let Ordering::Less = last.cmp(of) {
+            return true;
+        }
+        false
+    }
+
+    /// Puts an entry in its place.
+    pub fn insert(&mut self, key: K, part: L) -> Result<(), AllocError>
+    where
+        K: Drop,
+        L: Drop,
+        ensures inserted { IfOk result (λ _. self.new ≡ insert_entry K.cmp self.old key part) }
+        ensures refused { IfErr result (λ _. self.new ≡ self.old) }
+    {
+        self.parts.insert(key, part)?;
+        Ok(())
+    }
+
+    pub fn is_equal(&self, other: &Entries<K, L>) -> bool
+    where
+        L: PartialEq,
+        ensures { result ≡ pointwise (λ p q. K.eq p.0 q.0 && L.eq p.1 q.1) self.now other.now }
+    {
+        self.parts == other.parts
+    }
+}
+
+impl<K: Plain, L: Lattice> Entries<K, L> {
     /// The part that the key holds, `None` where it holds bottom.
     pub fn get(&self, of: K) -> Option<&L>
         ensures { unwrap_or (option_copied result) L.least ≡ at K.cmp L.least L.joined self.now of }
@@ -67,18 +109,14 @@ impl<K: Plain, L: Lattice> Entries<K, L> {
         self.parts.get(&of)
     }
 
-    pub fn is_equal(&self, other: &Entries<K, L>) -> bool
-        ensures { result ≡ pointwise (λ p q. K.eq p.0 q.0 && L.eq p.1 q.1) self.now other.now }
+    /// Puts a copy of the part in its place, and answers true.
+    fn put_copy(&mut self, alloc: Global, of: K, part: &L) -> Result<bool, AllocError>
+        ensures put { IfOk result (λ b. (b ≡ true) × (self.new ≡ insert_entry K.cmp self.old of part.now)) }
+        ensures refused { IfErr result (λ _. self.new ≡ self.old) }
     {
-        self.parts == other.parts
-    }
-
-    /// Puts an entry in its place.
-    pub fn insert(&mut self, key: K, part: L) -> Result<(), AllocError>
-        ensures { IfOk result (λ _. self.new ≡ insert_entry K.cmp self.old key part) }
-    {
-        self.parts.insert(key, part)?;
-        Ok(())
+        let part = part.copy(alloc)?;
+        self.insert(of, part)?;
+        Ok(true)
     }
 
     pub fn copy(&self, alloc: Global) -> Result<Entries<K, L>, AllocError>
@@ -86,34 +124,9 @@ impl<K: Plain, L: Lattice> Entries<K, L> {
     {
         let mut entries = Entries::new(alloc);
         for (key, part) in self.iter() {
-            let part = part.copy(alloc)?;
-            entries.insert(*key, part)?;
+            entries.put_copy(alloc, *key, part)?;
         }
         Ok(entries)
-    }
-
-    /// Whether the key is above the greatest one there.
-    fn is_past_last(&self, of: K) -> bool
-        ensures { IsTrue result → lookup (is_at (K.cmp of)) self.now ≡ None }
-    {
-        let Some((last, _part)) = self.parts.last_key_value() else {
-            return false;
-        };
-        if let Ordering::Less = last.cmp(&of) {
-            return true;
-        }
-        false
-    }
-
-    /// Puts a copy of the part at a key that holds none.
-    fn put_copy(&mut self, alloc: Global, of: K, part: &L) -> Result<bool, AllocError>
-        requires { lookup (is_at (K.cmp of)) self.old ≡ None }
-        ensures added { IfOk result (λ b. (b ≡ is_some (add K.cmp L.least L.joined of part.now self.old)) × (self.new ≡ unwrap_or (add K.cmp L.least L.joined of part.now self.old) self.old)) }
-        ensures refused { IfErr result (λ _. self.new ≡ self.old) }
-    {
-        let part = part.copy(alloc)?;
-        self.parts.insert(of, part)?;
-        Ok(true)
     }
 
     /// Joins the part to what the key holds, by a search for the key.
@@ -124,9 +137,7 @@ impl<K: Plain, L: Lattice> Entries<K, L> {
         if let Some(held) = self.parts.get_mut(&of) {
             return held.merge(alloc, part);
         }
-        let part = part.copy(alloc)?;
-        self.parts.insert(of, part)?;
-        Ok(true)
+        self.put_copy(alloc, of, part)
     }
 
     /// Joins the part to what the key holds. Answers false, and changes nothing, where that is top.
@@ -136,7 +147,7 @@ impl<K: Plain, L: Lattice> Entries<K, L> {
         ensures added { IfOk result (λ b. (b ≡ is_some (add K.cmp L.least L.joined of part.now self.old)) × (self.new ≡ unwrap_or (add K.cmp L.least L.joined of part.now self.old) self.old)) }
         ensures refused { IfErr result (λ _. self.new ≡ self.old) }
     {
-        if self.is_past_last(of) {
+        if self.is_past_last(&of) {
             return self.put_copy(alloc, of, part);
         }
         self.join_found(alloc, of, part)

@@ -43,7 +43,7 @@ pub fn is_below<K: Plain, L: Lattice>(xs: &Entries<K, L>, ys: &Entries<K, L>) ->
 }
 
 /// Adds the key with each of the part's events.
-fn push_events<K: Plain, E: Plain>(
+fn push_events<K: Copy, E: Copy>(
     events: &mut Vec<(K, E)>,
     of: K,
     part: &[E],

@@ -11,11 +11,18 @@ use std::collections::btree_map::Iter;
 use std::hash::Hash;
 
 /// A map that only grows: its entries, in the order of their keys. No key holds bottom.
-#[derive(Debug, Drop)]
+#[derive(Debug)]
 pub struct MapOf<K: Plain, L: Lattice> {
     entries: Entries<K, L>,
     ghost ascending: { IsStrictlySortedBy K.cmp (map key entries) } by { IsStrictlySortedBy-prop K.cmp (map key entries) },
     ghost above: { has_no L.eq L.least entries ≡ true },
+}
+
+// Written out, so that it is proved once, and not at each exit of a function that owns one.
+impl<K: Plain, L: Lattice> Drop for MapOf<K, L> {
+    fn drop(self) {
+        let MapOf { entries: _ } = self;
+    }
 }
 
 impl<K: Plain, L: Lattice> MapOf<K, L> {

@@ -1,4 +1,4 @@
-ghost use Rattle.std.specs.Prelude.{◌≡◌, ◌↔◌, Some, None, cond, Contains, find, IsTrue};
+ghost use Rattle.std.specs.Prelude.{◌≡◌, ◌↔◌, Some, None, cond, find, IsTrue};
 ghost use Rattle.std.specs.List.{list_all, list_any};
 ghost use Rattle.std.specs.Ordering.{int_eq};
 ghost use Rattle.std.specs.Set.{is_member};
@@ -7,17 +7,28 @@ ghost use Rattle.lvish_lattice.specs.GrowSet.{items_of};
 ghost use Rattle.lvish_compound.specs.Numbers.{is_level, are_levels, is_total, are_totals, cell_answer, first_that, is_reached, HasOne};
 
 use crate::limits::HIGHEST_TOTAL;
-use lvish_lattice::{GrowSet, HIGHEST_LEVEL, Items, Plain};
+use lvish_lattice::{GrowSet, HIGHEST_LEVEL, Items, Plain, has_one_value};
 
 /// Which numbers are waited for: any, those of a list, or one.
 ///
 /// The one is a value of a cell, an element that a set has, or a level that a counter, an amount or
 /// a total has reached.
-#[derive(Debug, Drop)]
+#[derive(Debug)]
 pub enum Test {
     Any,
     In(Items<i64>),
     At(i64),
+}
+
+// Written out, so that it is proved once, and not at each exit of a function that owns one.
+impl Drop for Test {
+    fn drop(self) {
+        match self {
+            Test::Any => {}
+            Test::In(_) => {}
+            Test::At(_) => {}
+        }
+    }
 }
 
 /// Whether a counter can hold the number.
@@ -60,21 +71,10 @@ fn are_totals(numbers: &[i64]) -> bool
     numbers.iter().all(|number| is_total(*number))
 }
 
-/// Whether the list has at most one value, however often.
-fn has_one_value<V: Plain>(xs: &[V]) -> bool
-    ensures { IsTrue result ↔ ((x y : V) → Contains xs.now x → Contains xs.now y → x ≡ y) }
+fn is_listed(numbers: &[i64], number: i64) -> bool
+    ensures { result ≡ list_any (int_eq number) numbers.now }
 {
-    match xs.first() {
-        None => true,
-        Some(first) => xs.iter().all(|x| *first == *x),
-    }
-}
-
-/// Whether a list has a value.
-fn is_listed<V: Plain>(xs: &[V], x: V) -> bool
-    ensures { result ≡ list_any (V.eq x) xs.now }
-{
-    xs.iter().any(|y| x == *y)
+    numbers.contains(&number)
 }
 
 fn first_held(numbers: &[i64], set: &GrowSet<i64>) -> Option<i64>

@@ -12,7 +12,7 @@ use std::alloc::{AllocError, Global};
 /// A side of a pair of a script: empty, or a cell, a set or a counter above its bottom.
 ///
 /// Different kinds join to top.
-#[derive(Debug, Drop)]
+#[derive(Debug)]
 pub enum Part {
     Empty,
     Cell(i64),
@@ -22,6 +22,18 @@ pub enum Part {
 
 /// An event of a part: of a cell, a set or a counter.
 pub type PartEvent = SideOf<i64, SideOf<i64, i64>>;
+
+// Written out, so that it is proved once, and not at each exit of a function that owns one.
+impl Drop for Part {
+    fn drop(self) {
+        match self {
+            Part::Empty => {}
+            Part::Cell(_) => {}
+            Part::Set(_) => {}
+            Part::Max(_) => {}
+        }
+    }
+}
 
 impl Part {
     /// A set, empty where it has no element.
@@ -83,8 +95,8 @@ impl PartialEq for Part {
         match (self, other) {
             (Part::Empty, Part::Empty) => true,
             (Part::Cell(a), Part::Cell(b)) => *a == *b,
-            (Part::Set(a), Part::Set(b)) => a == b,
-            (Part::Max(a), Part::Max(b)) => a == b,
+            (Part::Set(a), Part::Set(b)) => a.state == b.state,
+            (Part::Max(a), Part::Max(b)) => a.state == b.state,
             _ => false,
         }
     }
@@ -122,11 +134,11 @@ impl Lattice for Part {
                     Ok(None)
                 }
             }
-            (Part::Set(a), Part::Set(b)) => match a.state().join(alloc, b.state())? {
+            (Part::Set(a), Part::Set(b)) => match a.state.join(alloc, &b.state)? {
                 Some(set) => Ok(Some(Part::of_set(alloc, set))),
                 None => Ok(None),
             },
-            (Part::Max(a), Part::Max(b)) => match a.state().join(alloc, b.state())? {
+            (Part::Max(a), Part::Max(b)) => match a.state.join(alloc, &b.state)? {
                 Some(max) => Ok(Some(Part::of_max(alloc, max))),
                 None => Ok(None),
             },
@@ -138,8 +150,8 @@ impl Lattice for Part {
         match (self, other) {
             (Part::Empty, _) => true,
             (Part::Cell(a), Part::Cell(b)) => *a == *b,
-            (Part::Set(a), Part::Set(b)) => a.state().leq(b.state()),
-            (Part::Max(a), Part::Max(b)) => a.state().leq(b.state()),
+            (Part::Set(a), Part::Set(b)) => a.state.leq(&b.state),
+            (Part::Max(a), Part::Max(b)) => a.state.leq(&b.state),
             _ => false,
         }
     }
@@ -148,8 +160,8 @@ impl Lattice for Part {
         match self {
             Part::Empty => Ok(Vec::new(alloc)),
             Part::Cell(n) => of_sides(alloc, &[*n], &[]),
-            Part::Set(a) => set_events(alloc, &a.state().events(alloc)?),
-            Part::Max(a) => max_events(alloc, &a.state().events(alloc)?),
+            Part::Set(a) => set_events(alloc, &a.state.events(alloc)?),
+            Part::Max(a) => max_events(alloc, &a.state.events(alloc)?),
         }
     }
 
@@ -161,10 +173,10 @@ impl Lattice for Part {
             (Part::Empty, _) => put.events(alloc),
             (Part::Cell(_), Part::Cell(_)) => Ok(Vec::new(alloc)),
             (Part::Set(a), Part::Set(b)) => {
-                set_events(alloc, &GrowSet::fresh(alloc, a.state(), b.state())?)
+                set_events(alloc, &GrowSet::fresh(alloc, &a.state, &b.state)?)
             }
             (Part::Max(a), Part::Max(b)) => {
-                max_events(alloc, &MaxCounter::fresh(alloc, a.state(), b.state())?)
+                max_events(alloc, &MaxCounter::fresh(alloc, &a.state, &b.state)?)
             }
             _ => Ok(Vec::new(alloc)),
         }

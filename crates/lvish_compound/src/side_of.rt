@@ -19,7 +19,7 @@ impl<X: Plain, Y: Plain> Plain for SideOf<X, Y> {
 }
 
 /// The events of the first side, and then those of the second.
-pub(crate) fn of_sides<X: Plain, Y: Plain>(
+pub(crate) fn of_sides<X: Copy, Y: Copy>(
     alloc: Global,
     ones: &[X],
     twos: &[Y],

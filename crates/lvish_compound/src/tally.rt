@@ -16,12 +16,22 @@ use std::collections::btree_map::Iter;
 /// A map from keys to amounts that only grows, and whose amounts add up to at most `HIGHEST_TOTAL`.
 ///
 /// No key has the amount 0. The total is kept beside the amounts, and grows with them.
-#[derive(Debug, Drop)]
+#[derive(Debug)]
 pub struct Tally {
     amounts: MapOf<i64, MaxCounter>,
     total: u16,
     ghost counted: { total ≡ total_of (map_of.entries_of amounts) },
     ghost bounded: { total ≤ HIGHEST_TOTAL },
+}
+
+// Written out, so that it is proved once, and not at each exit of a function that owns one.
+impl Drop for Tally {
+    fn drop(self) {
+        let Tally {
+            amounts: _,
+            total: _,
+        } = self;
+    }
 }
 
 /// The number of an amount.

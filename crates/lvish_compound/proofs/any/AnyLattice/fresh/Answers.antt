@@ -15,7 +15,7 @@ returns-in_ok-fresh-in-Part-Part c = IfOk-weaker c.part_events.result _ _
 pub returns-in_ok-fresh-in-Map-Map : goal.returns-in_ok-fresh-in-Map-Map
 returns-in_ok-fresh-in-Map-Map c = IfOk-weaker c.entry_events.result _ _
     (λ v e. e ∙ maps_fresh _ (by_name _ (λ d e. refl))
-    _ c.args.old.now c.args.put.now _ _ _ _ c.in-Map-Map.is-0 c.in-Map-Map.is-1 c.state.ensures c.state-in-Map-Map.ensures (c.deref-in-Map-Map.ensures.value ∙ c.in_ok-fresh-in-Map-Map.ensures))
+    _ c.args.old.now c.args.put.now _ _ _ _ c.in-Map-Map.is-0 c.in-Map-Map.is-1 refl refl (c.deref-in-Map-Map.ensures.value ∙ c.in_ok-fresh-in-Map-Map.ensures))
     c.entry_events.ensures
 
 pub returns-in_ok-fresh-in-Sides-Sides : goal.returns-in_ok-fresh-in-Sides-Sides
@@ -45,7 +45,7 @@ returns-in-Sides-Part c = c.new-in-Sides-Part.ensures.items ∙ part_to _ (by_na
 pub returns-in_ok-fresh-in-Tally-Tally : goal.returns-in_ok-fresh-in-Tally-Tally
 returns-in_ok-fresh-in-Tally-Tally c = IfOk-weaker c.tally_events.result _ _
     (λ v e. e ∙ tallies_fresh _ (by_name _ (λ d e. refl))
-    _ c.args.old.now c.args.put.now _ _ _ _ c.in-Tally-Tally.is-0 c.in-Tally-Tally.is-1 c.state-in-Tally-Tally.ensures c.state-in-Tally-Tally-2.ensures (c.deref-in-Tally-Tally.ensures.value ∙ c.in_ok-fresh-in-Tally-Tally.ensures))
+    _ c.args.old.now c.args.put.now _ _ _ _ c.in-Tally-Tally.is-0 c.in-Tally-Tally.is-1 refl refl (c.deref-in-Tally-Tally.ensures.value ∙ c.in_ok-fresh-in-Tally-Tally.ensures))
     c.tally_events.ensures
 
 pub returns-in-Part-Tally : goal.returns-in-Part-Tally

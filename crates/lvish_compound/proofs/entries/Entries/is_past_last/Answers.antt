@@ -4,4 +4,4 @@ use Rattle.lvish_compound.proofs.entries.Entries.is_past_last.Goals as goal
 
 pub returns-in-Less : goal.returns-in-Less
 returns-in-Less g c =
-    λ _. rw (← c.self.view_is) (past_last g.K.Ord.cmp g.L.Lattice.least g.L.Lattice.joined c.args.of c.in-Some.last.now c.self.inside.parts.entries (sym c.cmp.ensures ∙ c.in-Less.is) (c.in-Some.ensures.greatest c.args.of))
+    λ _. rw (← c.self.view_is) (past_last g.K.Ord.cmp c.args.of.now c.in-Some.last.now c.self.inside.parts.entries (sym c.cmp.ensures ∙ c.in-Less.is) (c.in-Some.ensures.greatest c.args.of.now))

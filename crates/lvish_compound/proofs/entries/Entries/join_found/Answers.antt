@@ -13,5 +13,5 @@ returns-in-Some-clause-refused g c = rw (← c.self.view_is) (kept_by g.K.Ord.cm
 
 pub returns-clause-added : goal.returns-clause-added
 returns-clause-added g c =
-    rw (← c.self.view_is) (put_new g.K.Ord.cmp g.L.Lattice.least g.L.Lattice.joined c.args.of c.args.part.now c.in_ok-part.part c.self.inside.parts.entries _ (sym c.get_mut.ensures.value ∙ ap option_copied_mut c.in_default.is) c.in_ok-part.ensures
-    (rw c.get_mut.follows.holds-at-none at c.in_ok-insert.ensures.entries))
+    rw (← c.self.view_is) (put_new g.K.Ord.cmp g.L.Lattice.least g.L.Lattice.joined c.args.of c.args.part.now c.self.inside.parts.entries _ c.put_copy.result (sym c.get_mut.ensures.value ∙ ap option_copied_mut c.in_default.is)
+    (rw c.get_mut.follows.holds-at-none at c.put_copy.ensures.put))

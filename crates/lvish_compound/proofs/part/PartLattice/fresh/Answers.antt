@@ -12,10 +12,10 @@ returns-in-Empty c = c.new.ensures.items ∙ nothing_fresh _ c.args.old.now c.ar
 
 pub returns-in_ok-fresh-in-Set-Set : goal.returns-in_ok-fresh-in-Set-Set
 returns-in_ok-fresh-in-Set-Set c = IfOk-weaker c.set_events.result _ _
-    (λ v e. e ∙ sets_fresh _ _ c.args.old.now c.args.put.now _ _ _ _ c.in-Set-Set.is-0 c.in-Set-Set.is-1 c.state.ensures c.state-in-Set-Set.ensures (c.deref.ensures.value ∙ c.in_ok-fresh-in-Set-Set.ensures) (record { cells = λ x z. refl; sets = λ x z. refl; maxes = λ x z. refl; one_two = λ x y. refl; two_one = λ x y. refl; set_max = λ x y. refl; max_set = λ x y. refl }))
+    (λ v e. e ∙ sets_fresh _ _ c.args.old.now c.args.put.now _ _ _ _ c.in-Set-Set.is-0 c.in-Set-Set.is-1 refl refl (c.deref.ensures.value ∙ c.in_ok-fresh-in-Set-Set.ensures) (record { cells = λ x z. refl; sets = λ x z. refl; maxes = λ x z. refl; one_two = λ x y. refl; two_one = λ x y. refl; set_max = λ x y. refl; max_set = λ x y. refl }))
     c.set_events.ensures
 
 pub returns-in_ok-fresh-in-Max-Max : goal.returns-in_ok-fresh-in-Max-Max
 returns-in_ok-fresh-in-Max-Max c = IfOk-weaker c.max_events.result _ _
-    (λ v e. e ∙ maxes_fresh _ _ c.args.old.now c.args.put.now _ _ _ _ c.in-Max-Max.is-0 c.in-Max-Max.is-1 c.state-in-Max-Max.ensures c.state-in-Max-Max-2.ensures (c.deref-in-Max-Max.ensures.value ∙ c.in_ok-fresh-in-Max-Max.ensures) (record { cells = λ x z. refl; sets = λ x z. refl; maxes = λ x z. refl; one_two = λ x y. refl; two_one = λ x y. refl; set_max = λ x y. refl; max_set = λ x y. refl }))
+    (λ v e. e ∙ maxes_fresh _ _ c.args.old.now c.args.put.now _ _ _ _ c.in-Max-Max.is-0 c.in-Max-Max.is-1 refl refl (c.deref-in-Max-Max.ensures.value ∙ c.in_ok-fresh-in-Max-Max.ensures) (record { cells = λ x z. refl; sets = λ x z. refl; maxes = λ x z. refl; one_two = λ x y. refl; two_one = λ x y. refl; set_max = λ x y. refl; max_set = λ x y. refl }))
     c.max_events.ensures
