@@ -18,6 +18,7 @@ use Rattle.lvish_picture.specs.Counts.{ActCounted}
 use Rattle.lvish_picture.proofs.Cursors.{seat_with}
 use Rattle.lvish_picture.proofs.Slots.{get_there, contained, among}
 use Rattle.lvish_calculus.specs.Handing.{IsAmong}
+use Rattle.lvish_core.specs.declared.limits.TheConstants.{MOST_STEPS}
 use Rattle.lvish_core.specs.declared.handler_place.HandlerPlace.{HandlerPlace}
 use Rattle.lvish_core.specs.declared.touched.Touched.TheVariants.{Other}
 use Rattle.lvish_core.specs.Core.{CoreView, state}
@@ -117,7 +118,7 @@ module _ {P S E R A L : Type 0} (M : Machine S E R A L) (ok : IsLawful M) (varia
           let seated : IsHandlerSeated old.table s.0 s.1 s.2 s.3 = s.4 in
           absurd (not_held fresh s.0 s.2 seated.beside (subst (λ (k : Handler E). IsHeld (s.2).held k) s.5 (contained _ _ (among_map (λ (k : Held E). k.name) s.3 (s.2).held (among _ _ seated.held)))))
 
-  module _ (law : ActKept IsAddStep M) (law2 : ActCounted IsAddStep M) (shallow : is_deep t ≡ false) (v : ℕ) (own : M.pool_variable pool ≡ Some v) (x : Variable S E) (x_at : slice_get old.table.variables v ≡ Some x) (unfrozen : (state M old).frozen v ≡ false)
+  module _ (room : old.steps < MOST_STEPS) (law : ActKept IsAddStep M) (law2 : ActCounted IsAddStep M) (shallow : is_deep t ≡ false) (v : ℕ) (own : M.pool_variable pool ≡ Some v) (x : Variable S E) (x_at : slice_get old.table.variables v ≡ Some x) (unfrozen : (state M old).frozen v ≡ false)
       (more : List (Handler E × HandlerPlace)) (put_in : PlacesAt M.event_same places name (Some (record { variable = v; pool = pool; procedure = procedure })) more) (hss : List (Handlers E))
       (w : AddedAt (record { name = name; pool = pool; procedure = procedure; handed = 0 }) v old.table.handlers hss) (us : List (Name E × Task L)) (sets : Sets M.event_same old.table.tasks t (Live (M.resume at Done) f (suc a) p) us) where
     abbrev new : Table S E L
@@ -165,7 +166,7 @@ module _ {P S E R A L : Type 0} (M : Machine S E R A L) (ok : IsLawful M) (varia
     owns k q false e is = kept.index.own k q (sym e ∙ is)
 
     pub adding : Moves M ok variables n places old kept (Act t) change new more Other
-    adding = acted M ok variables n places old kept t at f a p (Add pool procedure) acts change new more Other refl (record {
+    adding = acted M ok variables n places old kept t at f a p (Add pool procedure) acts change new more Other refl room (record {
       does = does;
       turn = on t acts.local _ f a p f (suc a) p acts.asking.live (omega arith) (omega arith) (omega arith);
       begins = nobody;

@@ -25,7 +25,7 @@ use Rattle.lvish_core.specs.declared.fault.Stepped.TheVariants.{Error as ErrorSt
 use Rattle.lvish_core.specs.Core.{CoreView, state, IsRunTo, IsStep}
 use Rattle.lvish_core.specs.Changes.{nothing_moved, moved_in, task_touches, brings}
 use Rattle.lvish_core.specs.Beside.{RefusedAt}
-use Rattle.lvish_core.specs.Acts.{IsActing, IsFailing, IsMoving}
+use Rattle.lvish_core.specs.Acts.{IsActing, IsFailing, IsRefused, IsMoving}
 use Rattle.lvish_core.specs.Kept.{IsKept}
 use Rattle.lvish_core.proofs.Gets.{rewritten}
 use Rattle.lvish_core.specs.laws.Runs.{at_state, pictured_by}
@@ -66,7 +66,7 @@ module _ {S E R A L : Type 0} (M : Machine S E R A L) where
   fails_does c Nothing kind v t e = absurd (cc e)
 
 module _ {P S E R A L : Type 0} (M : Machine S E R A L) (ok : IsLawful M) (law : ErrorsAreSteps M) (variables n : ℕ) (places : List (Handler E × HandlerPlace)) (old : CoreView P S E L)
-    (kept : IsKept M variables n places old) (t : Name E) (kind : ErrorKind) (v : Option ℕ) (h : IsFailing M old t kind v) where
+    (kept : IsKept M variables n places old) (t : Name E) (kind : ErrorKind) (v : Option ℕ) (h : IsFailing M old t kind v) (room : old.steps < MOST_STEPS) where
   abbrev later : Name E → CoreView P S E L
   later u = record { program = old.program; table = old.table; steps = old.steps + 1; fault = Some (record { kind = kind; variable = v; task = u }); touched = Some Other }
 
@@ -88,7 +88,6 @@ module _ {P S E R A L : Type 0} (M : Machine S E R A L) (ok : IsLawful M) (law :
   failed_step : IsStep M old (Act t) (later t) (ErrorStep kind)
   failed_step =
       let s = said kept.standing.run kept.standing.pictured in
-      let room : old.steps < MOST_STEPS = h.acting.room in
       record {
         enabled = (subst (λ (q : Configuration S E L). CanStep M q (Act t)) (sym (at_state M old h.acting.no_fault)) s.0, tt);
         program = refl;
@@ -104,7 +103,6 @@ module _ {P S E R A L : Type 0} (M : Machine S E R A L) (ok : IsLawful M) (law :
 
   failed_kept : IsKept M variables n places (later t)
   failed_kept =
-      let room : old.steps < MOST_STEPS = h.acting.room in
       record {
         reached = record {
           labels = kept.reached.labels ++ Act t ∷ [];
@@ -126,18 +124,18 @@ module _ {P S E R A L : Type 0} (M : Machine S E R A L) (ok : IsLawful M) (law :
       (record { step = failed_step; change = sym (ap moved_in does) }, failed_kept)
 
 -- a put that the variable refuses
-module _ {P S E R A L : Type 0} (M : Machine S E R A L) (old : CoreView P S E L) (t : Name E) (at : L) (f a p v : ℕ) (d : S) (acts : IsActing M old t at f a p (Put v d)) where
-  refused_fails : (o : PutFault) (kind : ErrorKind) → RefusedAt M.join d v old.table.variables o → ((o ≡ PutConflict) × (kind ≡ Conflict)) ⊎ ((o ≡ PutFrozen) × (kind ≡ Frozen)) → IsFailing M old t kind (Some v)
-  refused_fails o kind w by = record { at = at; forks = f; adds = a; puts = p; request = Put v d; acting = acts; errs = errs by }
+module _ {P S E R A L : Type 0} (M : Machine S E R A L) (old : CoreView P S E L) (t : Name E) where
+  pub refused_fails : (v : ℕ) (o : PutFault) (kind : ErrorKind) → IsRefused M old t v o → ((o ≡ PutConflict) × (kind ≡ Conflict)) ⊎ ((o ≡ PutFrozen) × (kind ≡ Frozen)) → IsFailing M old t kind (Some v)
+  refused_fails v o kind r by = record { at = r.at; forks = r.forks; adds = r.adds; puts = r.puts; request = Put v r.put; acting = r.acting; errs = errs by }
     where
-      errs : ((o ≡ PutConflict) × (kind ≡ Conflict)) ⊎ ((o ≡ PutFrozen) × (kind ≡ Frozen)) → IsErring M old.table t (Put v d) kind (Some v)
-      errs (inl e) = let z = rw e.0 at w in rw e.1 (z.from, z.was, z.refused, refl)
-      errs (inr e) = let z = rw e.0 at w in rw e.1 (z.from, z.was, z.refused, refl)
+      errs : ((o ≡ PutConflict) × (kind ≡ Conflict)) ⊎ ((o ≡ PutFrozen) × (kind ≡ Frozen)) → IsErring M old.table t (Put v r.put) kind (Some v)
+      errs (inl e) = let z = rw e.0 at r.why in rw e.1 (z.from, z.was, z.refused, refl)
+      errs (inr e) = let z = rw e.0 at r.why in rw e.1 (z.from, z.was, z.refused, refl)
 
   -- as the core stands after its slice was handed out
-  pub refused : (slice new : List (Variable S E)) (n : ℕ) → slice ≡ old.table.variables → n ≡ length old.table.variables → new ≡ slice → (o : PutFault) → RefusedAt M.join d v slice o → (kind : ErrorKind) → ((o ≡ PutConflict) × (kind ≡ Conflict)) ⊎ ((o ≡ PutFrozen) × (kind ≡ Frozen))
-      → IsFailing M (record { program = old.program; table = record { variables = take n (new ++ drop (length new) old.table.variables); handlers = old.table.handlers; tasks = old.table.tasks }; steps = old.steps; fault = old.fault; touched = old.touched }) t kind (Some v)
-  refused slice new n is len same o w kind by =
-      subst (λ l. IsFailing M (record { program = old.program; table = record { variables = l; handlers = old.table.handlers; tasks = old.table.tasks }; steps = old.steps; fault = old.fault; touched = old.touched }) t kind (Some v))
+  pub refused : (at : L) (f a p v : ℕ) (d : S) → IsActing M old t at f a p (Put v d) → (slice new : List (Variable S E)) (n : ℕ) → slice ≡ old.table.variables → n ≡ length old.table.variables → new ≡ slice → (o : PutFault) → RefusedAt M.join d v slice o
+      → IsRefused M (record { program = old.program; table = record { variables = take n (new ++ drop (length new) old.table.variables); handlers = old.table.handlers; tasks = old.table.tasks }; steps = old.steps; fault = old.fault; touched = old.touched }) t v o
+  refused at f a p v d acts slice new n is len same o w =
+      subst (λ l. IsRefused M (record { program = old.program; table = record { variables = l; handlers = old.table.handlers; tasks = old.table.tasks }; steps = old.steps; fault = old.fault; touched = old.touched }) t v o)
       (sym (same ∙ is) ∙ rewritten old.table.variables new n len (ap length (same ∙ is)))
-      (refused_fails o kind (subst (λ l. RefusedAt M.join d v l o) is w) by)
+      (record { at = at; forks = f; adds = a; puts = p; put = d; acting = acts; why = subst (λ l. RefusedAt M.join d v l o) is w })

@@ -121,5 +121,5 @@ module _ {P S E R A L : Type 0} (M : Machine S E R A L) (ok : IsLawful M) (varia
     pub as_asked : (k : L → Task L) (from us : List (Name E × Task L)) → Sets M.event_same from t (k at) us → AreTasks M.event_same from (Some (t, k (M.at acts.local))) None us
     as_asked k from us sets u = subst (λ l. task_of M.event_same us u ≡ with_task M.event_same (Some (t, k l)) (task_of M.event_same from) u) acts.at_is (sets.each u)
 
-    pub acted : (change : Change S E L) (new : Table S E L) (more : List (Handler E × HandlerPlace)) (on : Touched) → on ≡ task_touches M (state M old) (Changes change) → Going (Act t) change new more → Moves (Act t) change new more on
-    acted change new more on touches g = moves (Act t) change new more on acts.no_fault acts.room tt (touches ∙ sym (ap (task_touches M (state M old)) g.does)) g
+    pub acted : (change : Change S E L) (new : Table S E L) (more : List (Handler E × HandlerPlace)) (on : Touched) → on ≡ task_touches M (state M old) (Changes change) → old.steps < MOST_STEPS → Going (Act t) change new more → Moves (Act t) change new more on
+    acted change new more on touches room g = moves (Act t) change new more on acts.no_fault room tt (touches ∙ sym (ap (task_touches M (state M old)) g.does)) g

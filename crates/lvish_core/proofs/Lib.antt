@@ -1,6 +1,7 @@
 pub mod Maps
 pub mod Ordered
 pub mod Gets
+pub mod Repeats
 pub mod Numbering
 pub mod Turns
 pub mod Goes

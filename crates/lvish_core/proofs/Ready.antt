@@ -1,5 +1,5 @@
 -- Whether a request can be made, told by the variable's state, by cursors and by counts.
-use Rattle.std.proofs.Common.{◌≡◌, ◌↔◌, ◌<◌, ℕ, Bool, false, List, length, Option, Some, sym, ap, ◌∙◌, get_or, is_some, option_map, unwrap_or, inl, inr, ◌≤◌, ◌+◌, refl, subst, arith}
+use Rattle.std.proofs.Common.{◌≡◌, ◌↔◌, ◌<◌, ℕ, Bool, false, List, length, Option, Some, sym, ap, ◌∙◌, get_or, is_some, option_map, unwrap_or, inl, inr, ◌+◌, min, refl, subst, arith}
 use Rattle.std.specs.List.{All, slice_get, slice_index}
 use Rattle.std.specs.Bool.{IsTrue}
 use Rattle.std.proofs.lemmas.Bool.{both_ways, cases_lt}
@@ -10,13 +10,12 @@ use Rattle.lvish_calculus.specs.Machine.{Machine, IsOf}
 use Rattle.lvish_calculus.specs.Calculus.{IsReady, IsQuiet}
 use Rattle.lvish_names.specs.Names.{Handler}
 use Rattle.lvish_variable.specs.Variable.{VariableView as Variable}
-use Rattle.lvish_handlers.specs.Handlers.{HandlersView as Handlers}
+use Rattle.lvish_handlers.specs.Handlers.{HandlersView as Handlers, IsWithin}
 use Rattle.lvish_picture.specs.Counts.{FreezesByCounts}
 use Rattle.lvish_core.specs.declared.handler_place.HandlerPlace.{HandlerPlace}
 use Rattle.lvish_core.specs.Core.{CoreView, state}
 use Rattle.lvish_core.specs.Kept.{IsKept}
-use Rattle.lvish_picture.specs.Picture.{Table}
-use Rattle.lvish_core.specs.Reads.{AreDrained}
+use Rattle.lvish_core.specs.Reads.{AreWithin, IsAllHanded}
 
 module _ {P S E R A L : Type 0} (M : Machine S E R A L) (n running : ℕ) (places : List (Handler E × HandlerPlace)) (c : CoreView P S E L) (k : IsKept M n running places c) where
   -- a variable that the program has is in the table
@@ -53,31 +52,35 @@ module _ {P S E R A L : Type 0} (M : Machine S E R A L) (n running : ℕ) (place
 -- ---- whether every handler was handed its variable's whole log, variable by variable
 
 -- those of the first n variables were
-abbrev pub DrainedBelow : {S E L : Type 0} → Table S E L → ℕ → Type 0
-DrainedBelow {S} {E} c n = (v : ℕ) (x : Variable S E) (hs : Handlers E) → v < n → slice_get c.variables v ≡ Some x → slice_get c.handlers v ≡ Some hs → All (λ h. h.handed ≡ length x.log) hs.held
+abbrev pub HandedBelow : {S E : Type 0} → List (Variable S E) → List (Handlers E) → ℕ → Type 0
+HandedBelow {S} {E} xs hss n = (v : ℕ) (x : Variable S E) (hs : Handlers E) → v < n → slice_get xs v ≡ Some x → slice_get hss v ≡ Some hs → All (λ h. h.handed ≡ length x.log) hs.held
 
-module _ {S E L : Type 0} (c : Table S E L) (n : ℕ) (x : Variable S E) (hs : Handlers E) (at : (d : Variable S E) → x ≡ get_or c.variables n d) (low : n < length c.variables) (by : (d : Handlers E) → hs ≡ get_or c.handlers n d) (under : n < length c.handlers) where
-  at_is : slice_get c.variables n ≡ Some x
-  at_is = slice_get_read c.variables (length c.variables) n x refl low (at x)
+module _ {S E : Type 0} (xs : List (Variable S E)) (hss : List (Handlers E)) where
+  module _ (n : ℕ) (x : Variable S E) (hs : Handlers E) (at : (d : Variable S E) → x ≡ get_or xs n d) (low : n < length xs) (by : (d : Handlers E) → hs ≡ get_or hss n d) (under : n < length hss) where
+    at_is : slice_get xs n ≡ Some x
+    at_is = slice_get_read xs (length xs) n x refl low (at x)
 
-  by_is : slice_get c.handlers n ≡ Some hs
-  by_is = slice_get_read c.handlers (length c.handlers) n hs refl under (by hs)
+    by_is : slice_get hss n ≡ Some hs
+    by_is = slice_get_read hss (length hss) n hs refl under (by hs)
 
-  -- one variable more
-  pub one_more : DrainedBelow c n → All (λ h. h.handed ≡ length x.log) hs.held → (m : ℕ) → m ≡ n + 1 → DrainedBelow c m
-  one_more below here m more v y ks lt y_is ks_is = elim (cases_lt v n) [
-    | inl less ↦ below v y ks less y_is ks_is
-    | inr ge ↦
-        let v_is : n ≡ v = omega (arith, lt, ge, more) in
-        let xx : x ≡ y = same_Some _ _ (sym at_is ∙ ap (λ u. slice_get c.variables u) v_is ∙ y_is) in
-        let hh : hs ≡ ks = same_Some _ _ (sym by_is ∙ ap (λ u. slice_get c.handlers u) v_is ∙ ks_is) in
-        subst (λ (y : Variable S E). All (λ h. h.handed ≡ length y.log) ks.held) xx (subst (λ (ks : Handlers E). All (λ h. h.handed ≡ length x.log) ks.held) hh here)
-  ]
+    pub within_here : AreWithin xs hss → IsWithin hs x.log
+    within_here all = all n x hs at_is by_is
 
-  -- a variable whose log isn't handed to all
-  pub not_all : (All (λ h. h.handed ≡ length x.log) hs.held → ⊥) → AreDrained c → ⊥
-  not_all none all = none (all n x hs at_is by_is)
+    -- one variable more
+    pub one_more : HandedBelow xs hss n → All (λ h. h.handed ≡ length x.log) hs.held → (m : ℕ) → m ≡ n + 1 → HandedBelow xs hss m
+    one_more below here m more v y ks lt y_is ks_is = elim (cases_lt v n) [
+      | inl less ↦ below v y ks less y_is ks_is
+      | inr ge ↦
+          let v_is : n ≡ v = omega (arith, lt, ge, more) in
+          let xx : x ≡ y = same_Some _ _ (sym at_is ∙ ap (λ u. slice_get xs u) v_is ∙ y_is) in
+          let hh : hs ≡ ks = same_Some _ _ (sym by_is ∙ ap (λ u. slice_get hss u) v_is ∙ ks_is) in
+          subst (λ (y : Variable S E). All (λ h. h.handed ≡ length y.log) ks.held) xx (subst (λ (ks : Handlers E). All (λ h. h.handed ≡ length x.log) ks.held) hh here)
+    ]
 
--- all variables
-pub all_below : {S E L : Type 0} (c : Table S E L) (n : ℕ) → DrainedBelow c n → length c.variables ≤ n → AreDrained c
-all_below c n below le v x hs at by = below v x hs (omega (arith, slice_get_within c.variables v x at, le)) at by
+    -- a variable whose log isn't handed to all
+    pub not_all : (All (λ h. h.handed ≡ length x.log) hs.held → ⊥) → IsAllHanded xs hss → ⊥
+    not_all none all = none (all n x hs at_is by_is)
+
+  -- all variables
+  pub all_below : (n : ℕ) → HandedBelow xs hss n → n ≡ min (length xs) (length hss) → IsAllHanded xs hss
+  all_below n below is v x hs at by = below v x hs (omega (arith, is, slice_get_within xs v x at, slice_get_within hss v hs by)) at by

@@ -20,7 +20,6 @@ use Rattle.lvish_core.specs.Core.{CoreView, IsNext, CanTake, state, IsStep, IsSt
 use Rattle.lvish_core.specs.Places.{place_at, post_of}
 use Rattle.lvish_core.specs.Kept.{IsKept}
 use Rattle.std.proofs.lemmas.Bool.{false≢true}
-use Rattle.lvish_core.specs.declared.limits.TheConstants.{MOST_STEPS}
 use Rattle.lvish_calculus.specs.declared.label.Label.{Label}
 use Rattle.lvish_core.specs.declared.fault.Stepped.{Stepped}
 use Rattle.lvish_core.specs.declared.fault.StepFault.{StepFault}
@@ -154,10 +153,9 @@ module _ {P S E R A L : Type 0} (M : Machine S E R A L) (n running : ℕ) (place
     pub next_taken : HandsTheNext M → is_some c.fault ≡ false → (e : E) → next_of M.event_same x.log hs.held name ≡ Some e → CanTake M c (Hand name e)
     next_taken hands no_error e is = next_can M n running places c k ok posts hands no_error name e (next_is e is)
 
-    pub is_handing : is_some c.fault ≡ false → c.steps < MOST_STEPS → (e : E) → next_of M.event_same x.log hs.held name ≡ Some e → IsHanding M c name p e
-    is_handing no_error room e is = record {
+    pub is_handing : is_some c.fault ≡ false → (e : E) → next_of M.event_same x.log hs.held name ≡ Some e → IsHanding M c name p e
+    is_handing no_error e is = record {
       no_fault = no_fault c.fault no_error;
-      room = room;
       post = sym (k.index.posts name) ∙ ap (option_map post_of) at;
       own = k.index.own name p at;
       at = x;

@@ -77,11 +77,10 @@ not_full n b full e = elim (cases_lt n MOST_STEPS) [
 pub is_full : (n : ℕ) (b : Bool) → n ≤ MOST_STEPS → IsTrue b ↔ (MOST_STEPS ≤ n) → b ≡ true → n ≡ MOST_STEPS
 is_full n b le full e = let ge : MOST_STEPS ≤ n = full.0 e in omega arith
 
-pub acting : {P S E R A L : Type 0} (M : Machine S E R A L) (c : CoreView P S E L) → is_some c.fault ≡ false → c.steps < MOST_STEPS → (t : Name E) (l : L) (f a p : ℕ) → task_of M.event_same c.table.tasks t ≡ Live l f a p
+pub acting : {P S E R A L : Type 0} (M : Machine S E R A L) (c : CoreView P S E L) → is_some c.fault ≡ false → (t : Name E) (l : L) (f a p : ℕ) → task_of M.event_same c.table.tasks t ≡ Live l f a p
     → (r : Request S R L) → M.request l ≡ r → (at : L) → M.at l ≡ at → (b : Bool) → IsTrue b ↔ IsReady M (state M c) r → b ≡ true → IsActing M c t at f a p r
-acting M c none room t l f a p live r asks at at_is b ready e = record {
+acting M c none t l f a p live r asks at at_is b ready e = record {
   no_fault = no_fault c.fault none;
-  room = room;
   local = l;
   asking = record { live = live; asked = asks };
   at_is = sym at_is;

@@ -1,27 +1,29 @@
 -- What the parts of a step take and leave.
-use Rattle.std.specs.Prelude.{◌≡◌, ◌<◌, ℕ, Option, None, Result, MatchResult}
-use Rattle.lvish_core.specs.declared.limits.TheConstants.{MOST_STEPS}
+use Rattle.std.specs.Prelude.{◌≡◌, ◌+◌, ℕ, false, Option, Some, None, Result, MatchResult}
 use Rattle.lvish_calculus.specs.declared.label.Label.{Label}
 use Rattle.lvish_calculus.specs.declared.label.Label.TheVariants.{Act}
 use Rattle.lvish_calculus.specs.declared.request.ErrorKind.{ErrorKind}
 use Rattle.lvish_calculus.specs.declared.request.Request.{Request}
+use Rattle.lvish_calculus.specs.declared.request.Request.TheVariants.{Put}
 use Rattle.lvish_calculus.specs.Machine.{Machine}
 use Rattle.lvish_calculus.specs.declared.request.Reply.{Reply}
 use Rattle.lvish_calculus.specs.Calculus.{Live, Changes, IsReady, request_effect, just}
-use Rattle.lvish_names.specs.Names.{Name}
+use Rattle.lvish_names.specs.Names.{Name, Handler, is_deep}
 use Rattle.lvish_calculus.specs.Program.{IsReplyTo}
+use Rattle.lvish_variable.specs.declared.put_fault.PutFault.{PutFault}
 use Rattle.lvish_picture.specs.Steps.{IsAsking, IsErring}
+use Rattle.lvish_core.specs.declared.handler_place.HandlerPlace.{HandlerPlace}
 use Rattle.lvish_core.specs.declared.fault.Stepped.{Stepped}
 use Rattle.lvish_core.specs.declared.fault.StepFault.{StepFault}
 use Rattle.lvish_core.specs.declared.fault.StepFault.TheVariants.{Memory}
 use Rattle.lvish_core.specs.declared.moved.Moved.{Moved}
 use Rattle.lvish_core.specs.Core.{CoreView, IsStep, state}
 use Rattle.lvish_core.specs.Changes.{IsMoved}
+use Rattle.lvish_core.specs.Beside.{RefusedAt}
 
--- there is no error and room for a step, and t's request r, made in the local state at, is ready
+-- there is no error, and t's request r, made in the local state at, is ready
 pub record IsActing {P S E R A L : Type 0} (M : Machine S E R A L) (c : CoreView P S E L) (t : Name E) (at : L) (f a p : ℕ) (r : Request S R L) : Type 0 where
   pub no_fault : c.fault ≡ None
-  pub room : c.steps < MOST_STEPS
   pub local : L
   pub asking : IsAsking M c.table t local f a p r
   pub at_is : at ≡ M.at local
@@ -43,6 +45,23 @@ pub record IsFailing {P S E R A L : Type 0} (M : Machine S E R A L) (c : CoreVie
   pub request : Request S R L
   pub acting : IsActing M c t at forks adds puts request
   pub errs : IsErring M c.table t request kind v
+
+-- t's request is a put into v, which the variable refuses
+pub record IsRefused {P S E R A L : Type 0} (M : Machine S E R A L) (c : CoreView P S E L) (t : Name E) (v : ℕ) (f : PutFault) : Type 0 where
+  pub at : L
+  pub forks : ℕ
+  pub adds : ℕ
+  pub puts : ℕ
+  pub put : S
+  pub acting : IsActing M c t at forks adds puts (Put v put)
+  pub why : RefusedAt M.join put v c.table.variables f
+
+-- the handler is the next one that t adds, at a place on a variable that isn't frozen, and its name isn't too long
+pub record IsSeating {P S E R A L : Type 0} (M : Machine S E R A L) (c : CoreView P S E L) (t : Name E) (a : ℕ) (h : Handler E) (place : HandlerPlace) : Type 0 where
+  pub named : h ≡ record { adder = t; number = a + 1 }
+  pub shallow : is_deep t ≡ false
+  pub own : M.pool_variable place.pool ≡ Some place.variable
+  pub unfrozen : (state M c).frozen place.variable ≡ false
 
 -- a step with the label was made, and this was moved by it
 pub record IsMoving {P S E R A L : Type 0} (M : Machine S E R A L) (old : CoreView P S E L) (l : Label E) (new : CoreView P S E L) (said : Stepped) (moved : Moved E L) : Type 0 where

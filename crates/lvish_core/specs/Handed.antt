@@ -1,5 +1,5 @@
 -- What a handler's step takes and leaves.
-use Rattle.std.specs.Prelude.{◌≡◌, ◌<◌, Some, None, Result, MatchResult, slice_get}
+use Rattle.std.specs.Prelude.{◌≡◌, Some, None, Result, MatchResult, slice_get}
 use Rattle.lvish_core.specs.declared.limits.TheConstants.{MOST_STEPS}
 use Rattle.lvish_calculus.specs.declared.label.Label.TheVariants.{Hand}
 use Rattle.lvish_calculus.specs.Machine.{Machine}
@@ -26,10 +26,9 @@ IsNotHanded {E = E} M c h NotEnabled = (e : E) → CanTake M c (Hand h e) → �
 IsNotHanded {E = E} M c h Full = (e : E) × CanTake M c (Hand h e) × (c.steps ≡ MOST_STEPS)
 IsNotHanded M c h Memory = Unit {0}
 
--- there is no error and room for a step, and e comes next for h, which is at this place
+-- there is no error, and e comes next for h, which is at this place
 pub record IsHanding {P S E R A L : Type 0} (M : Machine S E R A L) (c : CoreView P S E L) (h : Handler E) (p : HandlerPlace) (e : E) : Type 0 where
   pub no_fault : c.fault ≡ None
-  pub room : c.steps < MOST_STEPS
   pub post : (state M c).handlers h ≡ Some (post_of p)
   pub own : M.pool_variable p.pool ≡ Some p.variable
   pub at : Variable S E

@@ -7,7 +7,7 @@ use Rattle.lvish_names.specs.Names.{Name, Handler}
 use Rattle.lvish_calculus.specs.Live.{HasLive}
 use Rattle.lvish_variable.specs.Variable.{VariableView as Variable}
 use Rattle.lvish_handlers.specs.declared.held.Held.{Held}
-use Rattle.lvish_handlers.specs.Handlers.{HandlersView as Handlers}
+use Rattle.lvish_handlers.specs.Handlers.{HandlersView as Handlers, IsWithin}
 use Rattle.lvish_picture.specs.Picture.{Table}
 use Rattle.lvish_core.specs.Core.{CoreView, state}
 
@@ -48,6 +48,14 @@ pub record AreHandlers {P S E R A L : Type 0} (M : Machine S E R A L) (c : CoreV
   pub are : held ≡ beside.held
   pub just : (h : Handler E) (post : Post) → IsHeldAs held h post ↔ (((state M c).handlers h ≡ Some post) × (M.pool_variable post.pool ≡ Some v))
 
+-- no handler beside a variable was handed more than the log of the variable has
+abbrev pub AreWithin : {S E : Type 0} → List (Variable S E) → List (Handlers E) → Type 0
+AreWithin {S} {E} variables handlers = (v : ℕ) (x : Variable S E) (hs : Handlers E) → slice_get variables v ≡ Some x → slice_get handlers v ≡ Some hs → IsWithin hs x.log
+
+-- every handler beside a variable was handed the whole log of the variable
+abbrev pub IsAllHanded : {S E : Type 0} → List (Variable S E) → List (Handlers E) → Type 0
+IsAllHanded {S} {E} variables handlers = (v : ℕ) (x : Variable S E) (hs : Handlers E) → slice_get variables v ≡ Some x → slice_get handlers v ≡ Some hs → All (λ h. h.handed ≡ length x.log) hs.held
+
 -- every handler was handed the whole log of its variable
 abbrev pub AreDrained : {S E L : Type 0} → Table S E L → Type 0
-AreDrained {S} {E} c = (v : ℕ) (x : Variable S E) (hs : Handlers E) → slice_get c.variables v ≡ Some x → slice_get c.handlers v ≡ Some hs → All (λ h. h.handed ≡ length x.log) hs.held
+AreDrained c = IsAllHanded c.variables c.handlers

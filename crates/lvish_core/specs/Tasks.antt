@@ -1,10 +1,11 @@
 -- The tasks of a core under their names.
-use Rattle.std.specs.Prelude.{◌≡◌, Bool, List, Option, Some, None, map}
+use Rattle.std.specs.Prelude.{◌≡◌, ℕ, Bool, false, List, Option, Some, None, map}
 use Rattle.std.specs.Borrow.{Bor}
 use Rattle.std.specs.Map.Iter.{deref_pair}
 use Rattle.lvish_calculus.specs.Calculus.{Task, Absent, Live, Ended, with_task}
-use Rattle.lvish_names.specs.Names.{Name}
+use Rattle.lvish_names.specs.Names.{Name, forked, is_deep}
 use Rattle.lvish_picture.specs.Picture.{task_of}
+use Rattle.lvish_core.specs.declared.child.Child.{Child}
 use Rattle.lvish_core.specs.declared.stage.Stage.{Stage}
 use Rattle.lvish_core.specs.declared.stage.Stage.TheVariants.{Live as LiveStage, Ended as EndedStage}
 
@@ -29,6 +30,13 @@ task_names tasks = map (λ e. e.0) tasks
 -- the new list has k under t, and under each other name what the old one has
 pub record Sets {E L : Type 0} (eq : E → E → Bool) (old : List (Name E × Task L)) (t : Name E) (k : Task L) (new : List (Name E × Task L)) : Type 0 where
   pub each : (u : Name E) → task_of eq new u ≡ with_task eq (Some (t, k)) (task_of eq old) u
+
+-- the parent's child of this number, which starts in the local state
+pub record IsChild {E L : Type 0} (parent : Name E) (number : ℕ) (local : L) (c : Child E L) : Type 0 where
+  pub shallow : is_deep parent ≡ false
+  pub name : c.name ≡ forked parent number
+  pub stage : standing c.stage ≡ Live local 0 0 0
+  pub made : c.made ≡ record { name = forked parent number; local = local }
 
 -- the entries behind references
 abbrev pub entries_at : {E L : Type 0} → List (Bor (Name E) × Bor (Stage L)) → List (Name E × Stage L)

@@ -5,11 +5,22 @@ use lvish_names::TaskName;
 use std::alloc::AllocError;
 
 /// The error that a run met: its kind, its variable if it has one, and the task that met it.
-#[derive(Debug, Drop)]
+#[derive(Debug)]
 pub struct RunError<E> {
     pub kind: ErrorKind,
     pub variable: Option<usize>,
     pub task: TaskName<E>,
+}
+
+// Written out, so that it is proved once, and not at each exit of a function that owns one.
+impl<E: Drop> Drop for RunError<E> {
+    fn drop(self) {
+        let RunError {
+            kind: _,
+            variable: _,
+            task: _,
+        } = self;
+    }
 }
 
 /// What a step led to.

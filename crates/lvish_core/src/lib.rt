@@ -20,7 +20,9 @@
 
 mod begun;
 mod beside;
+mod child;
 mod core_meaning;
+mod drained;
 mod ending;
 mod fault;
 mod handler_place;
@@ -30,6 +32,7 @@ mod machine;
 mod moved;
 mod places;
 mod pools;
+mod resumed;
 mod seat;
 mod stage;
 mod tasks;

@@ -38,7 +38,6 @@ use std::marker::Model;
 /// A run of a program, as far as it has come.
 ///
 /// It stands for one configuration, and each step is a step of the calculus.
-#[derive(Drop)]
 pub struct Core<'p, P: Program> {
     program: &'p P,
     variables: Vec<Variable<P::Lat>>,
@@ -50,6 +49,23 @@ pub struct Core<'p, P: Program> {
     steps: u64,
     fault: Option<RunError<<P::Lat as Lattice>::Event>>,
     touched: Option<Touched>,
+}
+
+// Written out, so that it is proved once, and not at each exit of a function that owns one.
+impl<'p, P: Program> Drop for Core<'p, P> {
+    fn drop(self) {
+        let Core {
+            program: _,
+            variables: _,
+            handlers: _,
+            tasks: _,
+            places: _,
+            running: _,
+            steps: _,
+            fault: _,
+            touched: _,
+        } = self;
+    }
 }
 
 impl<'p, P: Program> Model for Core<'p, P> {

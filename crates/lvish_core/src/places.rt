@@ -12,9 +12,15 @@ use std::collections::btree_map::Iter;
 use std::marker::Model;
 
 /// Where each handler is, in the order of names.
-#[derive(Drop)]
 pub(crate) struct Places<E: Ord> {
     places: BTreeMap<HandlerName<E>, HandlerPlace>,
+}
+
+// Written out, so that it is proved once, and not at each exit of a function that owns one.
+impl<E: Ord + Drop> Drop for Places<E> {
+    fn drop(self) {
+        let Places { places: _ } = self;
+    }
 }
 
 impl<E: Ord> Model for Places<E> {

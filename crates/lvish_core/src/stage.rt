@@ -3,7 +3,7 @@ ghost use Rattle.lvish_calculus.specs.Calculus.{Live};
 ghost use Rattle.lvish_core.specs.Tasks.{standing};
 
 /// What runs under a task's name.
-#[derive(Debug, Drop)]
+#[derive(Debug)]
 pub enum Stage<L> {
     /// A task with its numbers of forks, added handlers and puts.
     Live {
@@ -13,6 +13,22 @@ pub enum Stage<L> {
         puts: u64,
     },
     Ended,
+}
+
+// Written out, so that a function that owns a stage drops it by one call.
+// Written out, so that it is proved once, and not at each exit of a function that owns one.
+impl<L: Drop> Drop for Stage<L> {
+    fn drop(self) {
+        match self {
+            Stage::Live {
+                local: _,
+                forks: _,
+                adds: _,
+                puts: _,
+            } => {}
+            Stage::Ended => {}
+        }
+    }
 }
 
 impl<L> Stage<L> {

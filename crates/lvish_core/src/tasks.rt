@@ -18,9 +18,15 @@ use std::hash::Hash;
 use std::marker::Model;
 
 /// The tasks of a core under their names.
-#[derive(Drop)]
 pub(crate) struct Tasks<E: Eq + Hash, L> {
     stages: HashMap<TaskName<E>, Stage<L>>,
+}
+
+// Written out, so that it is proved once, and not at each exit of a function that owns one.
+impl<E: Eq + Hash + Drop, L: Drop> Drop for Tasks<E, L> {
+    fn drop(self) {
+        let Tasks { stages: _ } = self;
+    }
 }
 
 impl<E: Eq + Hash, L> Model for Tasks<E, L> {

@@ -1,9 +1,11 @@
 //! A task's action, by its request.
 
+ghost use Rattle.std.specs.Prelude.{◌<◌};
 ghost use Rattle.lvish_core.specs.Acts.{IsActing, Acts};
 
 use super::Core;
 use crate::fault::{StepFault, Stepped};
+use crate::limits::MOST_STEPS;
 use crate::moved::Moved;
 use crate::stage::TaskCounts;
 use lvish_calculus::{Meaning, Program, Reply, Request};
@@ -21,7 +23,8 @@ impl<'p, P: Program> Core<'p, P> {
         numbers: TaskCounts,
         request: &Request<P::Lat, <P::Lat as Reads>::Read, P::Local>,
     ) -> Result<(Stepped, Moved<<P::Lat as Lattice>::Event, P::Local>), StepFault>
-        requires { IsActing (⟦<P as Meaning>⟧.machine self.old.program) self.old name.now at.now numbers.forks numbers.adds numbers.puts request.now }
+        requires room { self.old.steps < MOST_STEPS }
+        requires acting { IsActing (⟦<P as Meaning>⟧.machine self.old.program) self.old name.now at.now numbers.forks numbers.adds numbers.puts request.now }
         ensures { Acts (⟦<P as Meaning>⟧.machine self.old.program) self.old name.now self.new result }
     {
         match request {

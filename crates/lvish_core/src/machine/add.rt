@@ -2,16 +2,18 @@
 
 ghost use Rattle.std.specs.Prelude.{◌≡◌, ◌<◌};
 ghost use Rattle.lvish_calculus.specs.declared.request.Request.TheVariants.{Add};
-ghost use Rattle.lvish_core.specs.Acts.{IsActing, Acts};
+ghost use Rattle.lvish_core.specs.Acts.{IsActing, IsSeating, Acts};
 ghost use Rattle.lvish_core.specs.Core.{state};
 
 use super::Core;
 use crate::ending::close;
 use crate::fault::{StepFault, Stepped};
 use crate::handler_place::HandlerPlace;
+use crate::limits::MOST_STEPS;
 use crate::moved::Moved;
+use crate::resumed::resumed;
 use crate::seat::seat;
-use crate::stage::{Stage, TaskCounts};
+use crate::stage::TaskCounts;
 use crate::touched::Touched;
 use lvish_calculus::laws::lawful;
 use lvish_calculus::{ErrorKind, Meaning, Program, Reply};
@@ -32,7 +34,40 @@ impl<'p, P: Program> Core<'p, P> {
         pool: usize,
         procedure: usize,
     ) -> Result<(Stepped, Moved<<P::Lat as Lattice>::Event, P::Local>), StepFault>
-        requires { IsActing (⟦<P as Meaning>⟧.machine self.old.program) self.old name.now at.now numbers.forks numbers.adds numbers.puts (Add pool procedure) }
+        requires room { self.old.steps < MOST_STEPS }
+        requires acting { IsActing (⟦<P as Meaning>⟧.machine self.old.program) self.old name.now at.now numbers.forks numbers.adds numbers.puts (Add pool procedure) }
+        ensures { Acts (⟦<P as Meaning>⟧.machine self.old.program) self.old name.now self.new result }
+    {
+        lawful::<P>();
+        let program = self.program;
+        let handler = match HandlerName::new(name, numbers.adds + 1) {
+            Ok(handler) => handler,
+            Err(NameFault::Deep) => return self.fail(name, ErrorKind::Deep, None),
+            Err(NameFault::Memory) => return Err(StepFault::Memory),
+        };
+        let Some(variable) = program.pool_variable(pool) else {
+            unreachable!("a task names pools that there are")
+        };
+        if self.is_late(variable) {
+            return self.fail(name, ErrorKind::Late, Some(variable));
+        }
+        let place = HandlerPlace::new(variable, pool, procedure);
+        self.add_on(alloc, name, at, numbers, handler, place)
+    }
+
+    /// Adds the handler at its place, on a variable that isn't frozen.
+    fn add_on(
+        &mut self,
+        alloc: Global,
+        name: &TaskName<<P::Lat as Lattice>::Event>,
+        at: &P::Local,
+        numbers: TaskCounts,
+        handler: HandlerName<<P::Lat as Lattice>::Event>,
+        place: HandlerPlace,
+    ) -> Result<(Stepped, Moved<<P::Lat as Lattice>::Event, P::Local>), StepFault>
+        requires room { self.old.steps < MOST_STEPS }
+        requires acting { IsActing (⟦<P as Meaning>⟧.machine self.old.program) self.old name.now at.now numbers.forks numbers.adds numbers.puts (Add place.pool place.procedure) }
+        requires seated { IsSeating (⟦<P as Meaning>⟧.machine self.old.program) self.old name.now numbers.adds handler place }
         ensures { Acts (⟦<P as Meaning>⟧.machine self.old.program) self.old name.now self.new result }
     {
         lawful::<P>();
@@ -40,24 +75,11 @@ impl<'p, P: Program> Core<'p, P> {
         counts_kept::<P>();
         names_are_new::<P>();
         handlers_are_held::<P>();
-        let local = self.program.resume(alloc, at, Reply::Done)?;
-        let own = self.program.copy_local(alloc, &local)?;
-        let adds = numbers.adds + 1;
-        let handler = match HandlerName::new(name, adds) {
-            Ok(handler) => handler,
-            Err(NameFault::Deep) => return self.fail(name, ErrorKind::Deep, None),
-            Err(NameFault::Memory) => return Err(StepFault::Memory),
-        };
-        let Some(variable) = self.program.pool_variable(pool) else {
-            unreachable!("a task names pools that there are")
-        };
-        if self.is_late(variable) {
-            return self.fail(name, ErrorKind::Late, Some(variable));
-        }
-        let on = &self.variables[variable];
-        let added = handler.copy()?;
-        let place = HandlerPlace::new(variable, pool, procedure);
-        seat(
+        let adds = handler.number();
+        let next = TaskCounts { adds, ..numbers };
+        let (stage, own) = resumed(self.program, alloc, at, Reply::Done, next)?;
+        let on = &self.variables[place.variable];
+        let added = seat(
             &mut self.places,
             &mut self.handlers,
             alloc,
@@ -65,7 +87,6 @@ impl<'p, P: Program> Core<'p, P> {
             handler,
             place,
         )?;
-        let stage = Stage::live(local, TaskCounts { adds, ..numbers });
         close(
             &mut self.tasks,
             &mut self.steps,
@@ -79,9 +100,11 @@ impl<'p, P: Program> Core<'p, P> {
 
     /// Whether a handler comes too late to the variable, which is frozen.
     fn is_late(&self, variable: usize) -> bool
-        requires { variable < (P.functions self.now.program).variables }
         ensures { result ≡ (state (⟦<P as Meaning>⟧.machine self.now.program) self.now).frozen variable }
     {
-        self.variables[variable].is_frozen()
+        match self.variables.get(variable) {
+            Some(on) => on.is_frozen(),
+            None => false,
+        }
     }
 }

@@ -1,6 +1,6 @@
 //! The end of a task.
 
-ghost use Rattle.std.specs.Prelude.{◌≡◌};
+ghost use Rattle.std.specs.Prelude.{◌<◌};
 ghost use Rattle.lvish_calculus.specs.declared.request.Request.TheVariants.{End};
 ghost use Rattle.lvish_core.specs.Acts.{IsActing, Acts};
 
@@ -8,6 +8,7 @@ use super::Core;
 use crate::beside::end_at;
 use crate::ending::close;
 use crate::fault::{StepFault, Stepped};
+use crate::limits::MOST_STEPS;
 use crate::moved::Moved;
 use crate::stage::{Stage, TaskCounts};
 use crate::touched::Touched;
@@ -25,7 +26,8 @@ impl<'p, P: Program> Core<'p, P> {
         at: &P::Local,
         numbers: TaskCounts,
     ) -> Result<(Stepped, Moved<<P::Lat as Lattice>::Event, P::Local>), StepFault>
-        requires { IsActing (⟦<P as Meaning>⟧.machine self.old.program) self.old name.now at.now numbers.forks numbers.adds numbers.puts End }
+        requires room { self.old.steps < MOST_STEPS }
+        requires acting { IsActing (⟦<P as Meaning>⟧.machine self.old.program) self.old name.now at.now numbers.forks numbers.adds numbers.puts End }
         ensures { Acts (⟦<P as Meaning>⟧.machine self.old.program) self.old name.now self.new result }
     {
         lawful::<P>();

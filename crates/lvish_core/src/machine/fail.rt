@@ -1,9 +1,11 @@
 //! A step that is an error.
 
+ghost use Rattle.std.specs.Prelude.{◌<◌};
 ghost use Rattle.lvish_core.specs.Acts.{IsFailing, Acts};
 
 use super::Core;
 use crate::fault::{RunError, StepFault, Stepped};
+use crate::limits::MOST_STEPS;
 use crate::moved::Moved;
 use crate::touched::Touched;
 use lvish_calculus::laws::lawful;
@@ -20,7 +22,8 @@ impl<'p, P: Program> Core<'p, P> {
         kind: ErrorKind,
         variable: Option<usize>,
     ) -> Result<(Stepped, Moved<<P::Lat as Lattice>::Event, P::Local>), StepFault>
-        requires { IsFailing (⟦<P as Meaning>⟧.machine self.old.program) self.old name.now kind variable }
+        requires room { self.old.steps < MOST_STEPS }
+        requires failing { IsFailing (⟦<P as Meaning>⟧.machine self.old.program) self.old name.now kind variable }
         ensures { Acts (⟦<P as Meaning>⟧.machine self.old.program) self.old name.now self.new result }
     {
         lawful::<P>();

@@ -1,19 +1,23 @@
 //! A fork.
 
+ghost use Rattle.std.specs.Prelude.{◌<◌};
 ghost use Rattle.lvish_calculus.specs.declared.request.Request.TheVariants.{Fork};
 ghost use Rattle.lvish_core.specs.Acts.{IsActing, Acts};
 
 use super::Core;
 use crate::beside::start_at;
+use crate::child::child_of;
 use crate::ending::close;
 use crate::fault::{StepFault, Stepped};
-use crate::moved::{Made, Moved};
-use crate::stage::{Stage, TaskCounts};
+use crate::limits::MOST_STEPS;
+use crate::moved::Moved;
+use crate::resumed::resumed;
+use crate::stage::TaskCounts;
 use crate::touched::Touched;
 use lvish_calculus::laws::lawful;
 use lvish_calculus::{ErrorKind, Meaning, Program, Reply};
 use lvish_lattice::Lattice;
-use lvish_names::{NameFault, TaskName};
+use lvish_names::TaskName;
 use lvish_picture::laws::{counts_follow, counts_kept, names_are_new, plain_kept, running_counts};
 use std::alloc::Global;
 
@@ -27,7 +31,8 @@ impl<'p, P: Program> Core<'p, P> {
         numbers: TaskCounts,
         child: &P::Local,
     ) -> Result<(Stepped, Moved<<P::Lat as Lattice>::Event, P::Local>), StepFault>
-        requires { IsActing (⟦<P as Meaning>⟧.machine self.old.program) self.old name.now at.now numbers.forks numbers.adds numbers.puts (Fork child.now) }
+        requires room { self.old.steps < MOST_STEPS }
+        requires acting { IsActing (⟦<P as Meaning>⟧.machine self.old.program) self.old name.now at.now numbers.forks numbers.adds numbers.puts (Fork child.now) }
         ensures { Acts (⟦<P as Meaning>⟧.machine self.old.program) self.old name.now self.new result }
     {
         lawful::<P>();
@@ -36,24 +41,16 @@ impl<'p, P: Program> Core<'p, P> {
         counts_follow::<P>();
         names_are_new::<P>();
         running_counts::<P>();
-        let local = self.program.resume(alloc, at, Reply::Done)?;
-        let own = self.program.copy_local(alloc, &local)?;
-        let forks = numbers.forks + 1;
-        let task = match name.child(alloc, forks) {
-            Ok(task) => task,
-            Err(NameFault::Deep) => return self.fail(name, ErrorKind::Deep, None),
-            Err(NameFault::Memory) => return Err(StepFault::Memory),
-        };
-        let made = Made {
-            name: task.copy()?,
-            local: self.program.copy_local(alloc, child)?,
-        };
-        let started = Stage::started(self.program.copy_local(alloc, child)?);
         let place = self.place_of(name)?;
-        self.tasks.insert(task, started)?;
+        let forks = numbers.forks + 1;
+        let Some(started) = child_of(self.program, alloc, name, forks, child)? else {
+            return self.fail(name, ErrorKind::Deep, None);
+        };
+        let next = TaskCounts { forks, ..numbers };
+        let (stage, own) = resumed(self.program, alloc, at, Reply::Done, next)?;
+        self.tasks.insert(started.name, started.stage)?;
         start_at(&mut self.handlers, place);
         self.running += 1;
-        let stage = Stage::live(local, TaskCounts { forks, ..numbers });
         close(
             &mut self.tasks,
             &mut self.steps,
@@ -64,7 +61,7 @@ impl<'p, P: Program> Core<'p, P> {
         );
         let moved = Moved {
             own: Some(own),
-            made: Some(made),
+            made: Some(started.made),
             added: None,
         };
         Ok((Stepped::Done, moved))

@@ -1,6 +1,6 @@
 //! A freeze.
 
-ghost use Rattle.std.specs.Prelude.{ℕ, List};
+ghost use Rattle.std.specs.Prelude.{◌<◌, ℕ, List};
 ghost use Rattle.lvish_calculus.specs.declared.request.Request.TheVariants.{Freeze};
 ghost use Rattle.lvish_core.specs.Acts.{IsActing, Acts};
 
@@ -8,8 +8,10 @@ use super::Core;
 use crate::beside::freeze_at;
 use crate::ending::close;
 use crate::fault::{StepFault, Stepped};
+use crate::limits::MOST_STEPS;
 use crate::moved::Moved;
-use crate::stage::{Stage, TaskCounts};
+use crate::resumed::resumed;
+use crate::stage::TaskCounts;
 use crate::touched::Touched;
 use lvish_calculus::laws::lawful;
 use lvish_calculus::{Meaning, Program, Reply};
@@ -28,17 +30,17 @@ impl<'p, P: Program> Core<'p, P> {
         numbers: TaskCounts,
         variable: usize,
     ) -> Result<(Stepped, Moved<<P::Lat as Lattice>::Event, P::Local>), StepFault>
-        requires { (pools : List ℕ) × IsActing (⟦<P as Meaning>⟧.machine self.old.program) self.old name.now at.now numbers.forks numbers.adds numbers.puts (Freeze variable pools) }
+        requires room { self.old.steps < MOST_STEPS }
+        requires acting { (pools : List ℕ) × IsActing (⟦<P as Meaning>⟧.machine self.old.program) self.old name.now at.now numbers.forks numbers.adds numbers.puts (Freeze variable pools) }
         ensures { Acts (⟦<P as Meaning>⟧.machine self.old.program) self.old name.now self.new result }
     {
         lawful::<P>();
         freeze_kept::<P>();
         counts_kept::<P>();
         let state = self.variables[variable].state().copy(alloc)?;
-        let local = self.program.resume(alloc, at, Reply::Content(state))?;
-        let own = self.program.copy_local(alloc, &local)?;
+        let reply = Reply::Content(state);
+        let (stage, own) = resumed(self.program, alloc, at, reply, numbers)?;
         freeze_at(&mut self.variables, alloc, variable)?;
-        let stage = Stage::live(local, numbers);
         close(
             &mut self.tasks,
             &mut self.steps,

@@ -1,12 +1,15 @@
 //! A step that changes nothing but the task's local state.
 
+ghost use Rattle.std.specs.Prelude.{◌<◌};
 ghost use Rattle.lvish_core.specs.Acts.{IsReplied, Acts};
 
 use super::Core;
 use crate::ending::close;
 use crate::fault::{StepFault, Stepped};
+use crate::limits::MOST_STEPS;
 use crate::moved::Moved;
-use crate::stage::{Stage, TaskCounts};
+use crate::resumed::resumed;
+use crate::stage::TaskCounts;
 use crate::touched::Touched;
 use lvish_calculus::laws::lawful;
 use lvish_calculus::{Meaning, Program, Reply};
@@ -25,16 +28,15 @@ impl<'p, P: Program> Core<'p, P> {
         numbers: TaskCounts,
         reply: Reply<P::Lat, <P::Lat as Reads>::Answer>,
     ) -> Result<(Stepped, Moved<<P::Lat as Lattice>::Event, P::Local>), StepFault>
-        requires { IsReplied (⟦<P as Meaning>⟧.machine self.old.program) self.old name.now at.now numbers.forks numbers.adds numbers.puts reply }
+        requires room { self.old.steps < MOST_STEPS }
+        requires replied { IsReplied (⟦<P as Meaning>⟧.machine self.old.program) self.old name.now at.now numbers.forks numbers.adds numbers.puts reply }
         ensures { Acts (⟦<P as Meaning>⟧.machine self.old.program) self.old name.now self.new result }
     {
         lawful::<P>();
         plain_kept::<P>();
         counts_kept::<P>();
         counts_follow::<P>();
-        let local = self.program.resume(alloc, at, reply)?;
-        let own = self.program.copy_local(alloc, &local)?;
-        let stage = Stage::live(local, numbers);
+        let (stage, own) = resumed(self.program, alloc, at, reply, numbers)?;
         close(
             &mut self.tasks,
             &mut self.steps,

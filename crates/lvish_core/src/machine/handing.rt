@@ -1,12 +1,13 @@
 //! A handler's step.
 
-ghost use Rattle.std.specs.Prelude.{◌≡◌, IfOk, IfErr, MatchResult};
+ghost use Rattle.std.specs.Prelude.{◌≡◌, ◌<◌, IfOk, IfErr, MatchResult};
 ghost use Rattle.lvish_core.specs.Handed.{IsHanded, IsNotHanded, IsHanding, Hands};
 
 use super::Core;
 use crate::beside::hand_at;
 use crate::fault::{StepFault, Stepped};
 use crate::handler_place::HandlerPlace;
+use crate::limits::MOST_STEPS;
 use crate::moved::{Made, Moved};
 use crate::stage::Stage;
 use crate::touched::Touched;
@@ -65,7 +66,8 @@ impl<'p, P: Program> Core<'p, P> {
         place: HandlerPlace,
         event: <P::Lat as Lattice>::Event,
     ) -> Result<(Stepped, Moved<<P::Lat as Lattice>::Event, P::Local>), StepFault>
-        requires { IsHanding (⟦<P as Meaning>⟧.machine self.old.program) self.old name.now place event }
+        requires room { self.old.steps < MOST_STEPS }
+        requires handing { IsHanding (⟦<P as Meaning>⟧.machine self.old.program) self.old name.now place event }
         ensures { Hands (⟦<P as Meaning>⟧.machine self.old.program) self.old name.now event self.new result }
     {
         lawful::<P>();

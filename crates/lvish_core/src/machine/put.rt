@@ -1,14 +1,17 @@
 //! A put.
 
+ghost use Rattle.std.specs.Prelude.{◌<◌};
 ghost use Rattle.lvish_calculus.specs.declared.request.Request.TheVariants.{Put};
-ghost use Rattle.lvish_core.specs.Acts.{IsActing, Acts};
+ghost use Rattle.lvish_core.specs.Acts.{IsActing, IsRefused, Acts};
 
 use super::Core;
 use crate::beside::put_at;
 use crate::ending::close;
 use crate::fault::{StepFault, Stepped};
+use crate::limits::MOST_STEPS;
 use crate::moved::Moved;
-use crate::stage::{Stage, TaskCounts};
+use crate::resumed::resumed;
+use crate::stage::TaskCounts;
 use crate::touched::Touched;
 use lvish_calculus::laws::lawful;
 use lvish_calculus::{ErrorKind, Meaning, Program, Reply};
@@ -29,24 +32,20 @@ impl<'p, P: Program> Core<'p, P> {
         variable: usize,
         state: &P::Lat,
     ) -> Result<(Stepped, Moved<<P::Lat as Lattice>::Event, P::Local>), StepFault>
-        requires { IsActing (⟦<P as Meaning>⟧.machine self.old.program) self.old name.now at.now numbers.forks numbers.adds numbers.puts (Put variable state.now) }
+        requires room { self.old.steps < MOST_STEPS }
+        requires acting { IsActing (⟦<P as Meaning>⟧.machine self.old.program) self.old name.now at.now numbers.forks numbers.adds numbers.puts (Put variable state.now) }
         ensures { Acts (⟦<P as Meaning>⟧.machine self.old.program) self.old name.now self.new result }
     {
         lawful::<P>();
         put_kept::<P>();
         counts_kept::<P>();
-        let local = self.program.resume(alloc, at, Reply::Done)?;
-        let own = self.program.copy_local(alloc, &local)?;
+        let program = self.program;
         let puts = numbers.puts + 1;
+        let next = TaskCounts { puts, ..numbers };
+        let (stage, own) = resumed(program, alloc, at, Reply::Done, next)?;
         if let Err(refused) = put_at(&mut self.variables, alloc, variable, name, puts, state) {
-            let kind = match refused {
-                PutFault::Conflict => ErrorKind::Conflict,
-                PutFault::Frozen => ErrorKind::Frozen,
-                PutFault::Memory => return Err(StepFault::Memory),
-            };
-            return self.fail(name, kind, Some(variable));
+            return self.refuse(name, variable, refused);
         }
-        let stage = Stage::live(local, TaskCounts { puts, ..numbers });
         let on = Touched::Put(variable);
         close(
             &mut self.tasks,
@@ -57,5 +56,24 @@ impl<'p, P: Program> Core<'p, P> {
             on,
         );
         Ok((Stepped::Done, Moved::own(own)))
+    }
+
+    /// Makes the step of a put that the variable refuses, unless that is for want of memory.
+    fn refuse(
+        &mut self,
+        name: &TaskName<<P::Lat as Lattice>::Event>,
+        variable: usize,
+        refused: PutFault,
+    ) -> Result<(Stepped, Moved<<P::Lat as Lattice>::Event, P::Local>), StepFault>
+        requires room { self.old.steps < MOST_STEPS }
+        requires refused { IsRefused (⟦<P as Meaning>⟧.machine self.old.program) self.old name.now variable refused }
+        ensures { Acts (⟦<P as Meaning>⟧.machine self.old.program) self.old name.now self.new result }
+    {
+        let kind = match refused {
+            PutFault::Conflict => ErrorKind::Conflict,
+            PutFault::Frozen => ErrorKind::Frozen,
+            PutFault::Memory => return Err(StepFault::Memory),
+        };
+        self.fail(name, kind, Some(variable))
     }
 }

@@ -1,6 +1,7 @@
 //! Whether a request can be made.
 
-ghost use Rattle.std.specs.Prelude.{◌≡◌, ◌↔◌, ◌≤◌, IsTrue, IfOk};
+ghost use Rattle.std.specs.Prelude.{◌≡◌, ◌↔◌, ◌<◌, ◌≤◌, ℕ, List, Some, Contains, IsTrue, IfOk};
+ghost use Rattle.lvish_calculus.specs.declared.request.Request.TheVariants.{Get, Freeze};
 ghost use Rattle.lvish_calculus.specs.Calculus.{IsReady, IsReadyTask};
 ghost use Rattle.lvish_core.specs.Core.{state};
 ghost use Rattle.lvish_core.specs.Tasks.{standing};
@@ -27,7 +28,8 @@ impl<'p, P: Program> Core<'p, P> {
         &self,
         request: &Request<P::Lat, <P::Lat as Reads>::Read, P::Local>,
     ) -> bool
-        requires { (l : P.Local) × ((P.functions self.now.program).request l ≡ request.now) }
+        requires gets { (v : ℕ) (r : P.Lat.Read) → request.now ≡ Get v r → v < (P.functions self.now.program).variables }
+        requires freezes { (v : ℕ) (pools : List ℕ) → request.now ≡ Freeze v pools → (v < (P.functions self.now.program).variables) × ((k : ℕ) → Contains pools k → (P.functions self.now.program).pool_variable k ≡ Some v) }
         ensures { IsTrue result ↔ IsReady (⟦<P as Meaning>⟧.machine self.now.program) (state (⟦<P as Meaning>⟧.machine self.now.program) self.now) request.now }
     {
         freezes_by_counts::<P>();

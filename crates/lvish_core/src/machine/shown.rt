@@ -5,6 +5,7 @@ ghost use Rattle.lvish_handlers.specs.Handlers.{IsByName};
 
 use super::Core;
 use crate::core_meaning::CoreMeaning;
+use crate::drained::are_drained;
 use crate::fault::RunError;
 use crate::stage::Stage;
 use crate::touched::Touched;
@@ -54,12 +55,7 @@ impl<'p, P: Program> Core<'p, P> {
     pub fn is_drained(&self) -> bool
         ensures { IsTrue result ↔ ⟦<P as CoreMeaning>⟧.are_drained self.now }
     {
-        for (variable, handlers) in self.variables.iter().zip(self.handlers.iter()) {
-            if !handlers.drained(variable) {
-                return false;
-            }
-        }
-        true
+        are_drained(&self.variables, &self.handlers)
     }
 
     /// The variable's handlers, by name.

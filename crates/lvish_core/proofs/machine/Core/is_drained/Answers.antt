@@ -1,40 +1,7 @@
-use Rattle.std.proofs.Common.{ap, ◌∙◌, arith, length, length-append, refl}
-use Rattle.std.specs.Slice.Iter.{iter_rest}
-use Rattle.std.specs.Iterator.Adapters.{zip_first, zip_second}
-use Rattle.std.proofs.lemmas.Slice.Zip.{zip_turn, zip_end}
-use Rattle.std.proofs.lemmas.Bool.{false≢true, both_ways}
-use Rattle.lvish_core.proofs.Ready.{one_more, not_all, all_below}
 use Rattle.lvish_core.proofs.machine.Core.is_drained.Goals as goal
 
-pub returns-then-not-drained : goal.returns-then-not-drained
-returns-then-not-drained g c =
-    let first = ap (λ z. iter_rest (zip_first z)) c.into_iter-variable-iterator.ensures.into_iter_gives ∙ ap iter_rest c.zip-variable-items.ensures.first ∙ c.iter.ensures.rest ∙ c.deref.ensures.value in
-    let second = ap (λ z. iter_rest (zip_second z)) c.into_iter-variable-iterator.ensures.into_iter_gives ∙ ap iter_rest c.zip-variable-items.ensures.second ∙ c.iter-2.ensures.rest ∙ c.deref-2.ensures.value in
-    let turn = zip_turn c.self.inside.variables.items c.self.inside.handlers.items c.loop-variable.yielded _ _ c.next.new.self _ first second c.loop-variable.yielded_by (c.in-Some.variable, c.in-Some.handlers) c.in-Some.is c.next.ensures.steps in
-    rw (← c.self.view_is) (
-      λ z. absurd (false≢true z),
-      λ z. absurd (not_all (record { variables = c.self.inside.variables.items; handlers = c.self.inside.handlers.items; tasks = c.self.inside.tasks }) _ _ _ turn.2 turn.0 turn.3 turn.1
-          (λ all. both_ways c.drained.result c.if-not-drained.true (c.drained.ensures.1 all)) z),
-    )
-
-pub loop-variable-preserved : goal.loop-variable-preserved
-loop-variable-preserved g c =
-    let first = ap (λ z. iter_rest (zip_first z)) c.into_iter-variable-iterator.ensures.into_iter_gives ∙ ap iter_rest c.zip-variable-items.ensures.first ∙ c.iter.ensures.rest ∙ c.deref.ensures.value in
-    let second = ap (λ z. iter_rest (zip_second z)) c.into_iter-variable-iterator.ensures.into_iter_gives ∙ ap iter_rest c.zip-variable-items.ensures.second ∙ c.iter-2.ensures.rest ∙ c.deref-2.ensures.value in
-    let turn = zip_turn c.self.inside.variables.items c.self.inside.handlers.items c.loop-variable.yielded _ _ c.next.new.self _ first second c.loop-variable.yielded_by (c.in-Some.variable, c.in-Some.handlers) c.in-Some.is c.next.ensures.steps in
-    let so_far = rw (← c.self.view_is) at c.loop-variable.invariant in
-    rw (← c.self.view_is)
-    (one_more (record { variables = c.self.inside.variables.items; handlers = c.self.inside.handlers.items; tasks = c.self.inside.tasks }) _ _ _ turn.2 turn.0 turn.3 turn.1 so_far
-    (c.drained.ensures.0 c.if-not-drained.false) _ (length-append c.loop-variable.yielded _))
+pub are_drained-requires : goal.are_drained-requires
+are_drained-requires g c = rw (c.deref.ensures.value, c.deref-2.ensures.value) c.self.invariant.standing.pictured.table.within
 
 pub returns : goal.returns
-returns g c =
-    let first = ap (λ z. iter_rest (zip_first z)) c.into_iter-variable-iterator.ensures.into_iter_gives ∙ ap iter_rest c.zip-variable-items.ensures.first ∙ c.iter.ensures.rest ∙ c.deref.ensures.value in
-    let second = ap (λ z. iter_rest (zip_second z)) c.into_iter-variable-iterator.ensures.into_iter_gives ∙ ap iter_rest c.zip-variable-items.ensures.second ∙ c.iter-2.ensures.rest ∙ c.deref-2.ensures.value in
-    let turn = zip_end c.self.inside.variables.items c.self.inside.handlers.items c.loop-variable.yielded _ _ c.next.new.self _ first second c.loop-variable.yielded_by c.in-None.is c.next.ensures.steps in
-    let so_far = rw (← c.self.view_is) at c.loop-variable.invariant in
-    rw (← c.self.view_is) (
-      λ z. all_below (record { variables = c.self.inside.variables.items; handlers = c.self.inside.handlers.items; tasks = c.self.inside.tasks }) (length c.loop-variable.yielded) so_far
-          (omega (arith, turn, c.self.invariant.standing.pictured.table.beside)),
-      λ z. refl,
-    )
+returns g c = rw (← c.self.view_is) (rw (c.deref.ensures.value, c.deref-2.ensures.value) at c.are_drained.ensures)

@@ -33,11 +33,15 @@ returns-then-is_full-clause-refused g c =
       is_full c.self.inside.steps c.is_full.result c.self.invariant.steps full c.if-is_full.true,
     )
 
-pub hand-requires : goal.hand-requires
-hand-requires g c =
+pub hand-requires-clause-handing : goal.hand-requires-clause-handing
+hand-requires-clause-handing g c =
     let lt = placed _ _ _ _ _ c.self.invariant (g.met.P.Program.lawful c.self.inside.program.now).known c.args.name.now c.in-Some.place (sym c.get.ensures ∙ c.in-Some.is) in
-    let full = rw (← c.self.view_is) at c.is_full.ensures in
     rw (← c.self.view_is)
     (is_handing _ _ _ _ _ c.self.invariant (c.lawful.ensures c.self.inside.program.now) (c.handlers_are_held.ensures.posts c.self.inside.program.now) c.args.name.now c.in-Some.place (sym c.get.ensures ∙ c.in-Some.is)
     c.index.result.now (there _ _ _ _ _ c.self.invariant _ _ lt c.index.ensures) c.index-beside.result.now (beside _ _ _ _ _ c.self.invariant _ _ lt c.index-beside.ensures)
-    (sym c.is_some.ensures ∙ c.if-is_some.false) (not_full c.self.inside.steps c.is_full.result full c.if-is_full.false) c.in-Some-next.event (sym c.next.ensures ∙ c.in-Some-next.is))
+    (sym c.is_some.ensures ∙ c.if-is_some.false) c.in-Some-next.event (sym c.next.ensures ∙ c.in-Some-next.is))
+
+pub hand-requires-clause-room : goal.hand-requires-clause-room
+hand-requires-clause-room g c =
+    let full = rw (← c.self.view_is) at c.is_full.ensures in
+    rw (← c.self.view_is) (not_full c.self.inside.steps c.is_full.result full c.if-is_full.false)

@@ -1,0 +1,31 @@
+//! What a task goes on with after a reply.
+
+ghost use Rattle.std.specs.Prelude.{◌≡◌, IfOk};
+ghost use Rattle.lvish_calculus.specs.Calculus.{Live};
+ghost use Rattle.lvish_calculus.specs.Program.{IsReplyTo};
+ghost use Rattle.lvish_core.specs.Tasks.{standing};
+
+use crate::stage::{Stage, TaskCounts};
+use lvish_calculus::{Program, Reply};
+use lvish_lattice::Reads;
+use std::alloc::{AllocError, Global};
+
+/// The stage in which the task goes on with these numbers, and a copy of its local state there.
+pub(crate) fn resumed<P: Program>(
+    program: &P,
+    alloc: Global,
+    at: &P::Local,
+    reply: Reply<P::Lat, <P::Lat as Reads>::Answer>,
+    numbers: TaskCounts,
+) -> Result<(Stage<P::Local>, P::Local), AllocError>
+    // A task asks there, and the reply fits what it asks: two clauses, since the proof of a call takes
+    // 20 seconds longer at a single one.
+    requires asks { (l : P.Local) × (at.now ≡ (P.functions program.now).at l) }
+    requires fits { IsReplyTo ((P.functions program.now).request at.now) reply }
+    ensures stage { IfOk result (λ r. standing r.0 ≡ Live ((P.functions program.now).resume at.now reply) numbers.forks numbers.adds numbers.puts) }
+    ensures own { IfOk result (λ r. r.1 ≡ (P.functions program.now).resume at.now reply) }
+{
+    let local = program.resume(alloc, at, reply)?;
+    let own = program.copy_local(alloc, &local)?;
+    Ok((Stage::live(local, numbers), own))
+}
