@@ -20,7 +20,7 @@ use Rattle.lvish_core.specs.Handed.{IsHanded}
 use Rattle.lvish_core.specs.laws.Runs.{at_state}
 use Rattle.lvish_board.specs.declared.work.Work.{Work}
 use Rattle.lvish_board.specs.Listed.{Concerns, by_handing, by_adding, by_putting, made_place, tickets}
-use Rattle.lvish_board.specs.Left.{AreConcerned, IsLeft, IsLogged, candidates, fresh_in, option_list, made_ticket}
+use Rattle.lvish_board.specs.Left.{IsLeft, IsLogged, candidates, fresh_in, option_list, made_ticket}
 use Rattle.lvish_board.specs.Place.{TaskPlace}
 use Rattle.lvish_board.specs.Standing.{Standing, IsBoardSound, labels_of}
 use Rattle.lvish_board.proofs.Blocked.{IsMade}
@@ -126,22 +126,10 @@ module _ {P S E R A L : Type 0} (M : Machine S E R A L) where
   comes_once one opens program budget s sound going h e f y z = one s.core (labels_of s.trace) sound.leads h e f (hand_open opens program budget s sound going h e y) z
 
 -- what a core says of its own program's machine it says of the program's
-module _ {P S E R A L : Type 0} (machine : P → Machine S E R A L) (program : P) (c d : CoreView P S E L) where
-  pub own_step : c.program ≡ program → (l : Label E) (said so : Stepped) → said ≡ so → IsStep (machine c.program) c l d said → IsStep (machine program) c l d so
-  own_step at l said so is step = subst (λ z. IsStep (machine program) c l d z) is (subst (λ p. IsStep (machine p) c l d said) at step)
-
-  pub own_moved : c.program ≡ program → (l : Label E) (moved : Moved E L) → IsMoved (machine c.program) (state (machine c.program) c) l moved → IsMoved (machine program) (state (machine program) c) l moved
-  own_moved at l moved is = subst (λ p. IsMoved (machine p) (state (machine p) c) l moved) at is
-
-  pub own_concerned : c.program ≡ program → (cmp : E → E → Ordering) (from : L) (handlers : List (Handler E)) (logged : ℕ) → AreConcerned cmp (machine c.program) c ((machine c.program).request from) handlers logged → AreConcerned cmp (machine program) c ((machine program).request from) handlers logged
-  own_concerned at cmp from handlers logged k = subst (λ p. AreConcerned cmp (machine p) c ((machine p).request from) handlers logged) at k
-
-  pub own_handed : c.program ≡ program → (h : Handler E) (said : Stepped) (moved : Moved E L) → IsHanded (machine c.program) c h d said moved → IsHanded (machine program) c h d said moved
-  own_handed at h said moved was = subst (λ p. IsHanded (machine p) c h d said moved) at was
-
-  pub own_left : {P1 J1 W : Type 0} → d.program ≡ program → (cmp : E → E → Ordering) (spot_of : E → W) (watched : R → Option W) (logged : ℕ) (own made : Option (TaskPlace E L)) (added : Option (Handler E)) (handlers : List (Handler E)) (old new : List (TaskPlace E L)) (ws : List (Work P1 J1 S L R A W E))
-      → IsLeft cmp (machine d.program) spot_of watched d logged own made added handlers old new ws → IsLeft cmp (machine program) spot_of watched d logged own made added handlers old new ws
-  own_left at cmp spot_of watched logged own made added handlers old new ws left = subst (λ p. IsLeft cmp (machine p) spot_of watched d logged own made added handlers old new ws) at left
+module _ {P S E R A L : Type 0} (machine : P → Machine S E R A L) (program : P) (c : CoreView P S E L) where
+  pub own_left : {P1 J1 W : Type 0} → c.program ≡ program → (cmp : E → E → Ordering) (spot_of : E → W) (watched : R → Option W) (logged : ℕ) (own made : Option (TaskPlace E L)) (added : Option (Handler E)) (handlers : List (Handler E)) (old new : List (TaskPlace E L)) (ws : List (Work P1 J1 S L R A W E))
+      → IsLeft cmp (machine c.program) spot_of watched c logged own made added handlers old new ws → IsLeft cmp (machine program) spot_of watched c logged own made added handlers old new ws
+  own_left at cmp spot_of watched logged own made added handlers old new ws left = subst (λ p. IsLeft cmp (machine p) spot_of watched c logged own made added handlers old new ws) at left
 
 -- what a contract sees of a board is what lies in it
 module _ {P S E L : Type 0} {inside now : Standing P S E L} (view : inside ≡ now) where

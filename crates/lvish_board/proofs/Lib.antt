@@ -1,6 +1,7 @@
 pub mod Acting
 pub mod Among
 pub mod Blocked
+pub mod Comes
 pub mod Concerned
 pub mod Handing
 pub mod Lists

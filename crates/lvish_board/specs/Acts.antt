@@ -1,16 +1,20 @@
 -- What comes of acts.
-use Rattle.std.specs.Prelude.{◌≡◌, ◌⊎◌, ℕ, Bool, true, false, None, IsSome}
+use Rattle.std.specs.Prelude.{◌≡◌, ◌⊎◌, ◌↔◌, ◌++◌, ◌∷◌, ℕ, Bool, [], true, false, None, IsSome}
 use Rattle.std.specs.declared.cmp.Ordering.{Ordering}
 use Rattle.lvish_calculus.specs.declared.label.Label.{Label}
+use Rattle.lvish_calculus.specs.declared.label.Label.TheVariants.{Act, Hand}
 use Rattle.lvish_calculus.specs.Machine.{Machine}
-use Rattle.lvish_names.specs.Names.{Name}
+use Rattle.lvish_names.specs.Names.{Name, Handler}
 use Rattle.lvish_core.specs.Core.{CoreView, state}
 use Rattle.lvish_core.specs.Changes.{local_of}
 use Rattle.lvish_board.specs.declared.trace_entry.TraceEntry.{TraceEntry}
 use Rattle.lvish_board.specs.declared.work.Work.{Work}
+use Rattle.lvish_board.specs.declared.work.Work.TheVariants.{Act as ActOn, Hand as HandTo}
 use Rattle.lvish_board.specs.declared.acted.Acted.{Acted}
 use Rattle.lvish_board.specs.declared.acted.Acted.TheVariants.{Over, Stale, Parked, Memory, Next, Gone}
+use Rattle.lvish_board.specs.Place.{TaskPlace}
 use Rattle.lvish_board.specs.Standing.{Standing}
+use Rattle.lvish_board.specs.Woken.{IsParkedBeside}
 use Rattle.lvish_board.specs.Listed.{IsListed}
 
 -- a step was made
@@ -62,3 +66,27 @@ abbrev pub ListsWork : {P' P J S L R A W E Ans : Type 0} → (E → E → Orderi
 ListsWork cmp M old l new (Next ws) = IsListed cmp M old l new ws.items
 ListsWork cmp M old l new (Gone ws) = IsListed cmp M old l new ws.items
 ListsWork cmp M old l new _ = Unit {0}
+
+-- all that `act` says of its answer, clause by clause, in one: Stands says that the task is at its state, Can that its step can be made
+pub record ComesOfAct {P' P J S L R A W E Ans : Type 0} (cmp : E → E → Ordering) (M : Machine S E R Ans L) (Stands Can : Type 0) (worker : ℕ) (asked : TaskPlace E L) (old new : Standing P' S E L) (result : Acted P J S L R A W E) : Type 0 where
+  pub stays : is_step result ≡ false → (new.trace ≡ old.trace) × (new.core ≡ old.core)
+  pub step : is_step result ≡ true → new.trace ≡ old.trace ++ entry_of worker (Act asked.task) ∷ []
+  pub gone : is_step result ≡ true → (is_gone result ≡ true) ↔ IsDone M new.core asked.task
+  pub list : ListsWork cmp M old (Act asked.task) new result
+  pub over : is_over result ≡ true → IsSome new.over
+  pub done : IsSome old.over → (result ≡ Over) × (new ≡ old)
+  pub stale : is_stale result ≡ true → (Stands → ⊥) × (new ≡ old)
+  pub parked : is_parked result ≡ true → (Can → ⊥) × IsParkedBeside old.parked asked new.parked
+  pub memory : GivesBack (ActOn asked) result × KeepsAtMemory old new result
+
+-- all that `hand` says of its answer, clause by clause, in one: Held says that there is such a handler, Next which event comes next for it
+pub record ComesOfHand {P' P J S L R A W E Ans : Type 0} (cmp : E → E → Ordering) (M : Machine S E R Ans L) (Held : Type 0) (Next : E → Type 0) (worker : ℕ) (handler : Handler E) (old new : Standing P' S E L) (result : Acted P J S L R A W E) : Type 0 where
+  pub stays : is_step result ≡ false → (new.trace ≡ old.trace) × (new.core ≡ old.core) × (new.parked ≡ old.parked)
+  pub step : is_step result ≡ true → (e : E) → Next e → new.trace ≡ old.trace ++ entry_of worker (Hand handler e) ∷ []
+  pub gone : is_gone result ≡ false
+  pub list : (e : E) → Next e → ListsWork cmp M old (Hand handler e) new result
+  pub over : is_over result ≡ true → IsSome new.over
+  pub done : IsSome old.over → (result ≡ Over) × (new ≡ old)
+  pub stale : is_stale result ≡ true → (Held → ⊥) × (new ≡ old)
+  pub parked : is_parked result ≡ true → ((e : E) → Next e → ⊥) × (new ≡ old)
+  pub memory : GivesBack (HandTo handler) result × KeepsAtMemory old new result

@@ -13,10 +13,13 @@ use Rattle.lvish_variable.specs.Variable.{VariableView as Variable}
 use Rattle.lvish_handlers.specs.declared.held.Held.{Held}
 use Rattle.lvish_handlers.specs.Handlers.{IsByName}
 use Rattle.lvish_core.specs.Reads.{AreHandlers}
+use Rattle.lvish_core.specs.declared.fault.Stepped.{Stepped}
 use Rattle.lvish_core.specs.declared.moved.Made.{Made}
+use Rattle.lvish_core.specs.declared.moved.Moved.{Moved}
 use Rattle.lvish_core.specs.declared.touched.Touched.{Touched}
 use Rattle.lvish_core.specs.declared.touched.Touched.TheVariants.{Put as Touches}
-use Rattle.lvish_core.specs.Core.{CoreView, CanTake}
+use Rattle.lvish_core.specs.Changes.{IsMoved}
+use Rattle.lvish_core.specs.Core.{CoreView, CanTake, IsStep, state}
 use Rattle.lvish_board.specs.declared.work.Work.{Work}
 use Rattle.lvish_board.specs.Place.{TaskPlace}
 use Rattle.lvish_board.specs.Standing.{tasks_of}
@@ -91,3 +94,10 @@ abbrev pub AreConcerned : {P S E R A L : Type 0} → (E → E → Ordering) → 
 AreConcerned {S = S} {E = E} cmp M c (Put v d) handlers logged =
     (held : List (Held E)) × AreHandlers M c v held × IsByName cmp held × (handlers ≡ map (λ k. k.name) held) × ((x : Variable S E) × (slice_get c.table.variables v ≡ Some x) × (logged ≡ length x.log))
 AreConcerned cmp M c r handlers logged = handlers ≡ []
+
+-- what a core tells of a step of the task at this place, before which its put's variable had that many entries in its log; these are the handlers that the step may concern
+pub record IsStepOf {P S E R A L : Type 0} (cmp : E → E → Ordering) (M : Machine S E R A L) (c : CoreView P S E L) (p : TaskPlace E L) (d : CoreView P S E L) (logged : ℕ) (handlers : List (Handler E)) (stepped : Stepped) (moved : Moved E L) : Type 0 where
+  pub step : IsStep M c (Act p.task) d stepped
+  pub told : IsMoved M (state M c) (Act p.task) moved
+  pub concerned : AreConcerned cmp M c (M.request p.from) handlers logged
+  pub long : length c.table.variables ≡ length d.table.variables

@@ -9,10 +9,16 @@ use std::alloc::Global;
 use std::marker::Model;
 
 /// A task at a local state, with what it asks for there.
-#[derive(Drop)]
 pub struct Asked<P: Program, J: Named<P>> {
     ticket: Ticket<P, J>,
     asks: Asks<P::Lat, <P::Lat as Reads>::Read, P::Local>,
+}
+
+// Written out, so that it is proved once, and not at each exit of a function that owns one.
+impl<P: Program, J: Named<P>> Drop for Asked<P, J> {
+    fn drop(self) {
+        let Asked { ticket: _, asks: _ } = self;
+    }
 }
 
 impl<P: Program, J: Named<P>> Model for Asked<P, J> {

@@ -23,7 +23,6 @@ use std::alloc::{AllocError, Global};
 use std::marker::Model;
 
 /// A core, the trace of its steps, and the parked tasks.
-#[derive(Drop)]
 pub struct Board<'p, P: Program, J: Named<P>> {
     core: Core<'p, P>,
     trace: Vec<TraceEntry<<P::Lat as Lattice>::Event>>,
@@ -31,6 +30,20 @@ pub struct Board<'p, P: Program, J: Named<P>> {
     over: Option<Outcome<<P::Lat as Lattice>::Event>>,
     parked: Parked<P, J>,
     room: Room<P, J>,
+}
+
+// Written out, so that it is proved once, and not at each exit of a function that owns one.
+impl<'p, P: Program, J: Named<P>> Drop for Board<'p, P, J> {
+    fn drop(self) {
+        let Board {
+            core: _,
+            trace: _,
+            budget: _,
+            over: _,
+            parked: _,
+            room: _,
+        } = self;
+    }
 }
 
 impl<'p, P: Program, J: Named<P>> Model for Board<'p, P, J> {

@@ -18,9 +18,15 @@ use std::collections::BTreeMap;
 use std::marker::Model;
 
 /// The parked tasks, each once, by name.
-#[derive(Drop)]
 pub(crate) struct ByName<P: Program, J: Named<P>> {
     asked: BTreeMap<TaskName<<P::Lat as Lattice>::Event>, Asked<P, J>>,
+}
+
+// Written out, so that it is proved once, and not at each exit of a function that owns one.
+impl<P: Program, J: Named<P>> Drop for ByName<P, J> {
+    fn drop(self) {
+        let ByName { asked: _ } = self;
+    }
 }
 
 impl<P: Program, J: Named<P>> Model for ByName<P, J> {

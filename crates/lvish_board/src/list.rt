@@ -95,7 +95,7 @@ pub(crate) fn leave<P: Program, J: Named<P>>(
     requires list_room { 2 + length parked.old + (length room.old.hands.items + length (option_list left.added)) ≤ vec_capacity room.old.list }
     requires woken_room { length parked.old ≤ vec_capacity room.old.woken }
     requires hands_room { length room.old.hands.items + length (option_list left.added) ≤ vec_capacity room.old.hands }
-    ensures left { IsLeft P.Lat.Event.cmp (⟦<P as Meaning>⟧.machine core.now.program) P.Lat.spot_of P.Lat.watched core.now logged left.own left.made left.added room.old.hands.items parked.old parked.new result.items }
+    ensures left { IsLeft P.Lat.Event.cmp (⟦<P as Meaning>⟧.machine J.program) P.Lat.spot_of P.Lat.watched core.now logged left.own left.made left.added room.old.hands.items parked.old parked.new result.items }
     ensures once { NoRepeats (tasks_of parked.old) → NoRepeats (tasks_of parked.new) }
 {
     let entries = fresh(core, logged);

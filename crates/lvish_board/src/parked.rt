@@ -27,13 +27,23 @@ use std::cmp::Ordering;
 use std::marker::Model;
 
 /// The parked tasks, each once, and on one list each.
-#[derive(Drop)]
 pub(crate) struct Parked<P: Program, J: Named<P>> {
     tasks: ByName<P, J>,
     /// By the variable and the spot at which they wait.
     gets: Shelves<(usize, Option<<P::Lat as Reads>::Spot>), TaskName<<P::Lat as Lattice>::Event>>,
     /// By the variable.
     freezes: Shelves<usize, TaskName<<P::Lat as Lattice>::Event>>,
+}
+
+// Written out, so that it is proved once, and not at each exit of a function that owns one.
+impl<P: Program, J: Named<P>> Drop for Parked<P, J> {
+    fn drop(self) {
+        let Parked {
+            tasks: _,
+            gets: _,
+            freezes: _,
+        } = self;
+    }
 }
 
 impl<P: Program, J: Named<P>> Model for Parked<P, J> {

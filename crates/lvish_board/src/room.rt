@@ -16,12 +16,22 @@ use std::mem;
 
 /// Room for the work of a step, taken before it, so that nothing is refused after it. A board keeps
 /// it from step to step, so that a step takes memory only where there isn't enough room.
-#[derive(Drop)]
 pub(crate) struct Room<P: Program, J: Named<P>> {
     pub list: Vec<Work<P, J>>,
     pub woken: Vec<Asked<P, J>>,
     /// The names of the handlers that a put may concern.
     pub hands: Vec<HandlerName<<P::Lat as Lattice>::Event>>,
+}
+
+// Written out, so that it is proved once, and not at each exit of a function that owns one.
+impl<P: Program, J: Named<P>> Drop for Room<P, J> {
+    fn drop(self) {
+        let Room {
+            list: _,
+            woken: _,
+            hands: _,
+        } = self;
+    }
 }
 
 impl<P: Program, J: Named<P>> Room<P, J> {

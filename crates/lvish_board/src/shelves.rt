@@ -9,9 +9,15 @@ use std::alloc::{AllocError, Global};
 use std::collections::BTreeMap;
 
 /// A list under each key.
-#[derive(Drop)]
 pub(crate) struct Shelves<K: Ord, T> {
     pub lists: BTreeMap<K, Vec<T>>,
+}
+
+// Written out, so that it is proved once, and not at each exit of a function that owns one.
+impl<K: Ord + Drop, T: Drop> Drop for Shelves<K, T> {
+    fn drop(self) {
+        let Shelves { lists: _ } = self;
+    }
 }
 
 impl<K: Ord + Drop, T: Drop> Shelves<K, T> {

@@ -8,11 +8,21 @@ use std::alloc::{AllocError, Global};
 use std::marker::{Model, PhantomData};
 
 /// A task at a local state.
-#[derive(Drop)]
 pub struct Ticket<P: Program, J: Named<P>> {
     pub(crate) task: TaskName<<P::Lat as Lattice>::Event>,
     pub(crate) from: P::Local,
     of: PhantomData<J>,
+}
+
+// Written out, so that it is proved once, and not at each exit of a function that owns one.
+impl<P: Program, J: Named<P>> Drop for Ticket<P, J> {
+    fn drop(self) {
+        let Ticket {
+            task: _,
+            from: _,
+            of: _,
+        } = self;
+    }
 }
 
 impl<P: Program, J: Named<P>> Model for Ticket<P, J> {

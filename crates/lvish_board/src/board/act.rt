@@ -1,9 +1,9 @@
 //! A task's step.
 
-ghost use Rattle.std.specs.Prelude.{◌≡◌, ◌≢◌, ◌++◌, ◌∷◌, ◌↔◌, ◌⊎◌, [], true, false, None, Some, IsSome, IsTrue};
+ghost use Rattle.std.specs.Prelude.{◌≡◌, ◌≢◌, ◌++◌, ◌∷◌, ◌↔◌, ℕ, [], true, false, None, Some, IsSome, IsTrue};
 ghost use Rattle.lvish_calculus.specs.declared.label.Label.TheVariants.{Act};
 ghost use Rattle.lvish_board.specs.declared.work.Work.TheVariants.{Act as ActOn};
-ghost use Rattle.lvish_board.specs.Acts.{entry_of, is_step, is_gone, is_over, is_stale, is_parked, GivesBack, IsDone, ListsWork, KeepsAtMemory};
+ghost use Rattle.lvish_board.specs.Acts.{entry_of, is_step, is_gone, is_over, is_stale, is_parked, GivesBack, ComesOfAct, IsDone, ListsWork, KeepsAtMemory};
 ghost use Rattle.lvish_board.specs.Woken.{IsParkedBeside};
 
 use super::Board;
@@ -32,6 +32,13 @@ impl<'p, P: Program, J: Named<P>> Board<'p, P, J> {
         ensures stale { is_stale result ≡ true → (⟦<P as CoreMeaning>⟧.local_in self.old.core asked.task ≢ Some asked.from) × (self.new ≡ self.old) }
         ensures parked { is_parked result ≡ true → (⟦<P as CoreMeaning>⟧.can_take self.old.core (Act asked.task) → ⊥) × IsParkedBeside self.old.parked asked self.new.parked }
         ensures memory { GivesBack (ActOn asked) result × KeepsAtMemory self.old self.new result }
+    {
+        self.act_once(alloc, worker, asked)
+    }
+
+    /// What `act` does, with what it ensures in one clause, so that each answer is shown once.
+    fn act_once(&mut self, alloc: Global, worker: usize, asked: Asked<P, J>) -> Acted<P, J>
+        ensures { ComesOfAct P.Lat.Event.cmp (⟦<P as Meaning>⟧.machine J.program) (⟦<P as CoreMeaning>⟧.local_in self.old.core asked.task ≡ Some asked.from) (⟦<P as CoreMeaning>⟧.can_take self.old.core (Act asked.task)) worker asked self.old self.new result }
     {
         if self.over.is_some() {
             return Acted::Over;
@@ -69,9 +76,7 @@ impl<'p, P: Program, J: Named<P>> Board<'p, P, J> {
         requires running { self.old.over ≡ None }
         requires current { ⟦<P as CoreMeaning>⟧.local_in self.old.core asked.task ≡ Some asked.from }
         requires blocked { ⟦<P as CoreMeaning>⟧.can_take self.old.core (Act asked.task) → ⊥ }
-        ensures stays { (self.new.trace ≡ self.old.trace) × (self.new.core ≡ self.old.core) }
-        ensures parked { (result ≡ Acted.Parked) → IsParkedBeside self.old.parked asked self.new.parked }
-        ensures memory { (result ≡ Acted.Parked) ⊎ ((result ≡ Acted.Memory (ActOn asked)) × (self.new ≡ self.old)) }
+        ensures { (worker : ℕ) → ComesOfAct P.Lat.Event.cmp (⟦<P as Meaning>⟧.machine J.program) (⟦<P as CoreMeaning>⟧.local_in self.old.core asked.task ≡ Some asked.from) (⟦<P as CoreMeaning>⟧.can_take self.old.core (Act asked.task)) worker asked self.old self.new result }
     {
         match self.parked.park(alloc, asked) {
             Ok(()) => {

@@ -1,9 +1,11 @@
 //! A handler's step.
 
-ghost use Rattle.std.specs.Prelude.{◌≡◌, ◌<◌, ◌++◌, ◌∷◌, ◌↔◌, [], true, false, length, None, IfOk, IsSome, IsTrue, MatchOption};
+ghost use Rattle.std.specs.Prelude.{◌≡◌, ◌<◌, ◌≤◌, ◌+◌, ◌++◌, ◌∷◌, ◌↔◌, [], true, false, length, None, IfOk, IfErr, IsSome, IsTrue, MatchOption, vec_capacity};
 ghost use Rattle.lvish_calculus.specs.declared.label.Label.TheVariants.{Hand};
 ghost use Rattle.lvish_board.specs.declared.work.Work.TheVariants.{Hand as HandTo};
-ghost use Rattle.lvish_board.specs.Acts.{entry_of, is_step, is_gone, is_over, is_stale, is_parked, GivesBack, ListsWork, KeepsAtMemory};
+ghost use Rattle.lvish_core.specs.declared.fault.Stepped.{Stepped};
+ghost use Rattle.lvish_core.specs.Handed.{IsHanded};
+ghost use Rattle.lvish_board.specs.Acts.{entry_of, is_step, is_gone, is_over, is_stale, is_parked, GivesBack, ComesOfHand, ListsWork, KeepsAtMemory};
 
 use super::Board;
 use super::make::has_all_variables;
@@ -11,11 +13,12 @@ use crate::acted::Acted;
 use crate::list::{OwnWork, leave, ticket_of};
 use crate::named::Named;
 use crate::outcome::Outcome;
+use crate::room::Room;
 use crate::trace_entry::TraceEntry;
 use crate::work::Work;
 use lvish_calculus::{Label, Meaning, Program};
-use lvish_core::CoreMeaning;
 use lvish_core::laws::{hands_one_event, passes_at_its_spot, waiting_tasks};
+use lvish_core::{Core, CoreMeaning, Moved, StepFault};
 use lvish_lattice::{Lattice, Plain};
 use lvish_names::HandlerName;
 use std::alloc::{AllocError, Global};
@@ -40,6 +43,18 @@ impl<'p, P: Program, J: Named<P>> Board<'p, P, J> {
         ensures stale { is_stale result ≡ true → (⟦<P as CoreMeaning>⟧.is_held self.old.core handler → ⊥) × (self.new ≡ self.old) }
         ensures parked { is_parked result ≡ true → ((e : P.Lat.Event) → ⟦<P as CoreMeaning>⟧.is_next self.old.core handler e → ⊥) × (self.new ≡ self.old) }
         ensures memory { GivesBack (HandTo handler) result × KeepsAtMemory self.old self.new result }
+    {
+        self.hand_once(alloc, worker, handler)
+    }
+
+    /// What `hand` does, with what it ensures in one clause, so that each answer is shown once.
+    fn hand_once(
+        &mut self,
+        alloc: Global,
+        worker: usize,
+        handler: HandlerName<<P::Lat as Lattice>::Event>,
+    ) -> Acted<P, J>
+        ensures { ComesOfHand P.Lat.Event.cmp (⟦<P as Meaning>⟧.machine J.program) (⟦<P as CoreMeaning>⟧.is_held self.old.core handler) (⟦<P as CoreMeaning>⟧.is_next self.old.core handler) worker handler self.old self.new result }
     {
         hands_one_event::<P>();
         if self.over.is_some() {
@@ -86,29 +101,26 @@ impl<'p, P: Program, J: Named<P>> Board<'p, P, J> {
         requires running { self.old.over ≡ None }
         requires room { length self.old.trace < J.budget }
         requires next { ⟦<P as CoreMeaning>⟧.is_next self.old.core handler event }
-        ensures kept { is_step result ≡ false → (result ≡ Acted.Memory (HandTo handler)) × (self.new ≡ self.old) }
-        ensures step { is_step result ≡ true → self.new.trace ≡ self.old.trace ++ entry_of worker (Hand handler event) ∷ [] }
-        ensures gone { is_gone result ≡ false }
-        ensures list { ListsWork P.Lat.Event.cmp (⟦<P as Meaning>⟧.machine J.program) self.old (Hand handler event) self.new result }
+        ensures { ComesOfHand P.Lat.Event.cmp (⟦<P as Meaning>⟧.machine J.program) (⟦<P as CoreMeaning>⟧.is_held self.old.core handler) (⟦<P as CoreMeaning>⟧.is_next self.old.core handler) worker handler self.old self.new result }
     {
         hands_one_event::<P>();
         waiting_tasks::<P>();
         passes_at_its_spot::<P>();
-        let Ok(()) = self.room.reserve(self.parked.len(), 1) else {
-            return Acted::Memory(Work::Hand(handler));
-        };
         let Ok(entry) = hand_entry(worker, &handler, event) else {
             return Acted::Memory(Work::Hand(handler));
         };
-        let Ok(()) = self.trace.reserve(1) else {
+        let parked = self.parked.len();
+        let Ok(moved) = hand_with_room(
+            alloc,
+            &mut self.core,
+            &mut self.trace,
+            &mut self.room,
+            parked,
+            entry,
+            &handler,
+        ) else {
             return Acted::Memory(Work::Hand(handler));
         };
-        has_all_variables(&self.core);
-        let Ok((_done, moved)) = self.core.step_hand(alloc, &handler) else {
-            return Acted::Memory(Work::Hand(handler));
-        };
-        has_all_variables(&self.core);
-        self.trace.push_reserved(entry);
         let left = OwnWork {
             own: None,
             made: ticket_of(moved.made),
@@ -118,6 +130,40 @@ impl<'p, P: Program, J: Named<P>> Board<'p, P, J> {
         self.settle();
         Acted::Next(list)
     }
+}
+
+/// Makes the handing and writes it down, with room for the work that it leaves. It answers what the
+/// step moved.
+///
+/// # Errors
+///
+/// Where there is no room for it; core and trace are as they were.
+fn hand_with_room<P: Program, J: Named<P>>(
+    alloc: Global,
+    core: &mut Core<'_, P>,
+    trace: &mut Vec<TraceEntry<<P::Lat as Lattice>::Event>>,
+    room: &mut Room<P, J>,
+    parked: usize,
+    entry: TraceEntry<<P::Lat as Lattice>::Event>,
+    handler: &HandlerName<<P::Lat as Lattice>::Event>,
+) -> Result<Moved<<P::Lat as Lattice>::Event, P::Local>, StepFault>
+    requires program { core.old.program ≡ J.program }
+    ensures made { IfOk result (λ m. (said : Stepped) × IsHanded (⟦<P as Meaning>⟧.machine J.program) core.old handler.now core.new said m) }
+    ensures long { IfOk result (λ _. length core.old.table.variables ≡ length core.new.table.variables) }
+    ensures written { IfOk result (λ _. trace.new.items ≡ trace.old.items ++ entry ∷ []) }
+    ensures empty { IfOk result (λ _. (room.new.list.items ≡ []) × (room.new.woken.items ≡ []) × (room.new.hands.items ≡ [])) }
+    ensures list_room { IfOk result (λ _. 2 + parked + 1 ≤ vec_capacity room.new.list) }
+    ensures woken_room { IfOk result (λ _. parked ≤ vec_capacity room.new.woken) }
+    ensures hands_room { IfOk result (λ _. 1 ≤ vec_capacity room.new.hands) }
+    ensures kept { IfErr result (λ _. (core.new ≡ core.old) × (trace.new.items ≡ trace.old.items)) }
+{
+    room.reserve(parked, 1)?;
+    trace.reserve(1)?;
+    has_all_variables(core);
+    let (_done, moved) = core.step_hand(alloc, handler)?;
+    has_all_variables(core);
+    trace.push_reserved(entry);
+    Ok(moved)
 }
 
 /// The entry of a handing.

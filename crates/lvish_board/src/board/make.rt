@@ -1,9 +1,9 @@
 //! The making of a task's step.
 
-ghost use Rattle.std.specs.Prelude.{◌≡◌, ◌<◌, ◌++◌, ◌∷◌, ◌↔◌, [], true, false, length, None, Some, IfOk, MatchResult, option_and_then, vec_len, vec_capacity};
+ghost use Rattle.std.specs.Prelude.{◌≡◌, ◌<◌, ◌≤◌, ◌+◌, ◌++◌, ◌∷◌, [], true, false, length, None, Some, IfOk, IfErr, MatchResult, option_and_then, vec_len, vec_capacity};
 ghost use Rattle.lvish_calculus.specs.declared.label.Label.TheVariants.{Act};
-ghost use Rattle.lvish_board.specs.declared.work.Work.TheVariants.{Act as ActOn};
-ghost use Rattle.lvish_board.specs.Acts.{entry_of, is_step, is_gone, IsDone, ListsWork};
+ghost use Rattle.lvish_board.specs.Acts.{entry_of, ComesOfAct};
+ghost use Rattle.lvish_board.specs.Left.{IsStepOf, most_added};
 
 use super::Board;
 use crate::acted::Acted;
@@ -11,6 +11,7 @@ use crate::asked::Asked;
 use crate::list::{leave, left_by};
 use crate::named::Named;
 use crate::outcome::Outcome;
+use crate::room::Room;
 use crate::trace_entry::TraceEntry;
 use crate::work::Work;
 use lvish_calculus::laws::lawful;
@@ -28,26 +29,23 @@ impl<'p, P: Program, J: Named<P>> Board<'p, P, J> {
         requires room { length self.old.trace < J.budget }
         requires current { ⟦<P as CoreMeaning>⟧.local_in self.old.core asked.task ≡ Some asked.from }
         requires can { ⟦<P as CoreMeaning>⟧.can_take self.old.core (Act asked.task) }
-        ensures kept { is_step result ≡ false → (result ≡ Acted.Memory (ActOn asked)) × (self.new ≡ self.old) }
-        ensures step { is_step result ≡ true → self.new.trace ≡ self.old.trace ++ entry_of worker (Act asked.task) ∷ [] }
-        ensures gone { is_step result ≡ true → (is_gone result ≡ true) ↔ IsDone (⟦<P as Meaning>⟧.machine J.program) self.new.core asked.task }
-        ensures list { ListsWork P.Lat.Event.cmp (⟦<P as Meaning>⟧.machine J.program) self.old (Act asked.task) self.new result }
+        ensures { ComesOfAct P.Lat.Event.cmp (⟦<P as Meaning>⟧.machine J.program) (⟦<P as CoreMeaning>⟧.local_in self.old.core asked.task ≡ Some asked.from) (⟦<P as CoreMeaning>⟧.can_take self.old.core (Act asked.task)) worker asked self.old self.new result }
     {
         lawful::<P>();
         waiting_tasks::<P>();
         passes_at_its_spot::<P>();
-        let Ok(logged) = self.room.reserve_for(&self.core, self.parked.len(), &asked) else {
+        let parked = self.parked.len();
+        let Ok((logged, stepped, moved)) = step_with_room(
+            alloc,
+            &mut self.core,
+            &mut self.trace,
+            &mut self.room,
+            parked,
+            worker,
+            &asked,
+        ) else {
             return Acted::Memory(Work::Act(asked));
         };
-        let Ok(entry) = task_entry(&mut self.trace, worker, asked.task()) else {
-            return Acted::Memory(Work::Act(asked));
-        };
-        has_all_variables(&self.core);
-        let Ok((stepped, moved)) = step(alloc, &mut self.core, &mut self.trace, entry, &asked)
-        else {
-            return Acted::Memory(Work::Act(asked));
-        };
-        has_all_variables(&self.core);
         match stepped {
             Stepped::Error(kind) => {
                 drop(moved);
@@ -66,14 +64,55 @@ impl<'p, P: Program, J: Named<P>> Board<'p, P, J> {
                     logged,
                 );
                 self.settle();
-                if goes_on {
-                    Acted::Next(list)
-                } else {
-                    Acted::Gone(list)
-                }
+                next_or_gone(goes_on, list)
             }
         }
     }
+}
+
+/// The answer to a step that left this work: whether its task goes on.
+fn next_or_gone<P: Program, J: Named<P>>(goes_on: bool, list: Vec<Work<P, J>>) -> Acted<P, J>
+    ensures next { goes_on ≡ true → result ≡ Acted.Next list }
+    ensures gone { goes_on ≡ false → result ≡ Acted.Gone list }
+{
+    if goes_on {
+        Acted::Next(list)
+    } else {
+        Acted::Gone(list)
+    }
+}
+
+/// Makes the task's step and writes it down, with room for the work that it leaves. It answers the
+/// number of entries that its put's variable had in its log, and what the step led to and moved.
+///
+/// # Errors
+///
+/// Where there is no room for it; core and trace are as they were.
+fn step_with_room<P: Program, J: Named<P>>(
+    alloc: Global,
+    core: &mut Core<'_, P>,
+    trace: &mut Vec<TraceEntry<<P::Lat as Lattice>::Event>>,
+    room: &mut Room<P, J>,
+    parked: usize,
+    worker: usize,
+    asked: &Asked<P, J>,
+) -> Result<(usize, Stepped, Moved<<P::Lat as Lattice>::Event, P::Local>), StepFault>
+    requires program { core.old.program ≡ J.program }
+    requires current { ⟦<P as CoreMeaning>⟧.local_in core.old asked.now.task ≡ Some asked.now.from }
+    ensures made { IfOk result (λ s. IsStepOf P.Lat.Event.cmp (⟦<P as Meaning>⟧.machine J.program) core.old asked.now core.new s.0 room.new.hands.items s.1 s.2) }
+    ensures written { IfOk result (λ _. trace.new.items ≡ trace.old.items ++ entry_of worker (Act asked.now.task) ∷ []) }
+    ensures empty { IfOk result (λ _. (room.new.list.items ≡ []) × (room.new.woken.items ≡ [])) }
+    ensures list_room { IfOk result (λ _. 2 + parked + (length room.new.hands.items + most_added ((P.functions J.program).request asked.now.from)) ≤ vec_capacity room.new.list) }
+    ensures woken_room { IfOk result (λ _. parked ≤ vec_capacity room.new.woken) }
+    ensures hands_room { IfOk result (λ _. length room.new.hands.items + most_added ((P.functions J.program).request asked.now.from) ≤ vec_capacity room.new.hands) }
+    ensures kept { IfErr result (λ _. (core.new ≡ core.old) × (trace.new.items ≡ trace.old.items)) }
+{
+    let logged = room.reserve_for(core, parked, asked)?;
+    let entry = task_entry(trace, worker, asked.task())?;
+    has_all_variables(core);
+    let (stepped, moved) = step(alloc, core, trace, entry, asked)?;
+    has_all_variables(core);
+    Ok((logged, stepped, moved))
 }
 
 /// The entry of a task's step, for which the trace has room.

@@ -37,18 +37,6 @@ loop-handler-preserved-then-is_some g c =
       listing = list_more _ _ _ _ _ _ _ listing (there _ _ c.next-in-loop-handler.ensures (sym c.is_some.ensures ∙ c.if-is_some.true)) c.push_reserved.ensures.items;
     }
 
-pub loop-handler-preserved-else-is_some : goal.loop-handler-preserved-else-is_some
-loop-handler-preserved-else-is_some g c =
-    let gone = c.in-Some.ensures.steps.1 in
-    let listing = rw c.in-Some.ensures.steps.0 at c.loop-handler.invariant.listing in
-    record {
-      can = tt;
-      finite = tt;
-      long = long g (goal.at.loop-handler-preserved-else-is_some g c).In-Some;
-      room = search rules;
-      listing = list_passed _ _ _ _ _ _ listing (none_there _ _ c.next-in-loop-handler.ensures (sym c.is_some.ensures ∙ c.if-is_some.false));
-    }
-
 pub loop-handler-preserved : goal.loop-handler-preserved
 loop-handler-preserved g c =
     let gone = c.in-Some.ensures.steps.1 in

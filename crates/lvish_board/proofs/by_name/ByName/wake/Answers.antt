@@ -1,4 +1,6 @@
-use Rattle.std.proofs.Common.{◌≡◌, inl, Some, true, false, refl, sym, ap, subst, ◌∙◌, vec_capacity}
+use Rattle.std.proofs.Common.{◌≡◌, inl, Some, true, refl, sym, ap, subst, ◌∙◌, vec_capacity}
+use Rattle.std.proofs.lemmas.Bool.{true≢false}
+use Rattle.std.proofs.lemmas.Option.{none-some, same_Some}
 use Rattle.std.specs.Map.{lookup, values_of}
 use Rattle.std.specs.BTreeMap.{is_at}
 use Rattle.lvish_calculus.specs.declared.label.Label.TheVariants.{Act}
@@ -40,8 +42,7 @@ can-requires g c = λ l f a p live.
     let here : IsAmong asked c.args.self.now = subst (λ ps. IsAmong asked ps) (sym r.3 ∙ c.self.view_is) (in_middle asked asked r.0 r.1 (inl refl)) in
     let stands : local_of (task_of g.P.Lat.Event.PartialEq.eq c.args.core.now.table.tasks c.args.name.now) ≡ Some asked.from =
     subst (λ t. local_of (task_of g.P.Lat.Event.PartialEq.eq c.args.core.now.table.tasks t) ≡ Some asked.from) r.2 (c.requires.current asked here) in
-    let both : Some l ≡ Some asked.from = sym (ap local_of live) ∙ stands in
-    let same : l ≡ asked.from = cc in
+    let same : l ≡ asked.from = same_Some l asked.from (sym (ap local_of live) ∙ stands) in
     ap (λ k. (g.P.Program.functions c.args.core.now.program).request k) same ∙ ap (λ q. (g.P.Program.functions q).request asked.from) c.requires.program ∙ sym c.asks.ensures.request
 
 pub returns-then-not-can-clause-wakes : goal.returns-then-not-can-clause-wakes
@@ -49,8 +50,7 @@ returns-then-not-can-clause-wakes g c =
     let M = machine_of g.P.Lat.PartialEq.eq g.P.Lat.Event.PartialEq.eq g.P.Lat.Event.Ord.cmp g.P.Lat.Lattice.least g.P.Lat.Lattice.joined g.P.Lat.Lattice.events_of g.P.Lat.Reads.answer_of (g.P.Program.functions c.args.core.now.program) in
     wakes_none _ _ _ _ (λ p i same can.
     let yes : c.can.result ≡ true = c.can.ensures.1 (subst (λ t. CanTake M c.args.core.now (Act t)) same can) in
-    let both : true ≡ false = sym yes ∙ c.if-not-can.true in
-    absurd cc)
+    absurd (true≢false (sym yes ∙ c.if-not-can.true)))
 
 pub invariant_of-self : goal.invariant_of-self
 invariant_of-self g c =
@@ -74,5 +74,5 @@ returns g c =
             gone = λ t. gone_named (λ p. CanTake M c.args.core.now (Act p.task)) total exact c.args.name.now c.self.inside.asked.entries c.remove.new.self.entries c.self.invariant.0 c.self.invariant.1 asked at c.remove.ensures.entries;
             capacity = ap (λ v. vec_capacity v) w.woken-is ∙ w.push_reserved.ensures.capacity;
           }
-      | in_default-remove w ↦ let a = c.in-Some.ensures.value in let b = c.remove.ensures.value in let d = w.in_default-remove.is in absurd cc
+      | in_default-remove w ↦ absurd (none-some c.in-Some.asked.now (sym w.in_default-remove.is ∙ c.remove.ensures.value ∙ sym c.in-Some.ensures.value))
     ]

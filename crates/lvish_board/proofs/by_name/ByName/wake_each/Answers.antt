@@ -24,15 +24,6 @@ loop-next-preserved-then-wake g c =
     let same : c.swap_remove.result ≡ c.index.result.now = c.swap_remove.ensures.value ∙ get_or_default c.loop-next.names.items (c.loop-next.next - 1) c.swap_remove.result c.index.result.now inside ∙ sym c.index.ensures in
     removed_swept _ _ _ _ _ c.index.result.now _ _ _ _ _ _ one c.index.ensures c.loop-next.invariant c.wake.ensures.wakes c.wake.ensures.capacity (c.wake.ensures.gone c.if-wake.true) c.swap_remove.result _ same c.swap_remove.ensures.items
 
-pub loop-next-preserved-then-wake-2 : goal.loop-next-preserved-then-wake-2
-loop-next-preserved-then-wake-2 g c =
-    let lt = c.loop-next-test.true in
-    let one : c.loop-next.next ≡ (c.loop-next.next - 1) + 1 = omega arith in
-    let short = c.loop-next.invariant.short in
-    let inside : c.loop-next.next - 1 < length c.loop-next.names.items = omega arith in
-    let same : c.swap_remove.result ≡ c.index.result.now = c.swap_remove.ensures.value ∙ get_or_default c.loop-next.names.items (c.loop-next.next - 1) c.swap_remove.result c.index.result.now inside ∙ sym c.index.ensures in
-    removed_swept _ _ _ _ _ c.index.result.now _ _ _ _ _ _ one c.index.ensures c.loop-next.invariant c.wake.ensures.wakes c.wake.ensures.capacity (c.wake.ensures.gone c.if-wake.true) c.swap_remove.result _ same c.swap_remove.ensures.items
-
 pub returns : goal.returns
 returns g c = record {
   wakes = swept _ _ _ _ _ _ _ _ c.loop-next-test.false c.loop-next.invariant;

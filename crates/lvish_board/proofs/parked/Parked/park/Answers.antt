@@ -1,4 +1,5 @@
-use Rattle.std.proofs.Common.{◌≡◌, ◌⊎◌, ◌↔◌, inl, inr, true, false, sym, subst, ◌∙◌, nat_cmp}
+use Rattle.std.proofs.Common.{◌≡◌, ◌⊎◌, ◌↔◌, inl, inr, true, sym, subst, ◌∙◌, nat_cmp}
+use Rattle.std.proofs.lemmas.Bool.{true≢false}
 use Rattle.lvish_calculus.specs.declared.request.Request.TheVariants.{Get, Freeze}
 use Rattle.lvish_calculus.specs.Handing.{IsAmong, NoRepeats}
 use Rattle.lvish_board.specs.Shelved.{IsOnItsList, shelf, by_spot}
@@ -57,8 +58,7 @@ pub returns-clause-ok : goal.returns-clause-ok
 returns-clause-ok g c =
     let absent : IsAmong c.args.asked.task (tasks_of c.args.self.now) → ⊥ = λ i.
     let yes : c.has.result ≡ true = c.has.ensures.1 (subst (λ t. IsAmong t (tasks_of c.self.inside.tasks)) (sym c.task.ensures) (subst (λ ps. IsAmong c.args.asked.task (tasks_of ps)) (sym c.self.view_is) i)) in
-    let both : true ≡ false = sym yes ∙ c.if-has.false in
-    absurd cc in
+    true≢false (sym yes ∙ c.if-has.false) in
     elim c.match-asks.branch [
       | in-Get+else-is_err+in_ok-insert-in-Get w ↦
           beside_others c.args.asked c.args.self.now c.match-asks.self absent (λ q. subst (λ ps. IsAmong q c.match-asks.self ↔ ((q ≡ c.args.asked) ⊎ IsAmong q ps)) c.self.view_is (subst (λ ps. IsAmong q ps ↔ ((q ≡ c.args.asked) ⊎ IsAmong q c.self.inside.tasks)) (sym w.self-is) (w.in_ok-insert-in-Get.ensures.ok q)))

@@ -1,0 +1,167 @@
+-- All that a board says of its answer, for each answer, over any machine.
+use Rattle.std.proofs.Common.{◌≡◌, ◌++◌, ◌∷◌, [], Bool, true, false, ℕ, Ordering, Option, None, IsSome, refl, sym, ap, subst, ◌∙◌}
+use Rattle.std.proofs.lemmas.Bool.{false≢true, true≢false}
+use Rattle.std.specs.Global.{Vec}
+use Rattle.lvish_calculus.specs.declared.label.Label.TheVariants.{Act, Hand}
+use Rattle.lvish_calculus.specs.Machine.{Machine}
+use Rattle.lvish_names.specs.Names.{Handler}
+use Rattle.lvish_board.specs.declared.acted.Acted.{Acted}
+use Rattle.lvish_board.specs.declared.acted.Acted.TheVariants.{Over, Stale, Parked, Next, Gone}
+use Rattle.lvish_board.specs.declared.work.Work.{Work}
+use Rattle.lvish_board.specs.Acts.{ComesOfAct, IsDone, ComesOfHand, entry_of}
+use Rattle.lvish_board.specs.Listed.{IsListed}
+use Rattle.lvish_board.specs.Place.{TaskPlace}
+use Rattle.lvish_board.specs.Standing.{Standing}
+
+-- what isn't over is over in no way
+not_over : {X Y : Type 0} (o : Option X) → o ≡ None → IsSome o → Y
+not_over o none some = absurd (false≢true (subst (λ z. IsSome z) none some))
+
+module _ {P S E R Ans L P1 J1 A1 W : Type 0} {cmp : E → E → Ordering} {M : Machine S E R Ans L} {Stands Can : Type 0} {worker : ℕ} {asked : TaskPlace E L} {old new : Standing P S E L} where
+  -- the board was over
+  pub act_done : new ≡ old → IsSome new.over → ComesOfAct {P = P1} {J = J1} {A = A1} {W = W} cmp M Stands Can worker asked old new Over
+  act_done same some = record {
+    stays = λ _. (ap (λ b. b.trace) same, ap (λ b. b.core) same);
+    step = λ e. absurd (false≢true e);
+    gone = λ e. absurd (false≢true e);
+    list = tt;
+    over = λ _. some;
+    done = λ _. (refl, same);
+    stale = λ e. absurd (false≢true e);
+    parked = λ e. absurd (false≢true e);
+    memory = (tt, tt);
+  }
+
+  -- the budget is used up
+  pub act_full : (inside : Standing P S E L) → inside ≡ old → inside.over ≡ None → new.trace ≡ inside.trace → new.core ≡ inside.core → IsSome new.over → ComesOfAct {P = P1} {J = J1} {A = A1} {W = W} cmp M Stands Can worker asked old new Over
+  act_full inside view none trace core some = record {
+    stays = λ _. (trace ∙ ap (λ b. b.trace) view, core ∙ ap (λ b. b.core) view);
+    step = λ e. absurd (false≢true e);
+    gone = λ e. absurd (false≢true e);
+    list = tt;
+    over = λ _. some;
+    done = not_over old.over (sym (ap (λ b. b.over) view) ∙ none);
+    stale = λ e. absurd (false≢true e);
+    parked = λ e. absurd (false≢true e);
+    memory = (tt, tt);
+  }
+
+  -- the task isn't at its state
+  pub act_stale : new ≡ old → new.over ≡ None → (Stands → ⊥) → ComesOfAct {P = P1} {J = J1} {A = A1} {W = W} cmp M Stands Can worker asked old new Stale
+  act_stale same none never = record {
+    stays = λ _. (ap (λ b. b.trace) same, ap (λ b. b.core) same);
+    step = λ e. absurd (false≢true e);
+    gone = λ e. absurd (false≢true e);
+    list = tt;
+    over = λ e. absurd (false≢true e);
+    done = not_over old.over (sym (ap (λ b. b.over) same) ∙ none);
+    stale = λ _. (never, same);
+    parked = λ e. absurd (false≢true e);
+    memory = (tt, tt);
+  }
+
+  -- a step was made, and the task goes on
+  pub act_next : (list : Vec (Work P1 J1 S L R A1 W E)) → old.over ≡ None → new.trace ≡ old.trace ++ entry_of worker (Act asked.task) ∷ [] → (IsDone M new.core asked.task → ⊥) → IsListed cmp M old (Act asked.task) new list.items → ComesOfAct {P = P1} {J = J1} {A = A1} {W = W} cmp M Stands Can worker asked old new (Next list)
+  act_next list none written goes listed = record {
+    stays = λ e. absurd (true≢false e);
+    step = λ _. written;
+    gone = λ _. (λ e. absurd (false≢true e), λ done. absurd (goes done));
+    list = listed;
+    over = λ e. absurd (false≢true e);
+    done = not_over old.over none;
+    stale = λ e. absurd (false≢true e);
+    parked = λ e. absurd (false≢true e);
+    memory = (tt, tt);
+  }
+
+  -- a step was made, and the task goes on no more
+  pub act_gone : (list : Vec (Work P1 J1 S L R A1 W E)) → old.over ≡ None → new.trace ≡ old.trace ++ entry_of worker (Act asked.task) ∷ [] → IsDone M new.core asked.task → IsListed cmp M old (Act asked.task) new list.items → ComesOfAct {P = P1} {J = J1} {A = A1} {W = W} cmp M Stands Can worker asked old new (Gone list)
+  act_gone list none written done listed = record {
+    stays = λ e. absurd (true≢false e);
+    step = λ _. written;
+    gone = λ _. (λ _. done, λ _. refl);
+    list = listed;
+    over = λ e. absurd (false≢true e);
+    done = not_over old.over none;
+    stale = λ e. absurd (false≢true e);
+    parked = λ e. absurd (false≢true e);
+    memory = (tt, tt);
+  }
+
+  -- a step was made, and the answer says whether the task goes on
+  pub act_left : (goes_on : Bool) (list : Vec (Work P1 J1 S L R A1 W E)) (result : Acted P1 J1 S L R A1 W E) → (goes_on ≡ true → result ≡ Next list) → (goes_on ≡ false → result ≡ Gone list)
+      → old.over ≡ None → new.trace ≡ old.trace ++ entry_of worker (Act asked.task) ∷ [] → (goes_on ≡ true → IsDone M new.core asked.task → ⊥) → (goes_on ≡ false → IsDone M new.core asked.task)
+      → IsListed cmp M old (Act asked.task) new list.items → ComesOfAct cmp M Stands Can worker asked old new result
+  act_left true list result next gone none written goes ends listed = subst (λ r. ComesOfAct cmp M Stands Can worker asked old new r) (sym (next refl)) (act_next list none written (goes refl) listed)
+  act_left false list result next gone none written goes ends listed = subst (λ r. ComesOfAct cmp M Stands Can worker asked old new r) (sym (gone refl)) (act_gone list none written (ends refl) listed)
+
+module _ {P S E R Ans L P1 J1 A1 W : Type 0} {cmp : E → E → Ordering} {M : Machine S E R Ans L} {Held : Type 0} {IsNext : E → Type 0} {worker : ℕ} {handler : Handler E} {old new : Standing P S E L} where
+  -- the board was over
+  pub hand_done : new ≡ old → IsSome new.over → ComesOfHand {P = P1} {J = J1} {A = A1} {W = W} cmp M Held IsNext worker handler old new Over
+  hand_done same some = record {
+    stays = λ _. (ap (λ b. b.trace) same, ap (λ b. b.core) same, ap (λ b. b.parked) same);
+    step = λ e. absurd (false≢true e);
+    gone = refl;
+    list = λ e next. tt;
+    over = λ _. some;
+    done = λ _. (refl, same);
+    stale = λ e. absurd (false≢true e);
+    parked = λ e. absurd (false≢true e);
+    memory = (tt, tt);
+  }
+
+  -- the budget is used up
+  pub hand_full : (inside : Standing P S E L) → inside ≡ old → inside.over ≡ None → new.trace ≡ inside.trace → new.core ≡ inside.core → new.parked ≡ inside.parked → IsSome new.over → ComesOfHand {P = P1} {J = J1} {A = A1} {W = W} cmp M Held IsNext worker handler old new Over
+  hand_full inside view none trace core parked some = record {
+    stays = λ _. (trace ∙ ap (λ b. b.trace) view, core ∙ ap (λ b. b.core) view, parked ∙ ap (λ b. b.parked) view);
+    step = λ e. absurd (false≢true e);
+    gone = refl;
+    list = λ e next. tt;
+    over = λ _. some;
+    done = not_over old.over (sym (ap (λ b. b.over) view) ∙ none);
+    stale = λ e. absurd (false≢true e);
+    parked = λ e. absurd (false≢true e);
+    memory = (tt, tt);
+  }
+
+  -- there is no such handler
+  pub hand_stale : new ≡ old → new.over ≡ None → (Held → ⊥) → ComesOfHand {P = P1} {J = J1} {A = A1} {W = W} cmp M Held IsNext worker handler old new Stale
+  hand_stale same none never = record {
+    stays = λ _. (ap (λ b. b.trace) same, ap (λ b. b.core) same, ap (λ b. b.parked) same);
+    step = λ e. absurd (false≢true e);
+    gone = refl;
+    list = λ e next. tt;
+    over = λ e. absurd (false≢true e);
+    done = not_over old.over (sym (ap (λ b. b.over) same) ∙ none);
+    stale = λ _. (never, same);
+    parked = λ e. absurd (false≢true e);
+    memory = (tt, tt);
+  }
+
+  -- nothing comes next for it
+  pub hand_drained : new ≡ old → new.over ≡ None → ((e : E) → IsNext e → ⊥) → ComesOfHand {P = P1} {J = J1} {A = A1} {W = W} cmp M Held IsNext worker handler old new Parked
+  hand_drained same none never = record {
+    stays = λ _. (ap (λ b. b.trace) same, ap (λ b. b.core) same, ap (λ b. b.parked) same);
+    step = λ e. absurd (false≢true e);
+    gone = refl;
+    list = λ e next. tt;
+    over = λ e. absurd (false≢true e);
+    done = not_over old.over (sym (ap (λ b. b.over) same) ∙ none);
+    stale = λ e. absurd (false≢true e);
+    parked = λ _. (never, same);
+    memory = (tt, tt);
+  }
+
+  -- what came next was handed
+  pub hand_next : (list : Vec (Work P1 J1 S L R A1 W E)) (event : E) → ((e : E) → IsNext e → event ≡ e) → old.over ≡ None → new.trace ≡ old.trace ++ entry_of worker (Hand handler event) ∷ [] → IsListed cmp M old (Hand handler event) new list.items → ComesOfHand {P = P1} {J = J1} {A = A1} {W = W} cmp M Held IsNext worker handler old new (Next list)
+  hand_next list event one none written listed = record {
+    stays = λ e. absurd (true≢false e);
+    step = λ _ e next. subst (λ x. new.trace ≡ old.trace ++ entry_of worker (Hand handler x) ∷ []) (one e next) written;
+    gone = refl;
+    list = λ e next. subst (λ x. IsListed cmp M old (Hand handler x) new list.items) (one e next) listed;
+    over = λ e. absurd (false≢true e);
+    done = not_over old.over none;
+    stale = λ e. absurd (false≢true e);
+    parked = λ e. absurd (false≢true e);
+    memory = (tt, tt);
+  }

@@ -1,0 +1,52 @@
+use Rattle.std.proofs.Common.{rules, ◌≡◌, ◌≤◌, None, length, refl, sym, ◌∙◌, arith}
+use Rattle.std.proofs.lemmas.Bool.{true≢false}
+use Rattle.lvish_calculus.specs.declared.label.Label.TheVariants.{Act}
+use Rattle.lvish_board.proofs.Comes.{act_done, act_full, act_stale}
+use Rattle.lvish_board.proofs.Steps.{kept_over, none_is}
+use Rattle.lvish_board.proofs.board.Board.act_once.Goals as goal
+
+pub invariant_of-self : goal.invariant_of-self
+invariant_of-self g c =
+    let sound = c.self.invariant.1 in
+    let can = rw (← c.self.view_is) at (c.can_go_on.ensures.0 c.if-not-can_go_on.false) in
+    let can_here = rw sound.program_is at can in
+    let budget = c.self.invariant.0 in
+    let full : c.self.inside.budget ≤ length c.self.inside.trace.items = search rules in
+    let within = sound.within in
+    let used : length c.self.inside.trace.items ≡ g.J.Named.budget = omega (arith, full, within, budget) in
+    (budget, kept_over _ _ _ _ _ _ _ _ sound (used, (Act c.args.asked.task, can_here)))
+
+pub returns-then-is_some : goal.returns-then-is_some
+returns-then-is_some g c = act_done refl (rw (← c.self.view_is) (sym c.is_some.ensures ∙ c.if-is_some.true))
+
+pub returns-then-not-is_current : goal.returns-then-not-is_current
+returns-then-not-is_current g c =
+    let none : c.args.self.now.over ≡ None = rw (← c.self.view_is) (none_is c.self.inside.over (sym c.is_some.ensures ∙ c.if-is_some.false)) in
+    act_stale refl none (λ s. true≢false (sym (c.is_current.ensures.1 s) ∙ c.if-not-is_current.true))
+
+pub park-requires-clause-running : goal.park-requires-clause-running
+park-requires-clause-running g c = rw (← c.self.view_is) (none_is c.self.inside.over (sym c.is_some.ensures ∙ c.if-is_some.false))
+
+pub park-requires-clause-current : goal.park-requires-clause-current
+park-requires-clause-current g c = c.is_current.ensures.0 c.if-not-is_current.false
+
+pub park-requires-clause-blocked : goal.park-requires-clause-blocked
+park-requires-clause-blocked g c = λ can. true≢false (sym (c.can_go_on.ensures.1 can) ∙ c.if-not-can_go_on.true)
+
+pub returns-then-not-can_go_on : goal.returns-then-not-can_go_on
+returns-then-not-can_go_on g c = c.park.ensures c.args.worker
+
+pub returns-then-len-self : goal.returns-then-len-self
+returns-then-len-self g c = act_full _ c.self.view_is (none_is c.self.inside.over (sym c.is_some.ensures ∙ c.if-is_some.false)) refl refl refl
+
+pub make-requires-clause-running : goal.make-requires-clause-running
+make-requires-clause-running g c = rw (← c.self.view_is) (none_is c.self.inside.over (sym c.is_some.ensures ∙ c.if-is_some.false))
+
+pub make-requires-clause-current : goal.make-requires-clause-current
+make-requires-clause-current g c = c.is_current.ensures.0 c.if-not-is_current.false
+
+pub make-requires-clause-can : goal.make-requires-clause-can
+make-requires-clause-can g c = c.can_go_on.ensures.0 c.if-not-can_go_on.false
+
+pub returns : goal.returns
+returns g c = c.make.ensures

@@ -1,0 +1,42 @@
+use Rattle.std.proofs.Common.{◌≡◌, None, length, refl, sym, ◌∙◌, arith}
+use Rattle.std.proofs.lemmas.Bool.{true≢false}
+use Rattle.lvish_calculus.specs.declared.label.Label.TheVariants.{Hand}
+use Rattle.lvish_core.specs.Core.{IsNext}
+use Rattle.lvish_board.proofs.Comes.{hand_done, hand_drained, hand_full, hand_stale}
+use Rattle.lvish_board.proofs.Handing.{hand_open}
+use Rattle.lvish_board.proofs.Steps.{kept_over, none_is}
+use Rattle.lvish_board.proofs.board.Board.hand_once.Goals as goal
+
+pub invariant_of-self : goal.invariant_of-self
+invariant_of-self g c =
+    let sound = c.self.invariant.1 in
+    let none = none_is c.self.inside.over (sym c.is_some.ensures ∙ c.if-is_some.false) in
+    let next : IsNext g.P.Lat.Event.PartialEq.eq c.args.self.now.core.table c.args.handler c.in-Some.event = c.in-Some.ensures in
+    let can = hand_open _ (c.hands_one_event.ensures.open g.J.Named.program) _ _ _ sound none c.args.handler c.in-Some.event (rw (← c.self.view_is) at next) in
+    let full : length c.self.inside.trace.items ≡ g.J.Named.budget = omega (arith, sound.within, c.self.invariant.0, c.if-len-self.true, c.len.ensures, c.self.inside.trace.ok.0) in
+    (c.self.invariant.0, kept_over _ _ _ _ _ _ _ _ sound (full, (Hand c.args.handler c.in-Some.event, can)))
+
+pub returns-then-is_some : goal.returns-then-is_some
+returns-then-is_some g c = hand_done refl (rw (← c.self.view_is) (sym c.is_some.ensures ∙ c.if-is_some.true))
+
+pub returns-then-not-holds : goal.returns-then-not-holds
+returns-then-not-holds g c =
+    let none : c.args.self.now.over ≡ None = rw (← c.self.view_is) (none_is c.self.inside.over (sym c.is_some.ensures ∙ c.if-is_some.false)) in
+    hand_stale refl none (λ s. true≢false (sym (c.holds.ensures.1 s) ∙ c.if-not-holds.true))
+
+pub returns-in_default : goal.returns-in_default
+returns-in_default g c =
+    let none : c.args.self.now.over ≡ None = rw (← c.self.view_is) (none_is c.self.inside.over (sym c.is_some.ensures ∙ c.if-is_some.false)) in
+    hand_drained refl none c.in_default.ensures
+
+pub returns-then-len-self : goal.returns-then-len-self
+returns-then-len-self g c = hand_full _ c.self.view_is (none_is c.self.inside.over (sym c.is_some.ensures ∙ c.if-is_some.false)) refl refl refl refl
+
+pub make_hand-requires-clause-running : goal.make_hand-requires-clause-running
+make_hand-requires-clause-running g c = rw (← c.self.view_is) (none_is c.self.inside.over (sym c.is_some.ensures ∙ c.if-is_some.false))
+
+pub make_hand-requires-clause-next : goal.make_hand-requires-clause-next
+make_hand-requires-clause-next g c = c.in-Some.ensures
+
+pub returns : goal.returns
+returns g c = c.make_hand.ensures
