@@ -6,6 +6,7 @@ pub mod Loops
 pub mod Lines
 pub mod Versions
 pub mod Forms
+pub mod Gathered
 pub mod Order
 pub mod Numbers
 pub mod Stacks

@@ -12,6 +12,7 @@ ghost use Rattle.std.specs.Prelude.{◌≡◌, IfOk, map};
 ghost use Rattle.lvish_checks.specs.Form.{begins_declaration, begins_command, line_of};
 
 use crate::line::Line;
+use crate::word::is;
 use block::block_form;
 use command::command_form;
 use declaration::declaration_form;
@@ -21,26 +22,26 @@ use version::version_line;
 fn begins_declaration(word: &[u8]) -> bool
     ensures { result ≡ begins_declaration word.now }
 {
-    word == b"cell".as_slice()
-        || word == b"set".as_slice()
-        || word == b"max".as_slice()
-        || word == b"map".as_slice()
-        || word == b"pair".as_slice()
-        || word == b"tally".as_slice()
-        || word == b"pool".as_slice()
-        || word == b"proc".as_slice()
+    is(word, b"cell")
+        || is(word, b"set")
+        || is(word, b"max")
+        || is(word, b"map")
+        || is(word, b"pair")
+        || is(word, b"tally")
+        || is(word, b"pool")
+        || is(word, b"proc")
 }
 
 fn begins_command(word: &[u8]) -> bool
     ensures { result ≡ begins_command word.now }
 {
-    word == b"let".as_slice()
-        || word == b"put".as_slice()
-        || word == b"get".as_slice()
-        || word == b"fork".as_slice()
-        || word == b"call".as_slice()
-        || word == b"handle".as_slice()
-        || word == b"freeze".as_slice()
+    is(word, b"let")
+        || is(word, b"put")
+        || is(word, b"get")
+        || is(word, b"fork")
+        || is(word, b"call")
+        || is(word, b"handle")
+        || is(word, b"freeze")
 }
 
 /// What a line with these words says: `Bad` where they have none of the forms.
@@ -54,7 +55,7 @@ pub fn line_of(alloc: Global, words: &[&[u8]]) -> Result<Line, AllocError>
                 declaration_form(alloc, word, rest)
             } else if begins_command(word) {
                 command_form(alloc, word, rest)
-            } else if *word == b"lvish".as_slice() {
+            } else if is(word, b"lvish") {
                 Ok(version_line(rest))
             } else {
                 block_form(alloc, word, rest)

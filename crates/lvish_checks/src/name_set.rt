@@ -9,9 +9,15 @@ use std::alloc::{AllocError, Global};
 use std::marker::Model;
 
 /// Names of a script, to be looked up.
-#[derive(Drop)]
 pub struct NameSet<'a> {
     names: IndexSet<&'a str>,
+}
+
+// Written out, so that it is proved once, and not at each exit of a function that owns one.
+impl<'a> Drop for NameSet<'a> {
+    fn drop(self) {
+        let NameSet { names: _ } = self;
+    }
 }
 
 impl<'a> Model for NameSet<'a> {

@@ -10,9 +10,15 @@ use std::alloc::{AllocError, Global};
 use std::marker::Model;
 
 /// A value at each of some names, to be looked up.
-#[derive(Drop)]
 pub struct NameTable<'a, V> {
     values: IndexMap<&'a str, V>,
+}
+
+// Written out, so that it is proved once, and not at each exit of a function that owns one.
+impl<'a, V: Drop> Drop for NameTable<'a, V> {
+    fn drop(self) {
+        let NameTable { values: _ } = self;
+    }
 }
 
 impl<'a, V> Model for NameTable<'a, V> {

@@ -1,10 +1,18 @@
 ghost use Rattle.std.specs.Prelude.{◌≡◌};
 ghost use Rattle.std.specs.List.{list_all};
+ghost use Rattle.std.specs.Str.{bytes_eq};
 ghost use Rattle.lvish_syntax.specs.Words.{is_digit, is_letter, is_name_byte, begins_name, is_reserved, is_name};
 ghost use Rattle.lvish_checks.specs.Form.{is_number_word, number_spelled, value_of_number, is_bad_number};
 
 const RESERVED: &[u8] =
     b"cell set max map pair pool proc end let put get any in has least fork call handle freeze after each if else while";
+
+/// Whether a word is this text.
+pub fn is(word: &[u8], text: &[u8]) -> bool
+    ensures { result ≡ bytes_eq word.now text.now }
+{
+    word == text
+}
 
 fn is_digit(b: u8) -> bool
     ensures { result ≡ is_digit b }

@@ -1,9 +1,16 @@
 -- A jump is written after the instructions that it passes.
-use Rattle.std.proofs.Common.{◌≡◌, ℕ, ◌+◌, ◌-◌, List, [], ◌∷◌, ◌++◌, length, sym, ap, ◌∙◌, arith, append_assoc, length-append}
+use Rattle.std.proofs.Common.{◌≡◌, ℕ, ◌+◌, ◌-◌, ◌<◌, List, [], ◌∷◌, ◌++◌, length, sym, ap, ◌∙◌, arith, append_assoc, length-append}
 use Rattle.std.specs.List.{slice_set}
 use Rattle.std.proofs.Math.Seq.{set-append_seam}
 use Rattle.lvish_code.specs.Vocabulary.{Operand, Instruction, SkipIfZero, GoOn, BackUnlessZero}
 use Rattle.lvish_code.specs.Compile.{if_code, if_else_code, while_code}
+
+-- a place that was reserved stays within the code
+pub before_end : (base ac c2 c3 : List Instruction) (x : Instruction) (n : ℕ) → n ≡ length base → c2 ≡ base ++ x ∷ [] → c3 ≡ c2 ++ ac → n < length c3
+before_end base ac c2 c3 x n m e2 e3 =
+    let l2 = ap length e2 ∙ length-append base (x ∷ []) in
+    let l3 = ap length e3 ∙ length-append c2 ac in
+    omega arith
 
 two_writes : (c a b : List Instruction) (x y i j : Instruction) → slice_set (slice_set (c ++ x ∷ (a ++ y ∷ b)) (length c) i) (length (c ++ i ∷ a)) j ≡ c ++ i ∷ (a ++ j ∷ b)
 two_writes c a b x y i j =

@@ -14,13 +14,25 @@ use std::marker::Model;
 ///
 /// Variables, pools and procedures are numbers, from 0, each in the order of their lines. All that an
 /// instruction names is there, and each jump stays within its routine, by this type: `IsCodeSound`.
-#[derive(Debug, Drop)]
+#[derive(Debug)]
 pub struct Code {
     kinds: Kinds,
     pools: Indices,
     main: usize,
     routines: Routines,
     ghost sound: { IsCodeSound kinds pools main routines },
+}
+
+// Written out, so that it is proved once, and not at each exit of a function that owns one.
+impl Drop for Code {
+    fn drop(self) {
+        let Code {
+            kinds: _,
+            pools: _,
+            main: _,
+            routines: _,
+        } = self;
+    }
 }
 
 impl Model for Code {

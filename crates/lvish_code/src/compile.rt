@@ -1,12 +1,13 @@
-ghost use Rattle.std.specs.Prelude.{◌≡◌, ◌++◌, [], ◌∷◌, ◌<◌, length, IfOk, OnOk, map};
+ghost use Rattle.std.specs.Prelude.{◌≡◌, ◌++◌, [], ◌∷◌, ◌<◌, ◌-◌, length, IfOk, OnOk, map};
 ghost use Rattle.std.specs.List.{slice_set};
 ghost use Rattle.lvish_syntax.specs.Nested.{statements};
 ghost use Rattle.lvish_code.specs.Compile.{local_names, statement_code, list_code, routine_of};
-ghost use Rattle.lvish_code.specs.declared.instruction.Instruction.TheVariants.{GoOn};
+ghost use Rattle.lvish_code.specs.declared.instruction.Instruction.TheVariants.{SkipIfZero, BackUnlessZero, GoOn};
 ghost use Rattle.lvish_code.specs.InScope.{names_in, names_with};
 
 use crate::instruction::{Instruction, Instructions};
 use crate::locals::locals_of;
+use crate::operand::Operand;
 use crate::routine::{Routine, Routines};
 use crate::scope::Scope;
 use crate::tables::Tables;
@@ -44,9 +45,7 @@ fn emit_statement(
         Statement::If(term, block) => {
             let test = reserve(code)?;
             emit_block(alloc, scope, code, block)?;
-            let passed = code.len() - test - 1;
-            let skip = Instruction::SkipIfZero(scope.operand(term), passed);
-            patch(code, test, skip);
+            end_if(code, test, scope.operand(term));
             Ok(())
         }
         Statement::IfElse(term, first, second) => {
@@ -54,22 +53,13 @@ fn emit_statement(
             emit_block(alloc, scope, code, first)?;
             let first_end = reserve(code)?;
             emit_block(alloc, scope, code, second)?;
-            let passed = code.len() - first_end - 1;
-            let skip = Instruction::SkipIfZero(scope.operand(term), first_end - test);
-            patch(code, test, skip);
-            patch(code, first_end, Instruction::GoOn(passed));
+            end_if_else(code, test, first_end, scope.operand(term));
             Ok(())
         }
         Statement::While(term, block) => {
-            let operand = scope.operand(term);
             let test = reserve(code)?;
             emit_block(alloc, scope, code, block)?;
-            let block_end = code.len();
-            let back = Instruction::BackUnlessZero(operand, block_end - test - 1);
-            append(code, back)?;
-            let skip = Instruction::SkipIfZero(operand, block_end - test);
-            patch(code, test, skip);
-            Ok(())
+            end_while(code, test, scope.operand(term))
         }
     }
 }
@@ -97,6 +87,41 @@ fn patch(code: &mut Vec<Instruction>, place: usize, instruction: Instruction)
     ensures { code.new.items ≡ slice_set code.old.items place instruction }
 {
     code[place] = instruction;
+}
+
+/// Writes the jump of an `if` past its block, with which the code ends.
+fn end_if(code: &mut Vec<Instruction>, test: usize, operand: Operand)
+    requires { test < length code.old.items }
+    ensures { code.new.items ≡ slice_set code.old.items test (SkipIfZero operand (length code.old.items - test - 1)) }
+{
+    let passed = code.len() - test - 1;
+    patch(code, test, Instruction::SkipIfZero(operand, passed));
+}
+
+/// Writes the jumps of an `if` past its first block and past the second, with which the code ends.
+fn end_if_else(code: &mut Vec<Instruction>, test: usize, first_end: usize, operand: Operand)
+    requires first { test < first_end }
+    requires second { first_end < length code.old.items }
+    ensures { code.new.items ≡ slice_set (slice_set code.old.items test (SkipIfZero operand (first_end - test))) first_end (GoOn (length code.old.items - first_end - 1)) }
+{
+    let passed = code.len() - first_end - 1;
+    let skip = Instruction::SkipIfZero(operand, first_end - test);
+    patch(code, test, skip);
+    patch(code, first_end, Instruction::GoOn(passed));
+}
+
+/// Appends the jump of a `while` back to its block, with which the code ends, and writes the one
+/// past it.
+fn end_while(code: &mut Vec<Instruction>, test: usize, operand: Operand) -> Result<(), AllocError>
+    requires { test < length code.old.items }
+    ensures { OnOk result (code.new.items ≡ slice_set (code.old.items ++ BackUnlessZero operand (length code.old.items - test - 1) ∷ []) test (SkipIfZero operand (length code.old.items - test))) }
+{
+    let block_end = code.len();
+    let back = Instruction::BackUnlessZero(operand, block_end - test - 1);
+    append(code, back)?;
+    let skip = Instruction::SkipIfZero(operand, block_end - test);
+    patch(code, test, skip);
+    Ok(())
 }
 
 /// The routine of a procedure.

@@ -3,9 +3,16 @@ ghost use Rattle.std.specs.Prelude.{◌≡◌};
 use std::marker::Model;
 
 /// Numbers of variables or of pools, in order.
-#[derive(Debug, Drop)]
+#[derive(Debug)]
 pub struct Indices {
     items: Vec<usize>,
+}
+
+// Written out, so that it is proved once, and not at each exit of a function that owns one.
+impl Drop for Indices {
+    fn drop(self) {
+        let Indices { items: _ } = self;
+    }
 }
 
 impl Model for Indices {

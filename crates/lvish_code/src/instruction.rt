@@ -8,7 +8,7 @@ use crate::wanted::Wanted;
 use std::marker::Model;
 
 /// What a task asks the others for. Variables, pools, procedures and locals are numbers, from 0.
-#[derive(Debug, Drop)]
+#[derive(Debug)]
 pub enum Action {
     /// Puts the operand's value: the variable, what of it, the operand.
     Put(usize, Target, Operand),
@@ -25,8 +25,21 @@ pub enum Action {
     Freeze(usize, usize, Indices, Option<usize>),
 }
 
+// Written out, so that it is proved once, and not at each exit of a function that owns one.
+impl Drop for Action {
+    fn drop(self) {
+        match self {
+            Action::Put(_, _, _) => {}
+            Action::Get(_, _, _, _) => {}
+            Action::Fork(_, _) => {}
+            Action::Handle(_, _) => {}
+            Action::Freeze(_, _, _, _) => {}
+        }
+    }
+}
+
 /// One instruction of flat code. A jump says how many instructions it passes.
-#[derive(Debug, Drop)]
+#[derive(Debug)]
 pub enum Instruction {
     /// Asks for an action, and goes on with the next instruction after the reply.
     Ask(Action),
@@ -44,10 +57,32 @@ pub enum Instruction {
     Return,
 }
 
+// Written out, so that it is proved once, and not at each exit of a function that owns one.
+impl Drop for Instruction {
+    fn drop(self) {
+        match self {
+            Instruction::Ask(_) => {}
+            Instruction::Let(_, _) => {}
+            Instruction::Call(_, _) => {}
+            Instruction::SkipIfZero(_, _) => {}
+            Instruction::BackUnlessZero(_, _) => {}
+            Instruction::GoOn(_) => {}
+            Instruction::Return => {}
+        }
+    }
+}
+
 /// Instructions in order.
-#[derive(Debug, Drop)]
+#[derive(Debug)]
 pub struct Instructions {
     items: Vec<Instruction>,
+}
+
+// Written out, so that it is proved once, and not at each exit of a function that owns one.
+impl Drop for Instructions {
+    fn drop(self) {
+        let Instructions { items: _ } = self;
+    }
 }
 
 impl Model for Instructions {

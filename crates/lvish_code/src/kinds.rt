@@ -4,9 +4,16 @@ use lvish_syntax::VariableKind;
 use std::marker::Model;
 
 /// The kinds of variables, by number.
-#[derive(Debug, Drop)]
+#[derive(Debug)]
 pub struct Kinds {
     items: Vec<VariableKind>,
+}
+
+// Written out, so that it is proved once, and not at each exit of a function that owns one.
+impl Drop for Kinds {
+    fn drop(self) {
+        let Kinds { items: _ } = self;
+    }
 }
 
 impl Model for Kinds {

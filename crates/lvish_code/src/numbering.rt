@@ -7,9 +7,15 @@ use std::alloc::{AllocError, Global};
 use std::marker::Model;
 
 /// Different names in order, each with its number, from 0.
-#[derive(Drop)]
 pub struct Numbering<'a> {
     names: IndexSet<&'a str>,
+}
+
+// Written out, so that it is proved once, and not at each exit of a function that owns one.
+impl<'a> Drop for Numbering<'a> {
+    fn drop(self) {
+        let Numbering { names: _ } = self;
+    }
 }
 
 impl<'a> Model for Numbering<'a> {

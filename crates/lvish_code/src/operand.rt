@@ -12,9 +12,16 @@ pub enum Operand {
 }
 
 /// Operands in order.
-#[derive(Debug, Drop)]
+#[derive(Debug)]
 pub struct Operands {
     items: Vec<Operand>,
+}
+
+// Written out, so that it is proved once, and not at each exit of a function that owns one.
+impl Drop for Operands {
+    fn drop(self) {
+        let Operands { items: _ } = self;
+    }
 }
 
 impl Model for Operands {

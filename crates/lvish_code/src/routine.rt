@@ -4,17 +4,35 @@ use crate::instruction::Instructions;
 use std::marker::Model;
 
 /// The flat code of a procedure. Its parameters are the first of its locals.
-#[derive(Debug, Drop)]
+#[derive(Debug)]
 pub struct Routine {
     pub parameters: usize,
     pub locals: usize,
     pub instructions: Instructions,
 }
 
+// Written out, so that it is proved once, and not at each exit of a function that owns one.
+impl Drop for Routine {
+    fn drop(self) {
+        let Routine {
+            parameters: _,
+            locals: _,
+            instructions: _,
+        } = self;
+    }
+}
+
 /// Routines by number.
-#[derive(Debug, Drop)]
+#[derive(Debug)]
 pub struct Routines {
     items: Vec<Routine>,
+}
+
+// Written out, so that it is proved once, and not at each exit of a function that owns one.
+impl Drop for Routines {
+    fn drop(self) {
+        let Routines { items: _ } = self;
+    }
 }
 
 impl Model for Routines {

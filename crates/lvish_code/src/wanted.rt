@@ -2,7 +2,7 @@ use crate::operand::Operand;
 use lvish_syntax::Numbers;
 
 /// What a get waits for at its target.
-#[derive(Debug, Drop)]
+#[derive(Debug)]
 pub enum Wanted {
     /// A number in a cell.
     Any,
@@ -11,4 +11,15 @@ pub enum Wanted {
     /// The operand's value: as an element of a set, or as what a counter, an amount or a total has
     /// reached.
     At(Operand),
+}
+
+// Written out, so that it is proved once, and not at each exit of a function that owns one.
+impl Drop for Wanted {
+    fn drop(self) {
+        match self {
+            Wanted::Any => {}
+            Wanted::In(_) => {}
+            Wanted::At(_) => {}
+        }
+    }
 }

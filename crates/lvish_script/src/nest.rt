@@ -1,12 +1,12 @@
-ghost use Rattle.std.specs.Prelude.{◌≡◌, ◌++◌, ◌∷◌, [], ℕ, false, true, filter, Some, IfOk};
+ghost use Rattle.std.specs.Prelude.{◌≡◌, ◌++◌, ◌∷◌, [], ℕ, false, true, filter, Some, None, IfOk};
 ghost use Rattle.std.specs.List.{flat_map};
-ghost use Rattle.lvish_checks.specs.Checks.{on_line, line_fails, open_step, is_procedure, is_nil, takes_else};
+ghost use Rattle.lvish_checks.specs.Checks.{on_line, line_fails, declared_by, open_step, is_procedure, is_nil, takes_else};
 ghost use Rattle.lvish_checks.specs.declared.fault.Fault.TheVariants.{BadLine, OpenBlock as UnclosedBlock};
 ghost use Rattle.lvish_script.specs.Spells.{script_lines, statement_lines, procedure_lines, says_something};
 ghost use Rattle.lvish_script.specs.Nested.{block_lines, opener, opened_lines, open_lines, draft_lines, openers, what_is_said, HasNone, TakesLine};
 ghost use Rattle.lvish_checks.specs.declared.line.Line.TheVariants as line;
 
-use crate::open::{OpenBlock, empty, with_statement};
+use crate::open::{OpenBlock, add_statement, empty};
 use lvish_checks::Line;
 use lvish_syntax::{
     Declaration, Declarations, Identifier, Identifiers, Procedure, Procedures, Statement,
@@ -14,10 +14,19 @@ use lvish_syntax::{
 use std::alloc::{AllocError, Global};
 
 /// A procedure that is open, with the open blocks in it, the innermost last.
-#[derive(Drop)]
 struct OpenProcedure {
     procedure: Procedure,
     blocks: Vec<OpenBlock>,
+}
+
+// Written out, so that it is proved once, and not at each exit of a function that owns one.
+impl Drop for OpenProcedure {
+    fn drop(self) {
+        let OpenProcedure {
+            procedure: _,
+            blocks: _,
+        } = self;
+    }
 }
 
 impl OpenProcedure {
@@ -37,49 +46,41 @@ impl OpenProcedure {
     }
 
     /// With a further statement in the innermost block.
-    fn with(self, statement: Statement) -> Result<OpenProcedure, AllocError>
+    fn with(mut self, statement: Statement) -> Result<OpenProcedure, AllocError>
         ensures lines { IfOk result (λ o. opened_lines o ≡ opened_lines self ++ statement_lines statement) }
         ensures openers { IfOk result (λ o. openers (Some o) ≡ openers (Some self)) }
     {
-        let OpenProcedure {
-            mut procedure,
-            mut blocks,
-        } = self;
-        match blocks.pop() {
-            None => procedure.body = with_statement(procedure.body, statement)?,
-            Some(block) => blocks.push(block.with(statement)?)?,
+        match self.blocks.pop() {
+            None => add_statement(&mut self.procedure.body, statement)?,
+            Some(mut block) => {
+                block.add(statement)?;
+                self.blocks.push(block)?;
+            }
         }
-        Ok(OpenProcedure { procedure, blocks })
+        Ok(self)
     }
 
     /// With a further block in the innermost one.
-    fn open(self, block: OpenBlock) -> Result<OpenProcedure, AllocError>
+    fn open(mut self, block: OpenBlock) -> Result<OpenProcedure, AllocError>
         ensures lines { IfOk result (λ o. opened_lines o ≡ opened_lines self ++ block_lines block) }
         ensures openers { IfOk result (λ o. openers (Some o) ≡ opener block ∷ openers (Some self)) }
     {
-        let OpenProcedure {
-            procedure,
-            mut blocks,
-        } = self;
-        blocks.push(block)?;
-        Ok(OpenProcedure { procedure, blocks })
+        self.blocks.push(block)?;
+        Ok(self)
     }
 
     /// With the second part of the innermost block, an `if` before its `else`.
-    fn turned(self, alloc: Global) -> Result<OpenProcedure, AllocError>
+    fn turned(mut self, alloc: Global) -> Result<OpenProcedure, AllocError>
         requires { takes_else (openers (Some self)) ≡ true }
         ensures lines { IfOk result (λ o. opened_lines o ≡ opened_lines self ++ line.Else ∷ []) }
         ensures openers { IfOk result (λ o. openers (Some o) ≡ open_step (openers (Some self)) line.Else) }
     {
-        let OpenProcedure {
-            procedure,
-            mut blocks,
-        } = self;
-        let Some(OpenBlock::If(test, first)) = blocks.pop() else {
+        let Some(OpenBlock::If(test, first)) = self.blocks.pop() else {
             unreachable!()
         };
-        blocks.push(OpenBlock::Else(test, first, empty(alloc)))?;
-        Ok(OpenProcedure { procedure, blocks })
+        self.blocks
+            .push(OpenBlock::Else(test, first, empty(alloc)))?;
+        Ok(self)
     }
 
     /// With the end of the innermost block; at the end of the procedure itself, it is one of the
@@ -116,12 +117,54 @@ fn inside(opened: Option<OpenProcedure>) -> OpenProcedure
     }
 }
 
+/// What is open after a line that declares no variable and no pool.
+fn opened_after(
+    alloc: Global,
+    opened: Option<OpenProcedure>,
+    procedures: &mut Vec<Procedure>,
+    line: Line,
+) -> Result<Option<OpenProcedure>, AllocError>
+    requires takes { TakesLine procedures.old.items opened line }
+    requires declares { declared_by line ≡ [] }
+    ensures lines { IfOk result (λ o. flat_map procedure_lines procedures.new.items ++ open_lines o ≡ (flat_map procedure_lines procedures.old.items ++ open_lines opened) ++ what_is_said line) }
+    ensures openers { IfOk result (λ o. openers o ≡ open_step (openers opened) line) }
+    ensures none { is_procedure line ≡ false → HasNone procedures.old.items opened → IfOk result (λ o. HasNone procedures.new.items o) }
+{
+    match line {
+        Line::Blank | Line::Version => Ok(opened),
+        Line::Bad | Line::Declare(_) => unreachable!(),
+        Line::Proc(name, parameters) => Ok(Some(OpenProcedure::begun(
+            alloc,
+            name.into_inner(),
+            parameters.into_inner(),
+        ))),
+        Line::Do(command) => {
+            let statement = Statement::Do(command.into_inner());
+            Ok(Some(inside(opened).with(statement)?))
+        }
+        Line::If(test) => Ok(Some(inside(opened).open(OpenBlock::If(test, empty(alloc)))?)),
+        Line::While(test) => Ok(Some(inside(opened).open(OpenBlock::While(test, empty(alloc)))?)),
+        Line::Else => Ok(Some(inside(opened).turned(alloc)?)),
+        Line::End => inside(opened).ended(procedures),
+    }
+}
+
 /// What was read of a script.
-#[derive(Drop)]
 struct Draft {
     declarations: Vec<Declaration>,
     procedures: Vec<Procedure>,
     opened: Option<OpenProcedure>,
+}
+
+// Written out, so that it is proved once, and not at each exit of a function that owns one.
+impl Drop for Draft {
+    fn drop(self) {
+        let Draft {
+            declarations: _,
+            procedures: _,
+            opened: _,
+        } = self;
+    }
 }
 
 impl Draft {
@@ -137,31 +180,37 @@ impl Draft {
             mut procedures,
             opened,
         } = self;
-        let opened = match line {
-            Line::Blank => opened,
-            Line::Version => opened,
-            Line::Bad => unreachable!(),
+        match line {
             Line::Declare(declaration) => {
                 declarations.push(declaration.into_inner())?;
-                opened
+                Ok(Draft {
+                    declarations,
+                    procedures,
+                    opened,
+                })
             }
-            Line::Proc(name, parameters) => {
-                Some(OpenProcedure::begun(alloc, name.into_inner(), parameters.into_inner()))
+            line => {
+                let opened = opened_after(alloc, opened, &mut procedures, line)?;
+                Ok(Draft {
+                    declarations,
+                    procedures,
+                    opened,
+                })
             }
-            Line::Do(command) => {
-                let statement = Statement::Do(command.into_inner());
-                Some(inside(opened).with(statement)?)
-            }
-            Line::If(test) => Some(inside(opened).open(OpenBlock::If(test, empty(alloc)))?),
-            Line::While(test) => Some(inside(opened).open(OpenBlock::While(test, empty(alloc)))?),
-            Line::Else => Some(inside(opened).turned(alloc)?),
-            Line::End => inside(opened).ended(&mut procedures)?,
-        };
-        Ok(Draft {
+        }
+    }
+
+    /// The declarations and procedures, where nothing is open.
+    fn ended(self) -> (Declarations, Procedures)
+        requires { self.opened ≡ None }
+        ensures { script_lines result.0 result.1 ≡ draft_lines self }
+    {
+        let Draft {
             declarations,
             procedures,
-            opened,
-        })
+            opened: _,
+        } = self;
+        (declarations.into(), procedures.into())
     }
 }
 
@@ -187,8 +236,5 @@ pub fn nest(alloc: Global, said: Vec<Line>) -> Result<(Declarations, Procedures)
             draft = draft.add(alloc, line)?;
         }
     }
-    match draft.opened {
-        None => Ok((draft.declarations.into(), draft.procedures.into())),
-        Some(_) => unreachable!(),
-    }
+    Ok(draft.ended())
 }

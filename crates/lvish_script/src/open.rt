@@ -1,4 +1,4 @@
-ghost use Rattle.std.specs.Prelude.{◌≡◌, ◌++◌, ◌∷◌, [], false, true, IfOk};
+ghost use Rattle.std.specs.Prelude.{◌≡◌, ◌++◌, ◌∷◌, [], OnOk};
 ghost use Rattle.lvish_script.specs.Spells.{statement_lines, body_lines};
 ghost use Rattle.lvish_syntax.specs.Nested.{statements};
 ghost use Rattle.lvish_script.specs.Nested.{block_lines, opener};
@@ -17,13 +17,12 @@ pub fn empty(alloc: Global) -> Block
     }
 }
 
-/// The statements with a further one.
-pub fn with_statement(block: Block, statement: Statement) -> Result<Block, AllocError>
-    ensures { IfOk result (λ b. body_lines (statements b) ≡ body_lines (statements block) ++ statement_lines statement) }
+/// Adds a statement.
+pub fn add_statement(block: &mut Block, statement: Statement) -> Result<(), AllocError>
+    ensures { OnOk result (body_lines (statements block.new) ≡ body_lines (statements block.old) ++ statement_lines statement) }
 {
-    let mut block = block;
     block.items.push(statement)?;
-    Ok(block)
+    Ok(())
 }
 
 /// A block that is open, with the statements that were read of it.
@@ -38,21 +37,16 @@ pub enum OpenBlock {
 }
 
 impl OpenBlock {
-    /// The block with a further statement.
-    pub fn with(self, statement: Statement) -> Result<OpenBlock, AllocError>
-        ensures lines { IfOk result (λ b. block_lines b ≡ block_lines self ++ statement_lines statement) }
-        ensures opener { IfOk result (λ b. opener b ≡ opener self) }
+    /// Adds a statement.
+    pub fn add(&mut self, statement: Statement) -> Result<(), AllocError>
+        ensures lines { OnOk result (block_lines self.new ≡ block_lines self.old ++ statement_lines statement) }
+        ensures opener { OnOk result (opener self.new ≡ opener self.old) }
     {
-        Ok(match self {
-            OpenBlock::If(test, block) => OpenBlock::If(test, with_statement(block, statement)?),
-            OpenBlock::Else(test, first, second) => {
-                OpenBlock::Else(test, first, with_statement(second, statement)?)
-            }
-            OpenBlock::While(test, block) => OpenBlock::While(
-                test,
-                with_statement(block, statement)?,
-            ),
-        })
+        match self {
+            OpenBlock::If(_, block) => add_statement(block, statement),
+            OpenBlock::Else(_, _, second) => add_statement(second, statement),
+            OpenBlock::While(_, block) => add_statement(block, statement),
+        }
     }
 
     /// The statement that the block is, at its end.

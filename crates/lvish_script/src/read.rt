@@ -1,5 +1,6 @@
-ghost use Rattle.std.specs.Prelude.{◌≡◌, length, map, nat_lt, IfOk, MatchResult};
+ghost use Rattle.std.specs.Prelude.{◌≡◌, length, map, nat_lt, None, Some, IfOk, MatchResult, if◌then◌else◌};
 ghost use Rattle.std.specs.List.{list_any};
+ghost use Rattle.std.specs.Option.{option_or};
 ghost use Rattle.lvish_checks.specs.Text.{words_of};
 ghost use Rattle.lvish_checks.specs.Form.{is_bad_number, line_of};
 ghost use Rattle.lvish_checks.specs.Checks.{on_line, IsFirstOn};
@@ -19,8 +20,26 @@ fn is_too_long(text: &[u8]) -> bool
     text.len() > MOST_BYTES
 }
 
-/// What lines say, and the first of them with a number word that is no number. The words of a line are
-/// kept no longer than it takes to read them.
+/// What a line says, and the line that was found before, or else this one, where one of its words is a
+/// number word that is no number. Its words are kept no longer than it takes to read them.
+fn said_by(
+    alloc: Global,
+    line: &[u8],
+    bad_number: Option<usize>,
+    number: usize,
+) -> Result<(Line, Option<usize>), AllocError>
+    ensures line { IfOk result (λ r. r.0 ≡ line_of (words_of line.now)) }
+    ensures bad_number { IfOk result (λ r. r.1 ≡ option_or bad_number (if list_any is_bad_number (words_of line.now) then Some number else None)) }
+{
+    let words = words_of(alloc, line)?;
+    let words = words.as_slice();
+    Ok((
+        line_of(alloc, words)?,
+        first_bad_number(bad_number, words, number),
+    ))
+}
+
+/// What lines say, and the first of them with a number word that is no number.
 fn said(alloc: Global, lines: &[&[u8]]) -> Result<(Vec<Line>, Option<usize>), AllocError>
     ensures lines { IfOk result (λ r. r.0.items ≡ map line_of (map (λ line. words_of line.now) lines.now)) }
     ensures bad_number { IfOk result (λ r. IsFirstOn (on_line (λ k words. list_any is_bad_number words) (map (λ line. words_of line.now) lines.now)) r.1) }
@@ -28,10 +47,9 @@ fn said(alloc: Global, lines: &[&[u8]]) -> Result<(Vec<Line>, Option<usize>), Al
     let mut said = Vec::new(alloc);
     let mut bad_number = None;
     for k in 0..lines.len() {
-        let words = words_of(alloc, lines[k])?;
-        let words = words.as_slice();
-        bad_number = first_bad_number(bad_number, words, k + 1);
-        said.push(line_of(alloc, words)?)?;
+        let (line, found) = said_by(alloc, lines[k], bad_number, k + 1)?;
+        said.push(line)?;
+        bad_number = found;
     }
     Ok((said, bad_number))
 }

@@ -6,6 +6,7 @@ ghost use Rattle.lvish_checks.specs.declared.line.Line.TheVariants.{If, While};
 use crate::boxed::Boxed;
 use crate::form::term::only_term;
 use crate::line::Line;
+use crate::word::is;
 use std::alloc::{AllocError, Global};
 
 #[tactic(auto, unfolding(crate::specs::Form::block_line))]
@@ -43,13 +44,13 @@ fn bare_line(line: Line, words: &[&[u8]]) -> Line
 pub fn block_form(alloc: Global, word: &[u8], rest: &[&[u8]]) -> Result<Line, AllocError>
     ensures { IfOk result (λ l. l ≡ block_form word.now (map (λ w. w.now) rest.now)) }
 {
-    if word == b"if".as_slice() {
+    if is(word, b"if") {
         if_line(alloc, rest)
-    } else if word == b"while".as_slice() {
+    } else if is(word, b"while") {
         while_line(alloc, rest)
-    } else if word == b"else".as_slice() {
+    } else if is(word, b"else") {
         Ok(bare_line(Line::Else, rest))
-    } else if word == b"end".as_slice() {
+    } else if is(word, b"end") {
         Ok(bare_line(Line::End, rest))
     } else {
         Ok(Line::Bad)

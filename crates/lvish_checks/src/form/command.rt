@@ -5,14 +5,14 @@ ghost use Rattle.lvish_syntax.specs.declared.term.Term.{Term};
 ghost use Rattle.lvish_syntax.specs.declared.command.Command.{Command};
 ghost use Rattle.lvish_syntax.specs.declared.command.Command.TheVariants.{Fork, Call};
 ghost use Rattle.lvish_checks.specs.declared.line.Line.TheVariants.{Do};
-ghost use Rattle.lvish_checks.specs.Form.{or_bad, value_of, let_line, put_of, put_line, get_at, get_of, get_line, run_line, handle_line, command_form};
+ghost use Rattle.lvish_checks.specs.Form.{or_bad, value_of, let_line, put_of, put_line, get_at, get_of, get_line, run_line, handle_line, freeze_line, command_form};
 
 use crate::boxed::Boxed;
-use crate::form::freeze::freeze_line;
+use crate::form::freeze::freeze_of;
 use crate::form::term::{operator_of, term_of, terms_of};
 use crate::form::threshold::threshold_of;
 use crate::line::Line;
-use crate::word::is_name;
+use crate::word::{is, is_name};
 use lvish_syntax::{Command, Identifier, LetValue, Terms};
 use std::alloc::{AllocError, Global};
 
@@ -242,23 +242,41 @@ fn handle_line(alloc: Global, words: &[&[u8]]) -> Result<Line, AllocError>
     }
 }
 
+/// A freeze of a variable.
+#[tactic(auto, unfolding(crate::specs::Form::freeze_line))]
+fn freeze_line(alloc: Global, words: &[&[u8]]) -> Result<Line, AllocError>
+    ensures { IfOk result (λ l. l ≡ freeze_line (map (λ w. w.now) words.now)) }
+{
+    match words {
+        [local, variable, rest @ ..] => {
+            if !is_name(local) || !is_name(variable) {
+                return Ok(Line::Bad);
+            }
+            let local = Identifier::new(alloc, local)?;
+            let variable = Identifier::new(alloc, variable)?;
+            command_line(alloc, freeze_of(alloc, local, variable, rest)?)
+        }
+        _ => Ok(Line::Bad),
+    }
+}
+
 /// What a line says that begins as a statement of one line.
 pub fn command_form(alloc: Global, word: &[u8], rest: &[&[u8]]) -> Result<Line, AllocError>
     ensures { IfOk result (λ l. l ≡ command_form word.now (map (λ w. w.now) rest.now)) }
 {
-    if word == b"let".as_slice() {
+    if is(word, b"let") {
         let_line(alloc, rest)
-    } else if word == b"put".as_slice() {
+    } else if is(word, b"put") {
         put_line(alloc, rest)
-    } else if word == b"get".as_slice() {
+    } else if is(word, b"get") {
         get_line(alloc, rest)
-    } else if word == b"fork".as_slice() {
+    } else if is(word, b"fork") {
         fork_line(alloc, rest)
-    } else if word == b"call".as_slice() {
+    } else if is(word, b"call") {
         call_line(alloc, rest)
-    } else if word == b"handle".as_slice() {
+    } else if is(word, b"handle") {
         handle_line(alloc, rest)
-    } else if word == b"freeze".as_slice() {
+    } else if is(word, b"freeze") {
         freeze_line(alloc, rest)
     } else {
         Ok(Line::Bad)

@@ -6,7 +6,7 @@ ghost use Rattle.lvish_checks.specs.Form.{variable_line, pair_kind, pair_line, p
 use crate::boxed::Boxed;
 use crate::form::term::simple_kind;
 use crate::line::Line;
-use crate::word::is_name;
+use crate::word::{is, is_name};
 use lvish_syntax::{Declaration, Identifier, Identifiers, SimpleKind, VariableKind};
 use std::alloc::{AllocError, Global};
 
@@ -108,21 +108,21 @@ fn proc_line(alloc: Global, words: &[&[u8]]) -> Result<Line, AllocError>
 pub fn declaration_form(alloc: Global, word: &[u8], rest: &[&[u8]]) -> Result<Line, AllocError>
     ensures { IfOk result (λ l. l ≡ declaration_form word.now (map (λ w. w.now) rest.now)) }
 {
-    if word == b"cell".as_slice() {
+    if is(word, b"cell") {
         variable_line(alloc, VariableKind::Simple(SimpleKind::Cell), rest)
-    } else if word == b"set".as_slice() {
+    } else if is(word, b"set") {
         variable_line(alloc, VariableKind::Simple(SimpleKind::Set), rest)
-    } else if word == b"max".as_slice() {
+    } else if is(word, b"max") {
         variable_line(alloc, VariableKind::Simple(SimpleKind::Max), rest)
-    } else if word == b"map".as_slice() {
+    } else if is(word, b"map") {
         variable_line(alloc, VariableKind::Map, rest)
-    } else if word == b"pair".as_slice() {
+    } else if is(word, b"pair") {
         pair_line(alloc, rest)
-    } else if word == b"tally".as_slice() {
+    } else if is(word, b"tally") {
         variable_line(alloc, VariableKind::Tally, rest)
-    } else if word == b"pool".as_slice() {
+    } else if is(word, b"pool") {
         pool_line(alloc, rest)
-    } else if word == b"proc".as_slice() {
+    } else if is(word, b"proc") {
         proc_line(alloc, rest)
     } else {
         Ok(Line::Bad)

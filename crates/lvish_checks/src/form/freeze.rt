@@ -2,12 +2,10 @@ ghost use Rattle.std.specs.Prelude.{◌≡◌, IfOk, length, map, take, take_whi
 ghost use Rattle.std.specs.List.{list_all};
 ghost use Rattle.std.specs.Str.{bytes_eq};
 ghost use Rattle.lvish_syntax.specs.Words.{is_name};
-ghost use Rattle.lvish_checks.specs.Form.{freeze_each, freeze_after, freeze_of, freeze_line};
+ghost use Rattle.lvish_checks.specs.Form.{freeze_each, freeze_after, freeze_of};
 
-use crate::boxed::Boxed;
 use crate::form::declaration::names_of;
-use crate::line::Line;
-use crate::word::is_name;
+use crate::word::{is, is_name};
 use lvish_syntax::{Command, Identifier, Identifiers};
 use std::alloc::{AllocError, Global};
 
@@ -31,7 +29,7 @@ fn freeze_each(
     match words {
         [] => Ok(Some(Command::Freeze(local, variable, pools))),
         [word, procedure] => {
-            if *word == b"each".as_slice() && is_name(procedure) {
+            if is(word, b"each") && is_name(procedure) {
                 let procedure = Identifier::new(alloc, procedure)?;
                 Ok(Some(Command::FreezeEach(local, variable, pools, procedure)))
             } else {
@@ -59,7 +57,8 @@ fn freeze_after(
     freeze_each(alloc, local, variable, pools, &words[count..])
 }
 
-fn freeze_of(
+/// A freeze of a variable with what stands after it.
+pub fn freeze_of(
     alloc: Global,
     local: Identifier,
     variable: Identifier,
@@ -68,9 +67,7 @@ fn freeze_of(
     ensures { IfOk result (λ c. c ≡ freeze_of local variable (map (λ w. w.now) words.now)) }
 {
     match words {
-        [word, rest @ ..] if *word == b"after".as_slice() => {
-            freeze_after(alloc, local, variable, rest)
-        }
+        [word, rest @ ..] if is(word, b"after") => { freeze_after(alloc, local, variable, rest) }
         _ => freeze_each(
             alloc,
             local,
@@ -78,26 +75,5 @@ fn freeze_of(
             Identifiers::from(Vec::new(alloc)),
             words,
         ),
-    }
-}
-
-/// A freeze of a variable.
-#[tactic(auto, unfolding(crate::specs::Form::freeze_line))]
-pub fn freeze_line(alloc: Global, words: &[&[u8]]) -> Result<Line, AllocError>
-    ensures { IfOk result (λ l. l ≡ freeze_line (map (λ w. w.now) words.now)) }
-{
-    match words {
-        [local, variable, rest @ ..] => {
-            if !is_name(local) || !is_name(variable) {
-                return Ok(Line::Bad);
-            }
-            let local = Identifier::new(alloc, local)?;
-            let variable = Identifier::new(alloc, variable)?;
-            match freeze_of(alloc, local, variable, rest)? {
-                Some(command) => Ok(Line::Do(Boxed::new(alloc, command)?)),
-                None => Ok(Line::Bad),
-            }
-        }
-        _ => Ok(Line::Bad),
     }
 }

@@ -1,7 +1,7 @@
 ghost use Rattle.std.specs.Prelude.{◌≡◌, IfOk, map};
 ghost use Rattle.lvish_checks.specs.Form.{number_word, numbers_of, term_of, terms_of, only, simple_kind, operator_of};
 
-use crate::word::{is_name, is_number_word, value_of_number};
+use crate::word::{is, is_name, is_number_word, value_of_number};
 use lvish_syntax::{Identifier, Numbers, Operator, SimpleKind, Term, Terms};
 use std::alloc::{AllocError, Global};
 
@@ -71,11 +71,11 @@ pub fn only_term(alloc: Global, words: &[&[u8]]) -> Result<Option<Term>, AllocEr
 pub fn simple_kind(word: &[u8]) -> Option<SimpleKind>
     ensures { result ≡ simple_kind word.now }
 {
-    if word == b"cell".as_slice() {
+    if is(word, b"cell") {
         Some(SimpleKind::Cell)
-    } else if word == b"set".as_slice() {
+    } else if is(word, b"set") {
         Some(SimpleKind::Set)
-    } else if word == b"max".as_slice() {
+    } else if is(word, b"max") {
         Some(SimpleKind::Max)
     } else {
         None
@@ -86,19 +86,19 @@ pub fn simple_kind(word: &[u8]) -> Option<SimpleKind>
 pub fn operator_of(word: &[u8]) -> Option<Operator>
     ensures { result ≡ operator_of word.now }
 {
-    if word == b"+".as_slice() {
+    if is(word, b"+") {
         Some(Operator::Add)
-    } else if word == b"-".as_slice() {
+    } else if is(word, b"-") {
         Some(Operator::Subtract)
-    } else if word == b"*".as_slice() {
+    } else if is(word, b"*") {
         Some(Operator::Multiply)
-    } else if word == b"/".as_slice() {
+    } else if is(word, b"/") {
         Some(Operator::Divide)
-    } else if word == b"%".as_slice() {
+    } else if is(word, b"%") {
         Some(Operator::Remainder)
-    } else if word == b"<".as_slice() {
+    } else if is(word, b"<") {
         Some(Operator::Less)
-    } else if word == b"=".as_slice() {
+    } else if is(word, b"=") {
         Some(Operator::Equal)
     } else {
         None

@@ -4,6 +4,7 @@ ghost use Rattle.lvish_syntax.specs.declared.threshold.Threshold.TheVariants.{In
 ghost use Rattle.lvish_checks.specs.Form.{only, numbers_of, term_of, threshold_after, threshold_of};
 
 use crate::form::term::{numbers_of, only_term};
+use crate::word::is;
 use lvish_syntax::Threshold;
 use std::alloc::{AllocError, Global};
 
@@ -57,18 +58,18 @@ fn threshold_after(
 ) -> Result<Option<Threshold>, AllocError>
     ensures { IfOk result (λ r. r ≡ threshold_after word.now (map (λ w. w.now) rest.now)) }
 {
-    if word == b"any".as_slice() {
+    if is(word, b"any") {
         match rest {
             [] => Ok(Some(Threshold::Any)),
             [_, ..] => Ok(None),
         }
-    } else if word == b"in".as_slice() {
+    } else if is(word, b"in") {
         in_of(alloc, rest)
-    } else if word == b"has".as_slice() {
+    } else if is(word, b"has") {
         has_of(alloc, rest)
-    } else if word == b"least".as_slice() {
+    } else if is(word, b"least") {
         least_of(alloc, rest)
-    } else if word == b"total".as_slice() {
+    } else if is(word, b"total") {
         total_of(alloc, rest)
     } else {
         Ok(None)

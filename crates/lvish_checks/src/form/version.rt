@@ -2,6 +2,7 @@ ghost use Rattle.std.specs.Prelude.{◌≡◌, map};
 ghost use Rattle.lvish_checks.specs.Form.{version_line};
 
 use crate::line::Line;
+use crate::word::is;
 
 /// What a line says that begins with `lvish`.
 #[tactic(auto, unfolding(crate::specs::Form::version_line))]
@@ -10,7 +11,7 @@ pub fn version_line(words: &[&[u8]]) -> Line
 {
     match words {
         [number] => {
-            if *number == b"2".as_slice() {
+            if is(number, b"2") {
                 Line::Version
             } else {
                 Line::Bad

@@ -1,7 +1,7 @@
 use Rattle.std.proofs.Common.{refl}
 use Rattle.lvish_checks.specs.Form.{freeze_line}
 use Rattle.lvish_checks.proofs.Forms.{short}
-use Rattle.lvish_checks.proofs.form.freeze.freeze_line.Goals as goal
+use Rattle.lvish_checks.proofs.form.command.freeze_line.Goals as goal
 
 pub returns-in_default : goal.returns-in_default
 unfolding freeze_line
