@@ -6,13 +6,26 @@ use std::alloc::{AllocError, Global};
 
 /// Where a procedure is: its next instruction, its number, the values of its locals, and the
 /// procedure that an `each` calls, with the events on which it hasn't called it yet.
-#[derive(Debug, Drop, PartialEq, Eq)]
+#[derive(Debug, PartialEq, Eq)]
 pub struct Frame {
     pub place: usize,
     pub procedure: usize,
     pub values: Values,
     pub each: usize,
     pub events: Remaining,
+}
+
+// Written out, so that it is proved once, and not at each exit of a function that owns one.
+impl Drop for Frame {
+    fn drop(self) {
+        let Frame {
+            place: _,
+            procedure: _,
+            values: _,
+            each: _,
+            events: _,
+        } = self;
+    }
 }
 
 impl Frame {

@@ -5,9 +5,16 @@ use std::alloc::{AllocError, Global};
 use std::marker::Model;
 
 /// The frames below the innermost one, seen from there.
-#[derive(Debug, Drop)]
+#[derive(Debug)]
 pub struct Frames {
     items: Vec<Frame>,
+}
+
+// Written out, so that it is proved once, and not at each exit of a function that owns one.
+impl Drop for Frames {
+    fn drop(self) {
+        let Frames { items: _ } = self;
+    }
 }
 
 impl Model for Frames {

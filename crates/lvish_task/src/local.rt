@@ -8,9 +8,16 @@ use std::sync::Arc;
 /// The local state of a task: its frames, and how many local statements are left before a pause.
 ///
 /// Copies share it. `==` holds of identical local states alone.
-#[derive(Debug, Drop)]
+#[derive(Debug)]
 pub struct Local {
     stack: Arc<Stack>,
+}
+
+// Written out, so that it is proved once, and not at each exit of a function that owns one.
+impl Drop for Local {
+    fn drop(self) {
+        let Local { stack: _ } = self;
+    }
 }
 
 impl Model for Local {

@@ -9,10 +9,17 @@ use std::sync::ArcSlice;
 /// The events on which an `each` hasn't called its procedure yet.
 ///
 /// Copies share them.
-#[derive(Debug, Drop)]
+#[derive(Debug)]
 pub struct Remaining {
     all: Option<ArcSlice<Event>>,
     next: usize,
+}
+
+// Written out, so that it is proved once, and not at each exit of a function that owns one.
+impl Drop for Remaining {
+    fn drop(self) {
+        let Remaining { all: _, next: _ } = self;
+    }
 }
 
 impl Model for Remaining {

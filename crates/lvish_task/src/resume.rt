@@ -24,10 +24,10 @@ impl Frame {
         requires { self.old.place + 1 < 2 ^ 64 }
         ensures { OnOk result (self.new ≡ answered self.old action.now reply) }
     {
-        match (action, reply) {
-            (Action::Get(local, _, _, _), Reply::Answer(n)) => self.values.set(*local, n),
+        match (action, &reply) {
+            (Action::Get(local, _, _, _), Reply::Answer(n)) => self.values.set(*local, *n),
             (Action::Freeze(local, _, _, each), Reply::Content(state)) => {
-                let events = events_below(alloc, &state)?;
+                let events = events_below(alloc, state)?;
                 self.values.set(*local, events.len() as i64);
                 if let Some(procedure) = each {
                     self.each = *procedure;

@@ -7,9 +7,16 @@ use lvish_syntax::Script;
 use std::alloc::{AllocError, Global};
 
 /// The flat code of a script, as a program of the calculus.
-#[derive(Debug, Drop)]
+#[derive(Debug)]
 pub struct ScriptCode {
-    pub(crate) flat: FlatCode,
+    pub flat: FlatCode,
+}
+
+// Written out, so that it is proved once, and not at each exit of a function that owns one.
+impl Drop for ScriptCode {
+    fn drop(self) {
+        let ScriptCode { flat: _ } = self;
+    }
 }
 
 impl ScriptCode {

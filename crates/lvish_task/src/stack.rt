@@ -9,11 +9,22 @@ use std::alloc::{AllocError, Global};
 ///
 /// `==` holds of identical ones alone. It compares numbers before lists, so that it is quick where
 /// they differ.
-#[derive(Debug, Drop, PartialEq, Eq)]
+#[derive(Debug, PartialEq, Eq)]
 pub struct Stack {
     pub(crate) left: usize,
     pub(crate) top: Frame,
     pub(crate) below: Frames,
+}
+
+// Written out, so that it is proved once, and not at each exit of a function that owns one.
+impl Drop for Stack {
+    fn drop(self) {
+        let Stack {
+            left: _,
+            top: _,
+            below: _,
+        } = self;
+    }
 }
 
 impl Stack {

@@ -5,9 +5,16 @@ use std::alloc::{AllocError, Global};
 use std::marker::Model;
 
 /// The values of locals, by number.
-#[derive(Debug, Drop)]
+#[derive(Debug)]
 pub struct Values {
     items: Vec<i64>,
+}
+
+// Written out, so that it is proved once, and not at each exit of a function that owns one.
+impl Drop for Values {
+    fn drop(self) {
+        let Values { items: _ } = self;
+    }
 }
 
 impl Model for Values {
