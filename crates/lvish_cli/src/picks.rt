@@ -3,9 +3,16 @@ ghost use Rattle.std.specs.Prelude.{◌≡◌};
 use std::marker::Model;
 
 /// Numbers that pick the steps of a run, seen by contracts as a list.
-#[derive(Debug, Drop)]
+#[derive(Debug)]
 pub struct Picks {
     items: Vec<u64>,
+}
+
+// Written out, so that it is proved once, and not at each exit of a function that owns one.
+impl Drop for Picks {
+    fn drop(self) {
+        let Picks { items: _ } = self;
+    }
 }
 
 impl Model for Picks {

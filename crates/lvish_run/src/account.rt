@@ -13,11 +13,21 @@ use lvish_variable::Variable;
 use std::alloc::{AllocError, Global};
 
 /// What a report says of the last configuration.
-#[derive(Drop)]
 pub struct Account<S, E> {
     pub outcome: Outcome<E>,
     pub states: States<S>,
     pub blocked: u64,
+}
+
+// Written out, so that it is proved once, and not at each exit of a function that owns one.
+impl<S: Drop, E: Drop> Drop for Account<S, E> {
+    fn drop(self) {
+        let Account {
+            outcome: _,
+            states: _,
+            blocked: _,
+        } = self;
+    }
 }
 
 impl<S, E> Account<S, E> {

@@ -12,10 +12,19 @@ use std::collections::{BTreeMap, BTreeSet};
 use std::marker::Model;
 
 /// The open tasks, each with what it asks for, and the open handlers, both by name.
-#[derive(Drop)]
 pub(crate) struct Agenda<P: Program, J: Named<P>> {
     tasks: BTreeMap<TaskName<<P::Lat as Lattice>::Event>, Asked<P, J>>,
     handlers: BTreeSet<HandlerName<<P::Lat as Lattice>::Event>>,
+}
+
+// Written out, so that it is proved once, and not at each exit of a function that owns one.
+impl<P: Program, J: Named<P>> Drop for Agenda<P, J> {
+    fn drop(self) {
+        let Agenda {
+            tasks: _,
+            handlers: _,
+        } = self;
+    }
 }
 
 impl<P: Program, J: Named<P>> Model for Agenda<P, J> {

@@ -3,9 +3,16 @@ ghost use Rattle.std.specs.Prelude.{◌≡◌};
 use std::marker::Model;
 
 /// Numbers by worker, seen by contracts as a list.
-#[derive(Debug, Drop)]
+#[derive(Debug)]
 pub struct Counts {
     items: Vec<u64>,
+}
+
+// Written out, so that it is proved once, and not at each exit of a function that owns one.
+impl Drop for Counts {
+    fn drop(self) {
+        let Counts { items: _ } = self;
+    }
 }
 
 impl Model for Counts {

@@ -34,10 +34,19 @@ impl<G: Gate> Promise<OwnSteps> for Patience<G> {
 }
 
 /// What all workers give back, and whether a thread couldn't be started.
-#[derive(Drop)]
 pub struct Crew {
     pub owns: Vec<OwnSteps>,
     pub missing: bool,
+}
+
+// Written out, so that it is proved once, and not at each exit of a function that owns one.
+impl Drop for Crew {
+    fn drop(self) {
+        let Crew {
+            owns: _,
+            missing: _,
+        } = self;
+    }
 }
 
 impl Crew {

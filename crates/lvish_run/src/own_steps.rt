@@ -7,10 +7,19 @@ use lvish_compound::Event;
 use lvish_names::{HandlerName, TaskName, handler_names_identical, task_names_identical};
 
 /// A step in a worker's own list: the task that acted, or the handler that was handed an event.
-#[derive(Drop)]
 pub enum Step {
     Act(TaskName<Event>),
     Hand(HandlerName<Event>),
+}
+
+// Written out, so that it is proved once, and not at each exit of a function that owns one.
+impl Drop for Step {
+    fn drop(self) {
+        match self {
+            Step::Act(_) => {}
+            Step::Hand(_) => {}
+        }
+    }
 }
 
 impl Step {
@@ -48,11 +57,21 @@ pub enum Why {
 }
 
 /// What a worker gives back: its number, the steps that it made, and why it left.
-#[derive(Drop)]
 pub struct OwnSteps {
     pub worker: usize,
     pub steps: Vec<Step>,
     pub why: Why,
+}
+
+// Written out, so that it is proved once, and not at each exit of a function that owns one.
+impl Drop for OwnSteps {
+    fn drop(self) {
+        let OwnSteps {
+            worker: _,
+            steps: _,
+            why: _,
+        } = self;
+    }
 }
 
 impl OwnSteps {

@@ -23,11 +23,21 @@ const MOST_CROWDED: u32 = 2 * CROWDED;
 /// taken it spins as well; but where it was taken more often than not, it sleeps at once. So where
 /// steps are all that there is to do, one worker makes many of them in a row while the others sleep,
 /// and the board doesn't change hands with each.
-#[derive(Drop)]
 pub struct Pause {
     backoff: Backoff,
     parker: Parker,
     crowded: u32,
+}
+
+// Written out, so that it is proved once, and not at each exit of a function that owns one.
+impl Drop for Pause {
+    fn drop(self) {
+        let Pause {
+            backoff: _,
+            parker: _,
+            crowded: _,
+        } = self;
+    }
 }
 
 impl Pause {

@@ -4,14 +4,24 @@ use crate::trace::Trace;
 use lvish_board::Outcome;
 
 /// A variable's content, and whether it is frozen.
-#[derive(Debug, Drop)]
+#[derive(Debug)]
 pub struct FinalState<S> {
     pub content: S,
     pub frozen: bool,
 }
 
+// Written out, so that it is proved once, and not at each exit of a function that owns one.
+impl<S: Drop> Drop for FinalState<S> {
+    fn drop(self) {
+        let FinalState {
+            content: _,
+            frozen: _,
+        } = self;
+    }
+}
+
 /// What a run came to, over states `S` and events `E`.
-#[derive(Debug, Drop)]
+#[derive(Debug)]
 pub struct Report<S, E> {
     pub outcome: Outcome<E>,
     /// Each variable's content and frozen mark, none after an error.
@@ -24,4 +34,18 @@ pub struct Report<S, E> {
     pub trace: Trace<E>,
     /// How many steps each worker made, by its number.
     pub by_worker: Counts,
+}
+
+// Written out, so that it is proved once, and not at each exit of a function that owns one.
+impl<S: Drop, E: Drop> Drop for Report<S, E> {
+    fn drop(self) {
+        let Report {
+            outcome: _,
+            states: _,
+            steps: _,
+            blocked: _,
+            trace: _,
+            by_worker: _,
+        } = self;
+    }
 }

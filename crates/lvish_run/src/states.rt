@@ -4,9 +4,16 @@ use crate::report::FinalState;
 use std::marker::Model;
 
 /// The states of the variables, seen by contracts as a list.
-#[derive(Debug, Drop)]
+#[derive(Debug)]
 pub struct States<S> {
     items: Vec<FinalState<S>>,
+}
+
+// Written out, so that it is proved once, and not at each exit of a function that owns one.
+impl<S: Drop> Drop for States<S> {
+    fn drop(self) {
+        let States { items: _ } = self;
+    }
 }
 
 impl<S> Model for States<S> {

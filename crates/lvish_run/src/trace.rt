@@ -4,9 +4,16 @@ use lvish_board::TraceEntry;
 use std::marker::Model;
 
 /// The steps of a run, seen by contracts as a list.
-#[derive(Debug, Drop)]
+#[derive(Debug)]
 pub struct Trace<E> {
     items: Vec<TraceEntry<E>>,
+}
+
+// Written out, so that it is proved once, and not at each exit of a function that owns one.
+impl<E: Drop> Drop for Trace<E> {
+    fn drop(self) {
+        let Trace { items: _ } = self;
+    }
 }
 
 impl<E> Model for Trace<E> {
