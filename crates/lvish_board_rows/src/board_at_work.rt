@@ -27,7 +27,7 @@ pub struct BoardAtWork<'p, P: Program, J: Named<P>> {
     act: Acted<P, J>,
 }
 
-// Written out, so that this is proved once, and not at each exit of a function that owns one.
+// Written out, so that it is proved once, and not at each exit of a function that owns one.
 impl<'p, P: Program, J: Named<P>> Drop for BoardAtWork<'p, P, J> {
     fn drop(self) {
         let BoardAtWork {

@@ -12,10 +12,16 @@ use lvish_lattice::{Lattice, Numbered};
 use std::alloc::{AllocError, Global};
 
 /// The board that the calls are about, and another one of the same program.
-#[derive(Drop)]
 struct TwoBoards<'p, P: Program, J: Named<P>> {
     here: BoardAtWork<'p, P, J>,
     there: BoardAtWork<'p, P, J>,
+}
+
+// Written out, so that it is proved once, and not at each exit of a function that owns one.
+impl<'p, P: Program, J: Named<P>> Drop for TwoBoards<'p, P, J> {
+    fn drop(self) {
+        let TwoBoards { here: _, there: _ } = self;
+    }
 }
 
 impl<'p, P: Program, J: Named<P>> TwoBoards<'p, P, J>

@@ -3,9 +3,15 @@
 use std::alloc::{AllocError, Global};
 
 /// Pieces of work, in the order in which they were left.
-#[derive(Drop)]
 pub struct WorkLeft<W: Drop> {
     works: Vec<W>,
+}
+
+// Written out, so that it is proved once, and not at each exit of a function that owns one.
+impl<W: Drop> Drop for WorkLeft<W> {
+    fn drop(self) {
+        let WorkLeft { works: _ } = self;
+    }
 }
 
 impl<W: Drop> WorkLeft<W> {

@@ -23,9 +23,9 @@ fn after<S: Drop>(at: At, reply: Reply<S, i64>) -> At
     ensures { result ≡ gone_on at reply }
 {
     let place = if at.0 < 7 { at.0 + 1 } else { at.0 };
-    match reply {
+    match &reply {
         Reply::Done => (place, at.1),
-        Reply::Answer(answer) => (place, answer),
+        Reply::Answer(answer) => (place, *answer),
         Reply::Content(_) => (place, at.1),
     }
 }

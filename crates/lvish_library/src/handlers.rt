@@ -26,26 +26,23 @@ where
     L::Event: RowValue + Numbered,
 {
     match words {
-        ["new", states @ ..] => {
-            let done = String::from_str(alloc, "ok")?;
-            *handler_bench = made(alloc, states)?;
-            Ok(done)
-        }
-        ["add", path, number] => add(alloc, handler_bench, handler(alloc, path, number)?),
-        [verb, path, number] => of_handler(
-            alloc,
-            handler_bench,
-            verb,
-            &handler(alloc, path, number)?,
-        ),
-        ["freeze"] => {
-            let done = String::from_str(alloc, "ok")?;
-            handler_bench.freeze(alloc)?;
-            Ok(done)
-        }
+        ["new", states @ ..] => renew(alloc, handler_bench, states),
+        ["add", path, number] => add(alloc, handler_bench, path, number),
+        [verb, path, number] => of_handler(alloc, handler_bench, verb, (path, number)),
+        ["freeze"] => freeze(alloc, handler_bench),
         [verb] => seen(alloc, handler_bench, verb),
         _ => Err(RowFault::Unreadable),
     }
+}
+
+fn renew<L: Notation>(
+    alloc: Global,
+    handler_bench: &mut HandlerBench<L>,
+    states: &[&str],
+) -> Result<String, RowFault> {
+    let done = String::from_str(alloc, "ok")?;
+    *handler_bench = made(alloc, states)?;
+    Ok(done)
 }
 
 fn made<L: Notation>(alloc: Global, texts: &[&str]) -> Result<HandlerBench<L>, RowFault> {
@@ -57,6 +54,19 @@ fn made<L: Notation>(alloc: Global, texts: &[&str]) -> Result<HandlerBench<L>, R
 }
 
 fn add<L: Notation>(
+    alloc: Global,
+    handler_bench: &mut HandlerBench<L>,
+    path: &str,
+    number: &str,
+) -> Result<String, RowFault>
+where
+    L::Event: RowValue,
+{
+    let name = handler(alloc, path, number)?;
+    add_named(alloc, handler_bench, name)
+}
+
+fn add_named<L: Notation>(
     alloc: Global,
     handler_bench: &mut HandlerBench<L>,
     name: HandlerName<L::Event>,
@@ -71,7 +81,30 @@ fn add<L: Notation>(
     }
 }
 
+fn freeze<L: Notation>(
+    alloc: Global,
+    handler_bench: &mut HandlerBench<L>,
+) -> Result<String, RowFault> {
+    let done = String::from_str(alloc, "ok")?;
+    handler_bench.freeze(alloc)?;
+    Ok(done)
+}
+
+/// What is asked of the handler with this number, which the task at the end of the path adds.
 fn of_handler<L: Notation>(
+    alloc: Global,
+    handler_bench: &mut HandlerBench<L>,
+    verb: &str,
+    named: (&str, &str),
+) -> Result<String, RowFault>
+where
+    L::Event: RowValue,
+{
+    let name = handler(alloc, named.0, named.1)?;
+    of_name(alloc, handler_bench, verb, &name)
+}
+
+fn of_name<L: Notation>(
     alloc: Global,
     handler_bench: &mut HandlerBench<L>,
     verb: &str,
@@ -120,14 +153,19 @@ fn held_text<E: RowValue + Numbered>(
 ) -> Result<String, AllocError> {
     let mut text = String::new(alloc);
     for it in held {
-        if !text.is_empty() {
-            text.push_str(", ")?;
-        }
-        write!(
-            text,
-            "{} pool {} procedure {} handed {}",
-            it.name, it.pool, it.procedure, it.handed
-        )?;
+        write_held(it, &mut text)?;
     }
     or_none(alloc, text)
+}
+
+/// The handler, behind a comma where others stand before it.
+fn write_held<E: RowValue + Numbered>(it: &Held<E>, out: &mut String) -> Result<(), AllocError> {
+    if !out.is_empty() {
+        out.push_str(", ")?;
+    }
+    write!(
+        out,
+        "{} pool {} procedure {} handed {}",
+        it.name, it.pool, it.procedure, it.handed
+    )
 }

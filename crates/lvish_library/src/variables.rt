@@ -22,29 +22,37 @@ where
     L::Event: RowValue + Numbered,
 {
     match words {
-        ["new"] => {
-            let done = String::from_str(alloc, "ok")?;
-            *variable = Variable::new(alloc);
-            Ok(done)
-        }
-        ["put", path, number, state] => {
-            let task = task(alloc, path)?;
-            put(
-                alloc,
-                variable,
-                &task,
-                natural(number)?,
-                &L::state(alloc, state)?,
-            )
-        }
-        ["freeze"] => Ok(state_text(alloc, &variable.freeze(alloc)?)?),
-        ["read", read] => Ok(answer_text::<L>(alloc, variable.read(&L::read(alloc, read)?))?),
+        ["new"] => renew(alloc, variable),
+        ["put", path, number, state] => put(alloc, variable, (path, number), state),
+        ["freeze"] => freeze(alloc, variable),
+        ["read", read] => read_text(alloc, variable, read),
         [verb] => seen(alloc, variable, verb),
         _ => Err(RowFault::Unreadable),
     }
 }
 
+fn renew<L: Notation>(alloc: Global, variable: &mut Variable<L>) -> Result<String, RowFault> {
+    let done = String::from_str(alloc, "ok")?;
+    *variable = Variable::new(alloc);
+    Ok(done)
+}
+
+/// Puts the state by the task at the end of the path, as its put of this number.
 fn put<L: Notation>(
+    alloc: Global,
+    variable: &mut Variable<L>,
+    by: (&str, &str),
+    state: &str,
+) -> Result<String, RowFault>
+where
+    L::Event: RowValue,
+{
+    let task = task(alloc, by.0)?;
+    let number = natural(by.1)?;
+    put_state(alloc, variable, &task, number, &L::state(alloc, state)?)
+}
+
+fn put_state<L: Notation>(
     alloc: Global,
     variable: &mut Variable<L>,
     task: &TaskName<L::Event>,
@@ -54,6 +62,20 @@ fn put<L: Notation>(
     let done = String::from_str(alloc, "ok")?;
     variable.put(alloc, task, number, state)?;
     Ok(done)
+}
+
+fn freeze<L: Notation>(alloc: Global, variable: &mut Variable<L>) -> Result<String, RowFault> {
+    let state = variable.freeze(alloc)?;
+    Ok(state_text(alloc, &state)?)
+}
+
+fn read_text<L: ReadNotation>(
+    alloc: Global,
+    variable: &Variable<L>,
+    read: &str,
+) -> Result<String, RowFault> {
+    let read = L::read(alloc, read)?;
+    Ok(answer_text::<L>(alloc, variable.read(&read))?)
 }
 
 /// What is seen of the variable.
@@ -77,11 +99,19 @@ where
 {
     let mut text = String::new(alloc);
     for entry in log {
-        if !text.is_empty() {
-            text.push_str(", ")?;
-        }
-        L::write_event(&entry.event, &mut text)?;
-        write!(text, " {} {}", entry.task, entry.number)?;
+        write_entry::<L>(entry, &mut text)?;
     }
     or_none(alloc, text)
+}
+
+/// The entry, behind a comma where others stand before it.
+fn write_entry<L: Notation>(entry: &Entry<L::Event>, out: &mut String) -> Result<(), AllocError>
+where
+    L::Event: RowValue + Numbered,
+{
+    if !out.is_empty() {
+        out.push_str(", ")?;
+    }
+    L::write_event(&entry.event, out)?;
+    write!(out, " {} {}", entry.task, entry.number)
 }

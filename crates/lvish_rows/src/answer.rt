@@ -4,10 +4,17 @@ use lvish_script::ScriptFault;
 use std::alloc::{AllocError, Global};
 
 /// What is printed, and the number of the status that goes with it.
-#[derive(PartialEq, Drop)]
+#[derive(PartialEq)]
 pub struct RowAnswer {
     pub status: u8,
     pub text: String,
+}
+
+// Written out, so that it is proved once, and not at each exit of a function that owns one.
+impl Drop for RowAnswer {
+    fn drop(self) {
+        let RowAnswer { status: _, text: _ } = self;
+    }
 }
 
 /// The answer of a text, as of an order that is done.

@@ -9,10 +9,19 @@ use lvish_task::{Local, ScriptCode};
 use std::alloc::{AllocError, Global};
 
 /// The replies that a task gets: the answer of each get, and the state of each freeze.
-#[derive(Drop)]
 pub struct Replies {
     pub answer: i64,
     pub frozen: Any,
+}
+
+// Written out, so that it is proved once, and not at each exit of a function that owns one.
+impl Drop for Replies {
+    fn drop(self) {
+        let Replies {
+            answer: _,
+            frozen: _,
+        } = self;
+    }
 }
 
 /// A task on its way.

@@ -69,8 +69,8 @@ fn first_answer(alloc: Global, code: &ScriptCode, which: &str) -> Result<String,
 }
 
 fn fork_answer(alloc: Global, code: &ScriptCode, replies: &Replies) -> Result<String, AllocError> {
-    match forked(first_request(alloc, code)?) {
-        Some(local) => asked(alloc, code, local, replies),
+    match forked(&first_request(alloc, code)?) {
+        Some(local) => asked(alloc, code, local.copy()?, replies),
         None => String::from_str(alloc, "no fork"),
     }
 }
@@ -83,7 +83,7 @@ fn first_request(
     request_of(alloc, code, &start)
 }
 
-fn forked(request: Request<Any, AnyRead, Local>) -> Option<Local> {
+fn forked(request: &Request<Any, AnyRead, Local>) -> Option<&Local> {
     match request {
         Request::Fork(local) => Some(local),
         _other => None,

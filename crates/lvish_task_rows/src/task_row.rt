@@ -3,12 +3,23 @@ use lvish_script::read_script;
 use std::alloc::{AllocError, Global};
 
 /// A worked example: a script, a question about it, and the answer that is expected.
-#[derive(Drop)]
 pub struct TaskRow {
     pub name: String,
     pub script: String,
     pub question: String,
     pub expected: String,
+}
+
+// Written out, so that it is proved once, and not at each exit of a function that owns one.
+impl Drop for TaskRow {
+    fn drop(self) {
+        let TaskRow {
+            name: _,
+            script: _,
+            question: _,
+            expected: _,
+        } = self;
+    }
 }
 
 impl TaskRow {

@@ -27,11 +27,20 @@ pub enum Call<E> {
 type StepAnswer<E, L> = Result<(Stepped, Option<Moved<E, L>>), StepFault>;
 
 /// A program's core.
-#[derive(Drop)]
 pub struct Bench<'p, P: Program> {
     program: &'p P,
     core: Core<'p, P>,
     ghost same: { core.program ≡ program.now },
+}
+
+// Written out, so that it is proved once, and not at each exit of a function that owns one.
+impl<'p, P: Program> Drop for Bench<'p, P> {
+    fn drop(self) {
+        let Bench {
+            program: _,
+            core: _,
+        } = self;
+    }
 }
 
 /// The names of the tasks, and of the handlers with their events.

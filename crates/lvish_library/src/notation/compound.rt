@@ -19,18 +19,33 @@ fn entry<L: Notation>(alloc: Global, item: &str) -> Result<MapOf<i64, L>, RowFau
     Ok(MapOf::one(alloc, integer(key)?, L::state(alloc, part)?)?)
 }
 
+/// Merges the entry that the item spells into the map.
+fn put_entry<L: Notation>(
+    alloc: Global,
+    map: &mut MapOf<i64, L>,
+    item: &str,
+) -> Result<(), RowFault> {
+    let put = entry(alloc, item)?;
+    let _joined = map.merge(alloc, &put)?;
+    Ok(())
+}
+
+/// The map that is made of these entries, one after the other.
+fn made<L: Notation>(alloc: Global, items: &[&str]) -> Result<MapOf<i64, L>, RowFault> {
+    let Some((first, others)) = items.split_first() else {
+        return Ok(empty(alloc));
+    };
+    let mut map = entry(alloc, first)?;
+    for item in others {
+        put_entry(alloc, &mut map, item)?;
+    }
+    Ok(map)
+}
+
 impl<L: Notation> Notation for MapOf<i64, L> {
     fn state(alloc: Global, text: &str) -> Result<MapOf<i64, L>, RowFault> {
         let items = items_of(alloc, text)?;
-        let Some((first, others)) = items.as_slice().split_first() else {
-            return Ok(empty(alloc));
-        };
-        let mut map = entry(alloc, first)?;
-        for item in others {
-            let put = entry(alloc, item)?;
-            let _joined = map.merge(alloc, &put)?;
-        }
-        Ok(map)
+        made(alloc, items.as_slice())
     }
 
     fn write_state(&self, out: &mut String) -> Result<(), AllocError> {
@@ -73,6 +88,15 @@ impl<L: ReadNotation> ReadNotation for MapOf<i64, L> {
     }
 }
 
+/// The text behind the number of a side.
+fn side(text: &str) -> Result<SideOf<&str, &str>, RowFault> {
+    match halves(text, '/')? {
+        ("1", of_one) => Ok(SideOf::One(of_one)),
+        ("2", of_two) => Ok(SideOf::Two(of_two)),
+        _ => Err(RowFault::Unreadable),
+    }
+}
+
 impl<A: Notation, B: Notation> Notation for Pair<A, B> {
     fn state(alloc: Global, text: &str) -> Result<Pair<A, B>, RowFault> {
         let (one, two) = halves(text, '|')?;
@@ -101,10 +125,9 @@ impl<A: Notation, B: Notation> Notation for Pair<A, B> {
 
 impl<A: ReadNotation, B: ReadNotation> ReadNotation for Pair<A, B> {
     fn read(alloc: Global, text: &str) -> Result<SideOf<A::Read, B::Read>, RowFault> {
-        match halves(text, '/')? {
-            ("1", read) => Ok(SideOf::One(A::read(alloc, read)?)),
-            ("2", read) => Ok(SideOf::Two(B::read(alloc, read)?)),
-            _ => Err(RowFault::Unreadable),
+        match side(text)? {
+            SideOf::One(read) => Ok(SideOf::One(A::read(alloc, read)?)),
+            SideOf::Two(read) => Ok(SideOf::Two(B::read(alloc, read)?)),
         }
     }
 

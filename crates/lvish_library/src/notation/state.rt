@@ -40,6 +40,25 @@ fn put(alloc: Global, text: &str) -> Result<Any, RowFault> {
     Ok(state)
 }
 
+/// Merges the state of the put that the item spells into the state.
+fn merge_put(alloc: Global, state: &mut Any, item: &str) -> Result<(), RowFault> {
+    let put = put(alloc, item)?;
+    let _joined = state.merge(alloc, &put)?;
+    Ok(())
+}
+
+/// The state that is made by these puts, one after the other.
+fn made(alloc: Global, items: &[&str]) -> Result<Any, RowFault> {
+    let Some((first, others)) = items.split_first() else {
+        return Ok(Any::bottom(alloc));
+    };
+    let mut state = put(alloc, first)?;
+    for item in others {
+        merge_put(alloc, &mut state, item)?;
+    }
+    Ok(state)
+}
+
 pub fn kind(text: &str) -> Result<Kind, RowFault> {
     match text {
         "cell" => Ok(Kind::Cell),
@@ -91,15 +110,7 @@ fn write_tally(tally: &Tally, out: &mut String) -> Result<(), AllocError> {
 impl Notation for Any {
     fn state(alloc: Global, text: &str) -> Result<Any, RowFault> {
         let items = items_of(alloc, text)?;
-        let Some((first, others)) = items.as_slice().split_first() else {
-            return Ok(Any::bottom(alloc));
-        };
-        let mut state = put(alloc, first)?;
-        for item in others {
-            let put = put(alloc, item)?;
-            let _joined = state.merge(alloc, &put)?;
-        }
-        Ok(state)
+        made(alloc, items.as_slice())
     }
 
     fn write_state(&self, out: &mut String) -> Result<(), AllocError> {
