@@ -15,7 +15,6 @@ pub enum Stage<L> {
     Ended,
 }
 
-// Written out, so that a function that owns a stage drops it by one call.
 // Written out, so that it is proved once, and not at each exit of a function that owns one.
 impl<L: Drop> Drop for Stage<L> {
     fn drop(self) {
