@@ -44,22 +44,6 @@ pub data Effect (S E L : Type 0) : Type 0 where
   Fails : ErrorKind → Option ℕ → Name E → Effect S E L
   Nothing : Effect S E L
 
--- every variable at bottom and unfrozen, main alone in its first local state, and no handler
-abbrev pub start : {S E R A L : Type 0} → Machine S E R A L → State S E L
-start M = record {
-  content = λ v. M.bottom;
-  frozen = λ v. false;
-  tasks = λ t. if same_name M.event_same t main then Live M.start 0 0 0 else Absent;
-  handlers = λ h. None;
-  handled = λ h e. false;
-}
-
--- a handler handles the events of this variable
-pub record IsOn {S E R A L : Type 0} (M : Machine S E R A L) (c : State S E L) (h : Handler E) (v : ℕ) : Type 0 where
-  pub post : Post
-  pub is : c.handlers h ≡ Some post
-  pub of : M.pool_variable post.pool ≡ Some v
-
 -- a task belongs to one of these pools
 pub record IsIn {S E L : Type 0} (c : State S E L) (t : Name E) (pools : List ℕ) : Type 0 where
   pub handler : Handler E
@@ -72,34 +56,51 @@ pub record IsIn {S E L : Type 0} (c : State S E L) (t : Name E) (pools : List �
 pub data IsLive {L : Type 0} : Task L → Type 0 where
   is_live : {l : L} {f a p : ℕ} → IsLive (Live l f a p)
 
--- every event below the variable's state was handed to every handler on it, and every task of the pools has ended
-pub record IsQuiet {S E R A L : Type 0} (M : Machine S E R A L) (c : State S E L) (v : ℕ) (pools : List ℕ) : Type 0 where
-  pub drained : (h : Handler E) (e : E) → IsOn M c h v → IsBelow M e (c.content v) → c.handled h e ≡ true
-  pub ended : (t : Name E) → IsIn c t pools → IsLive (c.tasks t) → ⊥
+module _ {S E R A L : Type 0} (M : Machine S E R A L) where
+  -- every variable at bottom and unfrozen, main alone in its first local state, and no handler
+  abbrev pub start : State S E L
+  start = record {
+    content = λ v. M.bottom;
+    frozen = λ v. false;
+    tasks = λ t. if same_name M.event_same t main then Live M.start 0 0 0 else Absent;
+    handlers = λ h. None;
+    handled = λ h e. false;
+  }
 
--- the request can be made: a Get has its answer, a Freeze finds its variable quiescent, and every other request is always ready (LVars: threshold reads block; LVish: freeze after)
-abbrev pub IsReady : {S E R A L : Type 0} → Machine S E R A L → State S E L → Request S R L → Type 0
-IsReady M c (Get v r) = IsSome (M.answer r (c.content v))
-IsReady M c (Freeze v pools) = IsQuiet M c v pools
-IsReady M c _ = Unit {0}
+  -- a handler handles the events of this variable
+  pub record IsOn (c : State S E L) (h : Handler E) (v : ℕ) : Type 0 where
+    pub post : Post
+    pub is : c.handlers h ≡ Some post
+    pub of : M.pool_variable post.pool ≡ Some v
 
--- a live task whose request is ready
-abbrev pub IsReadyTask : {S E R A L : Type 0} → Machine S E R A L → State S E L → Task L → Type 0
-IsReadyTask M c (Live l f a p) = IsReady M c (M.request l)
-IsReadyTask M c Absent = ⊥
-IsReadyTask M c Ended = ⊥
+  -- every event below the variable's state was handed to every handler on it, and every task of the pools has ended
+  pub record IsQuiet (c : State S E L) (v : ℕ) (pools : List ℕ) : Type 0 where
+    pub drained : (h : Handler E) (e : E) → IsOn c h v → IsBelow M e (c.content v) → c.handled h e ≡ true
+    pub ended : (t : Name E) → IsIn c t pools → IsLive (c.tasks t) → ⊥
 
--- the handler is on a variable, the event is below its state, and wasn't handed to this handler
-pub record IsToHand {S E R A L : Type 0} (M : Machine S E R A L) (c : State S E L) (h : Handler E) (e : E) : Type 0 where
-  pub variable : ℕ
-  pub on : IsOn M c h variable
-  pub below : IsBelow M e (c.content variable)
-  pub unhandled : c.handled h e ≡ false
+  -- the request can be made: a Get has its answer, a Freeze finds its variable quiescent, and every other request is always ready (LVars: threshold reads block; LVish: freeze after)
+  abbrev pub IsReady : State S E L → Request S R L → Type 0
+  IsReady c (Get v r) = IsSome (M.answer r (c.content v))
+  IsReady c (Freeze v pools) = IsQuiet c v pools
+  IsReady c _ = Unit {0}
 
--- a task's step is enabled where its request is ready, a handing where the event is to be handed
-abbrev pub IsEnabled : {S E R A L : Type 0} → Machine S E R A L → State S E L → Label E → Type 0
-IsEnabled M c (Act t) = IsReadyTask M c (c.tasks t)
-IsEnabled M c (Hand h e) = IsToHand M c h e
+  -- a live task whose request is ready
+  abbrev pub IsReadyTask : State S E L → Task L → Type 0
+  IsReadyTask c (Live l f a p) = IsReady c (M.request l)
+  IsReadyTask c Absent = ⊥
+  IsReadyTask c Ended = ⊥
+
+  -- the handler is on a variable, the event is below its state, and wasn't handed to this handler
+  pub record IsToHand (c : State S E L) (h : Handler E) (e : E) : Type 0 where
+    pub variable : ℕ
+    pub on : IsOn c h variable
+    pub below : IsBelow M e (c.content variable)
+    pub unhandled : c.handled h e ≡ false
+
+  -- a task's step is enabled where its request is ready, a handing where the event is to be handed
+  abbrev pub IsEnabled : State S E L → Label E → Type 0
+  IsEnabled c (Act t) = IsReadyTask c (c.tasks t)
+  IsEnabled c (Hand h e) = IsToHand c h e
 
 -- no change
 abbrev pub unchanged : {S E L : Type 0} → Change S E L
@@ -109,18 +110,6 @@ unchanged = record { own = None; made = None; added = None; joined = None; froze
 abbrev pub just : {S E L : Type 0} → Name E → Task L → Change S E L
 just {S} {E} {L} t k = record (unchanged {S = S} {E = E} {L = L}) { own = Some (t, k) }
 
--- a put whose join is top is the error Conflict; one that would raise a frozen variable the error Frozen; else the join is made (LVish: put and frozen contents)
-abbrev pub put_effect : {S E R A L : Type 0} → Machine S E R A L → State S E L → Name E → Task L → ℕ → S → Option S → Effect S E L
-put_effect M c t k v d None = Fails Conflict (Some v) t
-put_effect {S} M c t k v d (Some s) =
-    if c.frozen v && not (M.same s (c.content v)) then Fails Frozen (Some v) t
-    else Changes (record (just {S = S} t k) { joined = Some (v, d) })
-
--- a get goes on with its answer, and changes nothing else
-abbrev pub get_effect : {S E R A L : Type 0} → Machine S E R A L → Name E → L → ℕ → ℕ → ℕ → Option A → Effect S E L
-get_effect M t l f a p None = Nothing
-get_effect M t l f a p (Some x) = Changes (just t (Live (M.resume l (Answer x)) f a p))
-
 -- a handler that comes to a frozen variable is the error Late; else it is there under its name
 abbrev pub add_effect : {S E L : Type 0} → State S E L → Name E → Task L → Handler E → Post → Option ℕ → Effect S E L
 add_effect c t k h post None = Nothing
@@ -128,37 +117,50 @@ add_effect {S} c t k h post (Some v) =
     if c.frozen v then Fails Late (Some v) t
     else Changes (record (just {S = S} t k) { added = Some (h, post) })
 
--- what a task's request does; l is the local state in which it is made
-abbrev pub request_effect : {S E R A L : Type 0} → Machine S E R A L → State S E L → Name E → L → ℕ → ℕ → ℕ → Request S R L → Effect S E L
-request_effect M c t l f a p (Put v d) = put_effect M c t (Live (M.resume l Done) f a (suc p)) v d (M.join (c.content v) d)
-request_effect M c t l f a p (Get v r) = get_effect M t l f a p (M.answer r (c.content v))
-request_effect {S} M c t l f a p (Fork child) =
-    if is_deep t then Fails Deep None t
-    else Changes (record (just {S = S} t (Live (M.resume l Done) (suc f) a p)) { made = Some (forked t (suc f), Live child 0 0 0) })
-request_effect M c t l f a p (Add pool procedure) =
-    if is_deep t then Fails Deep None t
-    else add_effect c t (Live (M.resume l Done) f (suc a) p) (record { adder = t; number = suc a }) (record { pool = pool; procedure = procedure }) (M.pool_variable pool)
-request_effect {S} M c t l f a p (Freeze v pools) = Changes (record (just {S = S} t (Live (M.resume l (Content (c.content v))) f a p)) { froze = Some v })
-request_effect M c t l f a p Pause = Changes (just t (Live (M.resume l Done) f a p))
-request_effect M c t l f a p End = Changes (just t Ended)
-request_effect M c t l f a p (Fault kind) = Fails kind None t
+module _ {S E R A L : Type 0} (M : Machine S E R A L) where
+  -- a put whose join is top is the error Conflict; one that would raise a frozen variable the error Frozen; else the join is made (LVish: put and frozen contents)
+  abbrev pub put_effect : State S E L → Name E → Task L → ℕ → S → Option S → Effect S E L
+  put_effect c t k v d None = Fails Conflict (Some v) t
+  put_effect c t k v d (Some s) =
+      if c.frozen v && not (M.same s (c.content v)) then Fails Frozen (Some v) t
+      else Changes (record (just {S = S} t k) { joined = Some (v, d) })
 
--- what the step of a live task comes to
-abbrev pub task_effect : {S E R A L : Type 0} → Machine S E R A L → State S E L → Name E → Task L → Effect S E L
-task_effect M c t (Live l f a p) = request_effect M c t (M.at l) f a p (M.request l)
-task_effect M c t Absent = Nothing
-task_effect M c t Ended = Nothing
+  -- a get goes on with its answer, and changes nothing else
+  abbrev pub get_effect : Name E → L → ℕ → ℕ → ℕ → Option A → Effect S E L
+  get_effect t l f a p None = Nothing
+  get_effect t l f a p (Some x) = Changes (just t (Live (M.resume l (Answer x)) f a p))
 
--- a handing starts the handler's procedure on the event, as a new task in the handler's pool (LVish: spawning handlers)
-abbrev pub hand_effect : {S E R A L : Type 0} → Machine S E R A L → Handler E → E → Option Post → Effect S E L
-hand_effect M h e None = Nothing
-hand_effect {S} {E} {R} {A} {L} M h e (Some post) =
-    Changes (record (unchanged {S = S} {E = E} {L = L}) { made = Some (handed h.adder h.number e, Live (M.start_handler post.procedure e) 0 0 0); handing = Some (h, e) })
+  -- what a task's request does; l is the local state in which it is made
+  abbrev pub request_effect : State S E L → Name E → L → ℕ → ℕ → ℕ → Request S R L → Effect S E L
+  request_effect c t l f a p (Put v d) = put_effect c t (Live (M.resume l Done) f a (suc p)) v d (M.join (c.content v) d)
+  request_effect c t l f a p (Get v r) = get_effect t l f a p (M.answer r (c.content v))
+  request_effect c t l f a p (Fork child) =
+      if is_deep t then Fails Deep None t
+      else Changes (record (just {S = S} t (Live (M.resume l Done) (suc f) a p)) { made = Some (forked t (suc f), Live child 0 0 0) })
+  request_effect c t l f a p (Add pool procedure) =
+      if is_deep t then Fails Deep None t
+      else add_effect c t (Live (M.resume l Done) f (suc a) p) (record { adder = t; number = suc a }) (record { pool = pool; procedure = procedure }) (M.pool_variable pool)
+  request_effect c t l f a p (Freeze v pools) = Changes (record (just {S = S} t (Live (M.resume l (Content (c.content v))) f a p)) { froze = Some v })
+  request_effect c t l f a p Pause = Changes (just t (Live (M.resume l Done) f a p))
+  request_effect c t l f a p End = Changes (just t Ended)
+  request_effect c t l f a p (Fault kind) = Fails kind None t
 
--- what a step with an enabled label does
-abbrev pub effect : {S E R A L : Type 0} → Machine S E R A L → State S E L → Label E → Effect S E L
-effect M c (Act t) = task_effect M c t (c.tasks t)
-effect M c (Hand h e) = hand_effect M h e (c.handlers h)
+  -- what the step of a live task comes to
+  abbrev pub task_effect : State S E L → Name E → Task L → Effect S E L
+  task_effect c t (Live l f a p) = request_effect c t (M.at l) f a p (M.request l)
+  task_effect c t Absent = Nothing
+  task_effect c t Ended = Nothing
+
+  -- a handing starts the handler's procedure on the event, as a new task in the handler's pool (LVish: spawning handlers)
+  abbrev pub hand_effect : Handler E → E → Option Post → Effect S E L
+  hand_effect h e None = Nothing
+  hand_effect h e (Some post) =
+      Changes (record (unchanged {S = S} {E = E} {L = L}) { made = Some (handed h.adder h.number e, Live (M.start_handler post.procedure e) 0 0 0); handing = Some (h, e) })
+
+  -- what a step with an enabled label does
+  abbrev pub effect : State S E L → Label E → Effect S E L
+  effect c (Act t) = task_effect c t (c.tasks t)
+  effect c (Hand h e) = hand_effect h e (c.handlers h)
 
 -- the tasks, with another one under one name
 abbrev pub with_task : {E L : Type 0} → (E → E → Bool) → Option (Name E × Task L) → (Name E → Task L) → Name E → Task L
@@ -185,79 +187,80 @@ abbrev pub with_handled : {E : Type 0} → (E → E → Bool) → Option (Handle
 with_handled eq None handled h e = handled h e
 with_handled eq (Some new) handled h e = (same_handler eq h new.0 && eq e new.1) || handled h e
 
--- a state with a change made to it
-abbrev pub changed : {S E R A L : Type 0} → Machine S E R A L → Change S E L → State S E L → State S E L
-changed M ch c = record {
-  content = with_join M.join ch.joined c.content;
-  frozen = with_frozen ch.froze c.frozen;
-  tasks = with_task M.event_same ch.own (with_task M.event_same ch.made c.tasks);
-  handlers = with_handler M.event_same ch.added c.handlers;
-  handled = with_handled M.event_same ch.handing c.handled;
-}
+module _ {S E R A L : Type 0} (M : Machine S E R A L) where
+  -- a state with a change made to it
+  abbrev pub changed : Change S E L → State S E L → State S E L
+  changed ch c = record {
+    content = with_join M.join ch.joined c.content;
+    frozen = with_frozen ch.froze c.frozen;
+    tasks = with_task M.event_same ch.own (with_task M.event_same ch.made c.tasks);
+    handlers = with_handler M.event_same ch.added c.handlers;
+    handled = with_handled M.event_same ch.handing c.handled;
+  }
 
--- the configuration after a step that comes to this
-abbrev pub after : {S E R A L : Type 0} → Machine S E R A L → State S E L → Effect S E L → Configuration S E L
-after M c (Changes ch) = Running (changed M ch c)
-after M c (Fails kind v t) = Error kind v t
-after M c Nothing = Running c
+  -- the configuration after a step that comes to this
+  abbrev pub after : State S E L → Effect S E L → Configuration S E L
+  after c (Changes ch) = Running (changed ch c)
+  after c (Fails kind v t) = Error kind v t
+  after c Nothing = Running c
 
--- the configuration after a step with an enabled label
-abbrev pub step : {S E R A L : Type 0} → Machine S E R A L → State S E L → Label E → Configuration S E L
-step M c l = after M c (effect M c l)
+  -- the configuration after a step with an enabled label
+  abbrev pub step : State S E L → Label E → Configuration S E L
+  step c l = after c (effect M c l)
 
--- a run from c: each label is enabled in its turn, and d is the last configuration
-abbrev pub IsRun : {S E R A L : Type 0} → Machine S E R A L → Configuration S E L → List (Label E) → Configuration S E L → Type 0
-IsRun M d [] last = d ≡ last
-IsRun M (Running c) (l ∷ ls) last = IsEnabled M c l × IsRun M (step M c l) ls last
-IsRun M (Error kind v t) (l ∷ ls) last = ⊥
+  -- a run from c: each label is enabled in its turn, and d is the last configuration
+  abbrev pub IsRun : Configuration S E L → List (Label E) → Configuration S E L → Type 0
+  IsRun d [] last = d ≡ last
+  IsRun (Running c) (l ∷ ls) last = IsEnabled M c l × IsRun (step c l) ls last
+  IsRun (Error kind v t) (l ∷ ls) last = ⊥
 
--- in a configuration the label is enabled; after an error nothing is
-abbrev pub CanStep : {S E R A L : Type 0} → Machine S E R A L → Configuration S E L → Label E → Type 0
-CanStep M (Running c) l = IsEnabled M c l
-CanStep M (Error kind v t) l = ⊥
+  -- in a configuration the label is enabled; after an error nothing is
+  abbrev pub CanStep : Configuration S E L → Label E → Type 0
+  CanStep (Running c) l = IsEnabled M c l
+  CanStep (Error kind v t) l = ⊥
 
--- the configuration after a step with a label that is enabled in this one
-abbrev pub next : {S E R A L : Type 0} → Machine S E R A L → Configuration S E L → Label E → Configuration S E L
-next M (Running c) l = step M c l
-next M (Error kind v t) l = Error kind v t
+  -- the configuration after a step with a label that is enabled in this one
+  abbrev pub next : Configuration S E L → Label E → Configuration S E L
+  next (Running c) l = step c l
+  next (Error kind v t) l = Error kind v t
 
--- no label is enabled
-abbrev pub IsEnd : {S E R A L : Type 0} → Machine S E R A L → State S E L → Type 0
-IsEnd {S} {E} M c = (l : Label E) → IsEnabled M c l → ⊥
+  -- no label is enabled
+  abbrev pub IsEnd : State S E L → Type 0
+  IsEnd c = (l : Label E) → IsEnabled M c l → ⊥
 
--- an end without an error: no label is enabled
-abbrev pub IsEnded : {S E R A L : Type 0} → Machine S E R A L → Configuration S E L → Type 0
-IsEnded M (Running c) = IsEnd M c
-IsEnded M (Error kind v t) = ⊥
+  -- an end without an error: no label is enabled
+  abbrev pub IsEnded : Configuration S E L → Type 0
+  IsEnded (Running c) = IsEnd c
+  IsEnded (Error kind v t) = ⊥
 
--- some task is at a step that is an error
-abbrev pub IsDoomedRequest : {S E R A L : Type 0} → Machine S E R A L → State S E L → Name E → Request S R L → Type 0
-IsDoomedRequest {S} M c t (Put v d) =
-    (M.join (c.content v) d ≡ None)
-    ⊎ ((s : S) × (M.join (c.content v) d ≡ Some s) × (c.frozen v ≡ true) × (s ≢ c.content v))
-IsDoomedRequest M c t (Fork child) = is_deep t ≡ true
-IsDoomedRequest M c t (Add pool procedure) = (is_deep t ≡ true) ⊎ ((v : ℕ) × (M.pool_variable pool ≡ Some v) × (c.frozen v ≡ true))
-IsDoomedRequest M c t (Fault kind) = Unit {0}
-IsDoomedRequest M c t _ = ⊥
+  -- some task is at a step that is an error
+  abbrev pub IsDoomedRequest : State S E L → Name E → Request S R L → Type 0
+  IsDoomedRequest c t (Put v d) =
+      (M.join (c.content v) d ≡ None)
+      ⊎ ((s : S) × (M.join (c.content v) d ≡ Some s) × (c.frozen v ≡ true) × (s ≢ c.content v))
+  IsDoomedRequest c t (Fork child) = is_deep t ≡ true
+  IsDoomedRequest c t (Add pool procedure) = (is_deep t ≡ true) ⊎ ((v : ℕ) × (M.pool_variable pool ≡ Some v) × (c.frozen v ≡ true))
+  IsDoomedRequest c t (Fault kind) = Unit {0}
+  IsDoomedRequest c t _ = ⊥
 
--- some task that hasn't ended is at a step that is an error
-pub record IsDoomed {S E R A L : Type 0} (M : Machine S E R A L) (c : State S E L) : Type 0 where
-  pub task : Name E
-  pub local : L
-  pub forks : ℕ
-  pub adds : ℕ
-  pub puts : ℕ
-  pub is : c.tasks task ≡ Live local forks adds puts
-  pub doomed : IsDoomedRequest M c task (M.request local)
+  -- some task that hasn't ended is at a step that is an error
+  pub record IsDoomed (c : State S E L) : Type 0 where
+    pub task : Name E
+    pub local : L
+    pub forks : ℕ
+    pub adds : ℕ
+    pub puts : ℕ
+    pub is : c.tasks task ≡ Live local forks adds puts
+    pub doomed : IsDoomedRequest c task (M.request local)
 
--- the label is a step of a task that asks to freeze this variable
-pub record Freezes {S E R A L : Type 0} (M : Machine S E R A L) (c : State S E L) (l : Label E) (v : ℕ) : Type 0 where
-  pub task : Name E
-  pub local : L
-  pub forks : ℕ
-  pub adds : ℕ
-  pub puts : ℕ
-  pub pools : List ℕ
-  pub label : l ≡ Act task
-  pub is : c.tasks task ≡ Live local forks adds puts
-  pub asked : M.request local ≡ Freeze v pools
+  -- the label is a step of a task that asks to freeze this variable
+  pub record Freezes (c : State S E L) (l : Label E) (v : ℕ) : Type 0 where
+    pub task : Name E
+    pub local : L
+    pub forks : ℕ
+    pub adds : ℕ
+    pub puts : ℕ
+    pub pools : List ℕ
+    pub label : l ≡ Act task
+    pub is : c.tasks task ≡ Live local forks adds puts
+    pub asked : M.request local ≡ Freeze v pools

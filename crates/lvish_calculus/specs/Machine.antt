@@ -23,25 +23,26 @@ pub record Machine (S E R A L : Type 0) : Type 0 where
   pub at : L → L
   pub resume : L → Reply S A → L
 
--- an event is below a state
-abbrev pub IsBelow : {S E R A L : Type 0} → Machine S E R A L → E → S → Type 0
-IsBelow M e s = Contains (M.events s) e
+module _ {S E R A L : Type 0} (M : Machine S E R A L) where
+  -- an event is below a state
+  abbrev pub IsBelow : E → S → Type 0
+  IsBelow e s = Contains (M.events s) e
 
--- a pool belongs to a variable
-abbrev pub IsOf : {S E R A L : Type 0} → Machine S E R A L → List ℕ → ℕ → Type 0
-IsOf M pools v = (p : ℕ) → Contains pools p → M.pool_variable p ≡ Some v
+  -- a pool belongs to a variable
+  abbrev pub IsOf : List ℕ → ℕ → Type 0
+  IsOf pools v = (p : ℕ) → Contains pools p → M.pool_variable p ≡ Some v
 
--- the laws of a lattice, its reads and a program
-pub record IsLawful {S E R A L : Type 0} (M : Machine S E R A L) : Type 0 where
-  pub join_comm : (a b : S) → M.join a b ≡ M.join b a
-  pub join_assoc : (a b c : S) → option_and_then (λ x. M.join x c) (M.join a b) ≡ option_and_then (λ x. M.join a x) (M.join b c)
-  pub join_idem : (a : S) → M.join a a ≡ Some a
-  pub join_bottom : (a : S) → M.join M.bottom a ≡ Some a
-  pub events_bottom : (e : E) → IsBelow M e M.bottom → ⊥
-  pub events_join : (a b c : S) → M.join a b ≡ Some c → (e : E) → IsBelow M e c ↔ (IsBelow M e a ⊎ IsBelow M e b)
-  pub same_is : (a b : S) → (M.same a b ≡ true) ↔ (a ≡ b)
-  pub event_same_is : (a b : E) → (M.event_same a b ≡ true) ↔ (a ≡ b)
-  pub event_le_itself : (e : E) → M.event_le e e ≡ true
-  pub answer_stays : (l : L) (v : ℕ) (r : R) → M.request l ≡ Get v r → (a b : S) (x : A) → M.join a b ≡ Some b → M.answer r a ≡ Some x → M.answer r b ≡ Some x
-  pub freeze_own : (l : L) (v : ℕ) (pools : List ℕ) → M.request l ≡ Freeze v pools → IsOf M pools v
-  pub add_known : (l : L) (p proc : ℕ) → M.request l ≡ Add p proc → (v : ℕ) × (M.pool_variable p ≡ Some v)
+  -- the laws of a lattice, its reads and a program
+  pub record IsLawful : Type 0 where
+    pub join_comm : (a b : S) → M.join a b ≡ M.join b a
+    pub join_assoc : (a b c : S) → option_and_then (λ x. M.join x c) (M.join a b) ≡ option_and_then (λ x. M.join a x) (M.join b c)
+    pub join_idem : (a : S) → M.join a a ≡ Some a
+    pub join_bottom : (a : S) → M.join M.bottom a ≡ Some a
+    pub events_bottom : (e : E) → IsBelow e M.bottom → ⊥
+    pub events_join : (a b c : S) → M.join a b ≡ Some c → (e : E) → IsBelow e c ↔ (IsBelow e a ⊎ IsBelow e b)
+    pub same_is : (a b : S) → (M.same a b ≡ true) ↔ (a ≡ b)
+    pub event_same_is : (a b : E) → (M.event_same a b ≡ true) ↔ (a ≡ b)
+    pub event_le_itself : (e : E) → M.event_le e e ≡ true
+    pub answer_stays : (l : L) (v : ℕ) (r : R) → M.request l ≡ Get v r → (a b : S) (x : A) → M.join a b ≡ Some b → M.answer r a ≡ Some x → M.answer r b ≡ Some x
+    pub freeze_own : (l : L) (v : ℕ) (pools : List ℕ) → M.request l ≡ Freeze v pools → IsOf pools v
+    pub add_known : (l : L) (p proc : ℕ) → M.request l ≡ Add p proc → (v : ℕ) × (M.pool_variable p ≡ Some v)

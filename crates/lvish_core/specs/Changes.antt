@@ -43,41 +43,43 @@ moved_in (Changes ch) = moved_by ch
 moved_in (Fails kind v t) = nothing_moved
 moved_in Nothing = nothing_moved
 
--- what was moved is what the calculus's step with the label changes
-abbrev pub IsMoved : {S E R A L : Type 0} → Machine S E R A L → State S E L → Label E → Moved E L → Type 0
-IsMoved M s l moved = moved ≡ moved_in (effect M s l)
+module _ {S E R A L : Type 0} (M : Machine S E R A L) where
+  -- what was moved is what the calculus's step with the label changes
+  abbrev pub IsMoved : State S E L → Label E → Moved E L → Type 0
+  IsMoved s l moved = moved ≡ moved_in (effect M s l)
 
--- the entries that a put of the task t brings to v's log, where it goes on as own
-abbrev pub put_brings : {S E R A L : Type 0} → Machine S E R A L → State S E L → ℕ → Option (ℕ × S) → Option (Name E × Task L) → List (Entry E)
-put_brings M s v (Some (w, d)) (Some (t, Live l f a p)) = if nat_eq v w then entries t p (fresh_of M.join M.event_same M.events (s.content v) d) else []
-put_brings M s v _ _ = []
+  -- the entries that a put of the task t brings to v's log, where it goes on as own
+  abbrev pub put_brings : State S E L → ℕ → Option (ℕ × S) → Option (Name E × Task L) → List (Entry E)
+  put_brings s v (Some (w, d)) (Some (t, Live l f a p)) = if nat_eq v w then entries t p (fresh_of M.join M.event_same M.events (s.content v) d) else []
+  put_brings s v _ _ = []
 
-abbrev pub brings : {S E R A L : Type 0} → Machine S E R A L → State S E L → ℕ → Effect S E L → List (Entry E)
-brings M s v (Changes ch) = put_brings M s v ch.joined ch.own
-brings M s v (Fails kind w t) = []
-brings M s v Nothing = []
+  abbrev pub brings : State S E L → ℕ → Effect S E L → List (Entry E)
+  brings s v (Changes ch) = put_brings s v ch.joined ch.own
+  brings s v (Fails kind w t) = []
+  brings s v Nothing = []
 
--- the entries that the step with the label brings to v's log: a put's fresh events with the task and the number of this put, and no others
-abbrev pub brought : {S E R A L : Type 0} → Machine S E R A L → State S E L → Label E → ℕ → List (Entry E)
-brought M s l v = brings M s v (effect M s l)
+  -- the entries that the step with the label brings to v's log: a put's fresh events with the task and the number of this put, and no others
+  abbrev pub brought : State S E L → Label E → ℕ → List (Entry E)
+  brought s l v = brings s v (effect M s l)
 
 -- the variable of a pool, where there is one
 abbrev pub touching : (ℕ → Touched) → Option ℕ → Touched
 touching on None = Other
 touching on (Some v) = on v
 
--- what a task's change concerns
-abbrev pub touched_in : {S E R A L : Type 0} → Machine S E R A L → State S E L → Option (ℕ × S) → Option (Name E × Task L) → Touched
-touched_in M s (Some (v, d)) own = Put v
-touched_in M s None (Some (t, Ended)) = touching (λ v. EndedIn v) (option_and_then M.pool_variable (pool_of s t))
-touched_in M s None _ = Other
+module _ {S E R A L : Type 0} (M : Machine S E R A L) where
+  -- what a task's change concerns
+  abbrev pub touched_in : State S E L → Option (ℕ × S) → Option (Name E × Task L) → Touched
+  touched_in s (Some (v, d)) own = Put v
+  touched_in s None (Some (t, Ended)) = touching (λ v. EndedIn v) (option_and_then M.pool_variable (pool_of s t))
+  touched_in s None _ = Other
 
-abbrev pub task_touches : {S E R A L : Type 0} → Machine S E R A L → State S E L → Effect S E L → Touched
-task_touches M s (Changes ch) = touched_in M s ch.joined ch.own
-task_touches M s (Fails kind v t) = Other
-task_touches M s Nothing = Other
+  abbrev pub task_touches : State S E L → Effect S E L → Touched
+  task_touches s (Changes ch) = touched_in s ch.joined ch.own
+  task_touches s (Fails kind v t) = Other
+  task_touches s Nothing = Other
 
--- what the step with the label concerns: a put its variable, a handing the handler's, an end that of the task's pool; an error and every other step none
-abbrev pub touched_by : {S E R A L : Type 0} → Machine S E R A L → State S E L → Label E → Touched
-touched_by M s (Act t) = task_touches M s (effect M s (Act t))
-touched_by M s (Hand h e) = touching (λ v. Handed v) (option_and_then (λ post. M.pool_variable post.pool) (s.handlers h))
+  -- what the step with the label concerns: a put its variable, a handing the handler's, an end that of the task's pool; an error and every other step none
+  abbrev pub touched_by : State S E L → Label E → Touched
+  touched_by s (Act t) = task_touches s (effect M s (Act t))
+  touched_by s (Hand h e) = touching (λ v. Handed v) (option_and_then (λ post. M.pool_variable post.pool) (s.handlers h))

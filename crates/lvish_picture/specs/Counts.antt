@@ -22,9 +22,10 @@ pub record PoolHasRunning {S E L : Type 0} (c : State S E L) (pool n : ℕ) : Ty
   pub just : (t : Name E) → IsAmong t names ↔ (IsLive (c.tasks t) × (pool_of c t ≡ Some pool))
   pub count : length names ≡ n
 
--- each variable counts the tasks that run in its pools
-abbrev pub CountsRunning : {S E R A L : Type 0} → Machine S E R A L → Table S E L → Type 0
-CountsRunning {S} {E} M c = (v : ℕ) (hs : Handlers E) (p : ℕ) → slice_get c.handlers v ≡ Some hs → M.pool_variable p ≡ Some v → (p < length hs.running) × PoolHasRunning (table_picture M c) p (slice_index hs.running p)
+module _ {S E R A L : Type 0} (M : Machine S E R A L) where
+  -- each variable counts the tasks that run in its pools
+  abbrev pub CountsRunning : Table S E L → Type 0
+  CountsRunning c = (v : ℕ) (hs : Handlers E) (p : ℕ) → slice_get c.handlers v ≡ Some hs → M.pool_variable p ≡ Some v → (p < length hs.running) × PoolHasRunning (table_picture M c) p (slice_index hs.running p)
 
 -- whether this is the pool, of a task that may be in none
 abbrev pub is_this_pool : Option ℕ → ℕ → Bool
@@ -45,60 +46,62 @@ abbrev pub ends : {S E L : Type 0} → State S E L → Option (Name E × Task L)
 ends c (Some (t, Ended)) p = one_in c t p
 ends c _ p = 0
 
--- from the old counts to the new ones: the made task's pool has one more, and an ended task's pool one less
-abbrev pub AreCounts : {S E R A L : Type 0} → Machine S E R A L → State S E L → Option (Name E × Task L) → Option (Name E × Task L) → List (Handlers E) → List (Handlers E) → Type 0
-AreCounts {S} {E} M c own made old new = (v : ℕ) (ks : Handlers E) (p : ℕ) → slice_get new v ≡ Some ks → M.pool_variable p ≡ Some v
-    → (hs : Handlers E) × (slice_get old v ≡ Some hs) × (length ks.running ≡ length hs.running) × (slice_index ks.running p ≡ slice_index hs.running p + starts c made p - ends c own p)
+module _ {S E R A L : Type 0} (M : Machine S E R A L) where
+  -- from the old counts to the new ones: the made task's pool has one more, and an ended task's pool one less
+  abbrev pub AreCounts : State S E L → Option (Name E × Task L) → Option (Name E × Task L) → List (Handlers E) → List (Handlers E) → Type 0
+  AreCounts c own made old new = (v : ℕ) (ks : Handlers E) (p : ℕ) → slice_get new v ≡ Some ks → M.pool_variable p ≡ Some v
+      → (hs : Handlers E) × (slice_get old v ≡ Some hs) × (length ks.running ≡ length hs.running) × (slice_index ks.running p ≡ slice_index hs.running p + starts c made p - ends c own p)
 
 -- what a task does keeps the counts, where it is of this kind
 abbrev pub ActCounted : {S E R A L : Type 0} → (Machine S E R A L → Table S E L → Name E → Table S E L → Type 0) → Machine S E R A L → Type 0
 ActCounted {S} {E} {R} {A} {L} IsOfKind M = (xs : List (Label E)) (c d : Table S E L) (t : Name E) → IsPictured M c xs → CountsRunning M c → IsOfKind M c t d → CountsRunning M d
 
--- a get, a fork, a pause or an end keeps the counts, where they follow the tasks that it makes and ends
-abbrev pub PlainCounted : {S E R A L : Type 0} → Machine S E R A L → Type 0
-PlainCounted {S} {E} {R} {A} {L} M = (xs : List (Label E)) (c d : Table S E L) (t : Name E) → IsPictured M c xs → CountsRunning M c → (s : IsPlainStep M c t d)
-    → AreCounts M (table_picture M c) s.own s.made c.handlers d.handlers → CountsRunning M d
+module _ {S E R A L : Type 0} (M : Machine S E R A L) where
+  -- a get, a fork, a pause or an end keeps the counts, where they follow the tasks that it makes and ends
+  abbrev pub PlainCounted : Type 0
+  PlainCounted = (xs : List (Label E)) (c d : Table S E L) (t : Name E) → IsPictured M c xs → CountsRunning M c → (s : IsPlainStep M c t d)
+      → AreCounts M (table_picture M c) s.own s.made c.handlers d.handlers → CountsRunning M d
 
--- a handing keeps the counts, where they follow the task that starts
-abbrev pub HandCounted : {S E R A L : Type 0} → Machine S E R A L → Type 0
-HandCounted {S} {E} {R} {A} {L} M = (xs : List (Label E)) (c d : Table S E L) (h : Handler E) (e : E) → IsPictured M c xs → CountsRunning M c → (s : IsHandStep M c h e d)
-    → AreCounts M (table_picture M c) None (Some (handed h.adder h.number e, Live (M.start_handler s.advanced.handler.procedure e) 0 0 0)) c.handlers d.handlers → CountsRunning M d
+  -- a handing keeps the counts, where they follow the task that starts
+  abbrev pub HandCounted : Type 0
+  HandCounted = (xs : List (Label E)) (c d : Table S E L) (h : Handler E) (e : E) → IsPictured M c xs → CountsRunning M c → (s : IsHandStep M c h e d)
+      → AreCounts M (table_picture M c) None (Some (handed h.adder h.number e, Live (M.start_handler s.advanced.handler.procedure e) 0 0 0)) c.handlers d.handlers → CountsRunning M d
 
--- a freeze can be made exactly where v's cursors are at the log's end and the counts of the pools are 0
-abbrev pub FreezesByCounts : {S E R A L : Type 0} → Machine S E R A L → Type 0
-FreezesByCounts {S} {E} {R} {A} {L} M = (xs : List (Label E)) (c : Table S E L) (v : ℕ) (x : Variable S E) (hs : Handlers E) (pools : List ℕ) → IsPictured M c xs → CountsRunning M c
-    → slice_get c.variables v ≡ Some x → slice_get c.handlers v ≡ Some hs → IsOf M pools v
-    → (All (λ h. h.handed ≡ length x.log) hs.held × All (λ p. slice_index hs.running p ≡ 0) pools) ↔ IsQuiet M (table_picture M c) v pools
+  -- a freeze can be made exactly where v's cursors are at the log's end and the counts of the pools are 0
+  abbrev pub FreezesByCounts : Type 0
+  FreezesByCounts = (xs : List (Label E)) (c : Table S E L) (v : ℕ) (x : Variable S E) (hs : Handlers E) (pools : List ℕ) → IsPictured M c xs → CountsRunning M c
+      → slice_get c.variables v ≡ Some x → slice_get c.handlers v ≡ Some hs → IsOf M pools v
+      → (All (λ h. h.handed ≡ length x.log) hs.held × All (λ p. slice_index hs.running p ≡ 0) pools) ↔ IsQuiet M (table_picture M c) v pools
 
--- the counts of the pools are 0 exactly where every task of these pools has ended
-abbrev pub EndedByCounts : {S E R A L : Type 0} → Machine S E R A L → Type 0
-EndedByCounts {S} {E} {R} {A} {L} M = (c : Table S E L) (v : ℕ) (hs : Handlers E) (pools : List ℕ) → CountsRunning M c → slice_get c.handlers v ≡ Some hs → IsOf M pools v
-    → All (λ p. slice_index hs.running p ≡ 0) pools ↔ ((t : Name E) → IsIn (table_picture M c) t pools → IsLive ((table_picture M c).tasks t) → ⊥)
+  -- the counts of the pools are 0 exactly where every task of these pools has ended
+  abbrev pub EndedByCounts : Type 0
+  EndedByCounts = (c : Table S E L) (v : ℕ) (hs : Handlers E) (pools : List ℕ) → CountsRunning M c → slice_get c.handlers v ≡ Some hs → IsOf M pools v
+      → All (λ p. slice_index hs.running p ≡ 0) pools ↔ ((t : Name E) → IsIn (table_picture M c) t pools → IsLive ((table_picture M c).tasks t) → ⊥)
 
--- a table at the start stands for the calculus's start, which the empty run leads to, and its counts are right
-abbrev pub BegunIsPictured : {S E R A L : Type 0} → Machine S E R A L → Type 0
-BegunIsPictured {S} {E} {R} {A} {L} M = (pools : ℕ) (c : Table S E L) → IsTableBegun M pools c → (table_picture M c ≡ start M) × IsPictured M c [] × CountsRunning M c
+  -- a table at the start stands for the calculus's start, which the empty run leads to, and its counts are right
+  abbrev pub BegunIsPictured : Type 0
+  BegunIsPictured = (pools : ℕ) (c : Table S E L) → IsTableBegun M pools c → (table_picture M c ≡ start M) × IsPictured M c [] × CountsRunning M c
 
--- no more tasks run in a pool than steps were made
-abbrev pub FewRun : {S E R A L : Type 0} → Machine S E R A L → Type 0
-FewRun {S} {E} {R} {A} {L} M = (xs : List (Label E)) (c : Table S E L) (p n : ℕ) → IsPictured M c xs → PoolHasRunning (table_picture M c) p n → n ≤ length xs
+  -- no more tasks run in a pool than steps were made
+  abbrev pub FewRun : Type 0
+  FewRun = (xs : List (Label E)) (c : Table S E L) (p n : ℕ) → IsPictured M c xs → PoolHasRunning (table_picture M c) p n → n ≤ length xs
 
--- where a live task is in a pool, some task runs in it
-abbrev pub SomeRun : {S E R A L : Type 0} → Machine S E R A L → Type 0
-SomeRun {S} {E} {R} {A} {L} M = (c : Table S E L) (t : Name E) (p n : ℕ) → PoolHasRunning (table_picture M c) p n → IsLive ((table_picture M c).tasks t) → pool_of (table_picture M c) t ≡ Some p → 0 < n
+  -- where a live task is in a pool, some task runs in it
+  abbrev pub SomeRun : Type 0
+  SomeRun = (c : Table S E L) (t : Name E) (p n : ℕ) → PoolHasRunning (table_picture M c) p n → IsLive ((table_picture M c).tasks t) → pool_of (table_picture M c) t ≡ Some p → 0 < n
 
--- a task that starts in the pool q of v is followed where v counts one more in q
-abbrev pub StartIsFollowed : {S E R A L : Type 0} → Machine S E R A L → Type 0
-StartIsFollowed {S} {E} {R} {A} {L} M = (c : State S E L) (own : Option (Name E × Task L)) (t : Name E) (k : Task L) (old : List (Handlers E)) (v : ℕ) (hs : Handlers E) (held : List (Held E)) (q : ℕ)
-    → pool_of c t ≡ Some q → M.pool_variable q ≡ Some v → slice_get old v ≡ Some hs → q < length hs.running → ((p : ℕ) → ends c own p ≡ 0)
-    → AreCounts M c own (Some (t, k)) old (slice_set old v (record { held = held; running = slice_set hs.running q (slice_index hs.running q + 1) }))
+  -- a task that starts in the pool q of v is followed where v counts one more in q
+  abbrev pub StartIsFollowed : Type 0
+  StartIsFollowed = (c : State S E L) (own : Option (Name E × Task L)) (t : Name E) (k : Task L) (old : List (Handlers E)) (v : ℕ) (hs : Handlers E) (held : List (Held E)) (q : ℕ)
+      → pool_of c t ≡ Some q → M.pool_variable q ≡ Some v → slice_get old v ≡ Some hs → q < length hs.running → ((p : ℕ) → ends c own p ≡ 0)
+      → AreCounts M c own (Some (t, k)) old (slice_set old v (record { held = held; running = slice_set hs.running q (slice_index hs.running q + 1) }))
 
--- a task that ends in the pool q of v is followed where v counts one less in q
-abbrev pub EndIsFollowed : {S E R A L : Type 0} → Machine S E R A L → Type 0
-EndIsFollowed {S} {E} {R} {A} {L} M = (c : State S E L) (t : Name E) (old : List (Handlers E)) (v : ℕ) (hs : Handlers E) (held : List (Held E)) (q : ℕ)
-    → pool_of c t ≡ Some q → M.pool_variable q ≡ Some v → slice_get old v ≡ Some hs → q < length hs.running
-    → AreCounts M c (Some (t, Ended)) None old (slice_set old v (record { held = held; running = slice_set hs.running q (slice_index hs.running q - 1) }))
+  -- a task that ends in the pool q of v is followed where v counts one less in q
+  abbrev pub EndIsFollowed : Type 0
+  EndIsFollowed = (c : State S E L) (t : Name E) (old : List (Handlers E)) (v : ℕ) (hs : Handlers E) (held : List (Held E)) (q : ℕ)
+      → pool_of c t ≡ Some q → M.pool_variable q ≡ Some v → slice_get old v ≡ Some hs → q < length hs.running
+      → AreCounts M c (Some (t, Ended)) None old (slice_set old v (record { held = held; running = slice_set hs.running q (slice_index hs.running q - 1) }))
 
--- where no task starts or ends in a pool, the counts stay
-abbrev pub RestIsFollowed : {S E R A L : Type 0} → Machine S E R A L → Type 0
-RestIsFollowed {S} {E} {R} {A} {L} M = (c : State S E L) (own made : Option (Name E × Task L)) (old : List (Handlers E)) → ((p : ℕ) → starts c made p ≡ 0) → ((p : ℕ) → ends c own p ≡ 0) → AreCounts M c own made old old
+  -- where no task starts or ends in a pool, the counts stay
+  abbrev pub RestIsFollowed : Type 0
+  RestIsFollowed = (c : State S E L) (own made : Option (Name E × Task L)) (old : List (Handlers E)) → ((p : ℕ) → starts c made p ≡ 0) → ((p : ℕ) → ends c own p ≡ 0) → AreCounts M c own made old old

@@ -46,36 +46,37 @@ abbrev pub task_of : {E L : Type 0} → (E → E → Bool) → List (Name E × T
 task_of eq [] t = Absent
 task_of eq (x ∷ xs) t = if same_name eq t x.0 then x.1 else task_of eq xs t
 
--- the configuration that the table stands for; variables that it does not have are at bottom and unfrozen
-abbrev pub table_picture : {S E R A L : Type 0} → Machine S E R A L → Table S E L → State S E L
-table_picture M c = record {
-  content = λ v. unwrap_or (option_map (λ x. x.state) (slice_get c.variables v)) M.bottom;
-  frozen = λ v. unwrap_or (option_map (λ x. x.frozen) (slice_get c.variables v)) false;
-  tasks = task_of M.event_same c.tasks;
-  handlers = post_in M.event_same (seats c.variables c.handlers);
-  handled = handled_in M.event_same (seats c.variables c.handlers);
-}
+module _ {S E R A L : Type 0} (M : Machine S E R A L) where
+  -- the configuration that the table stands for; variables that it does not have are at bottom and unfrozen
+  abbrev pub table_picture : Table S E L → State S E L
+  table_picture c = record {
+    content = λ v. unwrap_or (option_map (λ x. x.state) (slice_get c.variables v)) M.bottom;
+    frozen = λ v. unwrap_or (option_map (λ x. x.frozen) (slice_get c.variables v)) false;
+    tasks = task_of M.event_same c.tasks;
+    handlers = post_in M.event_same (seats c.variables c.handlers);
+    handled = handled_in M.event_same (seats c.variables c.handlers);
+  }
 
--- the variables and their handlers fit together
-pub record IsTable {S E R A L : Type 0} (M : Machine S E R A L) (c : Table S E L) : Type 0 where
-  -- each variable has its handlers
-  pub beside : length c.handlers ≡ length c.variables
-  -- no handler was handed more entries than the log has
-  pub within : (v : ℕ) (x : Variable S E) (hs : Handlers E) → slice_get c.variables v ≡ Some x → slice_get c.handlers v ≡ Some hs → IsWithin hs x.log
-  -- no two handlers have the same name
-  pub once : NoRepeats (map (λ s. s.held.name) (seats c.variables c.handlers))
-  -- each handler's pool is one of its variable
-  pub own : (v : ℕ) (hs : Handlers E) → slice_get c.handlers v ≡ Some hs → All (λ h. M.pool_variable h.pool ≡ Some v) hs.held
+  -- the variables and their handlers fit together
+  pub record IsTable (c : Table S E L) : Type 0 where
+    -- each variable has its handlers
+    pub beside : length c.handlers ≡ length c.variables
+    -- no handler was handed more entries than the log has
+    pub within : (v : ℕ) (x : Variable S E) (hs : Handlers E) → slice_get c.variables v ≡ Some x → slice_get c.handlers v ≡ Some hs → IsWithin hs x.log
+    -- no two handlers have the same name
+    pub once : NoRepeats (map (λ s. s.held.name) (seats c.variables c.handlers))
+    -- each handler's pool is one of its variable
+    pub own : (v : ℕ) (hs : Handlers E) → slice_get c.handlers v ≡ Some hs → All (λ h. M.pool_variable h.pool ≡ Some v) hs.held
 
--- the run xs is a core run to the picture, each log has that run's events in the order of their introduction, and `IsTable` holds
-pub record IsPictured {S E R A L : Type 0} (M : Machine S E R A L) (c : Table S E L) (xs : List (Label E)) : Type 0 where
-  pub reached : Reaches M xs (table_picture M c)
-  pub core : HandsOldestFirst M xs
-  pub logs : (v : ℕ) (x : Variable S E) → slice_get c.variables v ≡ Some x → IsInOrder M xs (table_picture M c) v (logged x.log)
-  pub table : IsTable M c
+  -- the run xs is a core run to the picture, each log has that run's events in the order of their introduction, and `IsTable` holds
+  pub record IsPictured (c : Table S E L) (xs : List (Label E)) : Type 0 where
+    pub reached : Reaches M xs (table_picture c)
+    pub core : HandsOldestFirst M xs
+    pub logs : (v : ℕ) (x : Variable S E) → slice_get c.variables v ≡ Some x → IsInOrder M xs (table_picture c) v (logged x.log)
+    pub table : IsTable c
 
--- a core run of n labels leads to the picture
-pub record IsTableReached {S E R A L : Type 0} (M : Machine S E R A L) (c : Table S E L) (n : ℕ) : Type 0 where
-  pub run : List (Label E)
-  pub count : length run ≡ n
-  pub pictured : IsPictured M c run
+  -- a core run of n labels leads to the picture
+  pub record IsTableReached (c : Table S E L) (n : ℕ) : Type 0 where
+    pub run : List (Label E)
+    pub count : length run ≡ n
+    pub pictured : IsPictured c run

@@ -9,9 +9,10 @@ use Rattle.lvish_calculus.specs.Calculus.{Configuration, CanStep, next}
 use Rattle.lvish_calculus.specs.Handing.{IsAmong, HandsOldestFirst}
 use Rattle.lvish_core.specs.Labels.{label_cmp}
 
--- the label is enabled in d, to which the run xs leads, and with it the run hands each handler the events in the order of their introduction
-abbrev pub ComesNext : {S E R A L : Type 0} → Machine S E R A L → List (Label E) → Configuration S E L → Label E → Type 0
-ComesNext M xs d l = CanStep M d l × HandsOldestFirst M (xs ++ l ∷ [])
+module _ {S E R A L : Type 0} (M : Machine S E R A L) where
+  -- the label is enabled in d, to which the run xs leads, and with it the run hands each handler the events in the order of their introduction
+  abbrev pub ComesNext : List (Label E) → Configuration S E L → Label E → Type 0
+  ComesNext xs d l = CanStep M d l × HandsOldestFirst M (xs ++ l ∷ [])
 
 -- just the labels that come next; tasks by name, then handlers by name
 pub record AreNext {S E R A L : Type 0} (cmp : E → E → Ordering) (M : Machine S E R A L) (xs : List (Label E)) (d : Configuration S E L) (ls : List (Label E)) : Type 0 where
