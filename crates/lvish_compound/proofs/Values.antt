@@ -8,7 +8,7 @@ use borrow.Author.Tests.{le-leb}
 use Rattle.lvish_lattice.specs.declared.flat.Flat.TheVariants.{Value}
 use Rattle.lvish_lattice.specs.declared.max_counter.MaxCounter.{MaxCounter}
 use Rattle.lvish_lattice.specs.GrowSet as grow_set
-use Rattle.lvish_lattice.specs.MaxCounter.{number_of, zero as no_amount}
+use Rattle.lvish_lattice.specs.MaxCounter.{level, level_within, number_of, zero as no_amount}
 use Rattle.lvish_lattice.specs.laws.MaxCounterLaws.{same_counter}
 use Rattle.lvish_compound.specs.declared.any.Any.{Any}
 use Rattle.lvish_compound.specs.declared.any.Any.TheVariants.{Part, Map}
@@ -48,15 +48,15 @@ one_item n (x ∷ y ∷ ys) s h =
 
 -- the set of one element
 pub set_is : (s : HeldState Set) (n m : ℤ) → m ≡ n → ((x : ℤ) → Contains (grow_set.items_of s) x ↔ Contains (m ∷ []) x) → s ≡ singleton n
-set_is s n m e h = grow_set.same_set s (singleton m) (one_item m (grow_set.items_of s) s.ascending h) ∙ ap singleton e
+set_is s n m e h = grow_set.same_set s (singleton m) (one_item m (grow_set.items_of s) (grow_set.items_ascend s) h) ∙ ap singleton e
 
-max_there : (n : ℕ) (t : Bool) (e : nat_le n HIGHEST_LEVEL ≡ t) (c : MaxCounter) → c.value ≡ n → t ≡ true → max_by n t e ≡ Some c
+max_there : (n : ℕ) (t : Bool) (e : nat_le n HIGHEST_LEVEL ≡ t) (c : MaxCounter) → level c ≡ n → t ≡ true → max_by n t e ≡ Some c
 max_there n true e c v t = ap (λ (x : MaxCounter). Some x) (same_counter _ c (sym v))
 max_there n false e c v t = absurd cc
 
 -- each counter is the one of its number
 pub max_of_number : (c : MaxCounter) → max_of (number_of c) ≡ Some c
-max_of_number c = max_there c.value (nat_le c.value HIGHEST_LEVEL) refl c refl (le-leb c.value HIGHEST_LEVEL c.bounded)
+max_of_number c = max_there (level c) (nat_le (level c) HIGHEST_LEVEL) refl c refl (le-leb (level c) HIGHEST_LEVEL (level_within c))
 
 pub counter_is : (n : ℤ) (c : MaxCounter) (x : _) → number_of c ≡ n → state_in Max x ≡ c → counter n ≡ Some (Part (Max x))
 counter_is n c x e f = ap counter (sym e) ∙ ap (option_map (λ d. Part (held Max Empty d))) (max_of_number c ∙ ap (λ (d : MaxCounter). Some d) (sym f)) ∙ ap (λ s. Some (Part s)) (held_above Max Empty x)

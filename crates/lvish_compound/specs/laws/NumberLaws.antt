@@ -21,6 +21,7 @@ use Rattle.lvish_lattice.specs.declared.grow_set.Members.{Members}
 use Rattle.lvish_lattice.specs.Lattice.{IsAtOrBelow, Answers, IsChecked, IsAnswered}
 use Rattle.lvish_lattice.specs.Listed.{found, found_one}
 use Rattle.lvish_lattice.specs.MaxCounter as max
+use Rattle.lvish_lattice.specs.MaxCounter.{level}
 use Rattle.lvish_lattice.specs.laws.MaxCounterLaws.{reaches}
 use Rattle.lvish_lattice.specs.laws.MembersLaws.{sets_checked, sets_answer}
 use Rattle.lvish_lattice.specs.Plain.{int_identical}
@@ -168,8 +169,8 @@ pub sets_answers : (t : Test) → IsChecked set.joined (ByNumber t (StandsFor se
 sets_answers t checked s n =
     first_answers set.joined (StandsFor set_at) t ((sets_one t).1 checked) s (is_member int_eq (set.items_of s)) (λ n w h. (singleton n, refl, (sets_below s n (singleton n) refl).0 h)) (λ n m e. (sets_below s n m e).1) n
 
-number_by : (n : ℕ) (b : Bool) (e : nat_le n HIGHEST_LEVEL ≡ b) (c : MaxCounter) → max_by n b e ≡ Some c → c.value ≡ n
-number_by n true e c h = sym (ap (λ (x : MaxCounter). x.value) (same_Some _ _ h))
+number_by : (n : ℕ) (b : Bool) (e : nat_le n HIGHEST_LEVEL ≡ b) (c : MaxCounter) → max_by n b e ≡ Some c → level c ≡ n
+number_by n true e c h = sym (ap level (same_Some _ _ h))
 number_by n false e c h = absurd cc
 
 -- the counter made from a number holds that number
@@ -179,7 +180,7 @@ number_of_max (negsuc n) c h = absurd cc
 
 maxes_below : (s : MaxCounter) (n : ℤ) (m : MaxCounter) → max_of n ≡ Some m → (is_reached (max.number_of s) n ≡ true) ↔ IsAtOrBelow max.joined m s
 maxes_below s n m e =
-    let same : is_reached (max.number_of s) n ≡ nat_le m.value s.value = ap (is_reached (max.number_of s)) (sym (number_of_max n m e)) in (
+    let same : is_reached (max.number_of s) n ≡ nat_le (level m) (level s) = ap (is_reached (max.number_of s)) (sym (number_of_max n m e)) in (
       (λ h. (reaches m s).1 (sym same ∙ h)),
       λ h. same ∙ (reaches m s).0 h,
     )

@@ -42,7 +42,7 @@ itself : (s : Part) → alike s s ≡ true
 itself Empty = refl
 itself (Cell n) = int_eq_equiv.refl n
 itself (Set x) = (set.alike_equiv int_eq_equiv).refl x.state
-itself (Max x) = nat_eq_equiv.refl x.state.value
+itself (Max x) = nat_eq_equiv.refl (max.level x.state)
 
 pub alike_equiv : IsEquivalence alike
 alike_equiv = equiv_by_identity alike alike_identical itself

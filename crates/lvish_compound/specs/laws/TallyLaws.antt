@@ -14,13 +14,14 @@ use Rattle.lvish_lattice.specs.Ascending.{and_both, ties_are_same}
 use Rattle.lvish_lattice.specs.Lattice.{IsIdentity, IsJoin, IsAtOrBelow, HasEvents}
 use Rattle.lvish_lattice.specs.Top.{IsTopWhere}
 use Rattle.lvish_lattice.specs.MaxCounter as max
+use Rattle.lvish_lattice.specs.MaxCounter.{level}
 use Rattle.std.specs.Set.{is_member}
-use Rattle.lvish_lattice.specs.laws.MaxCounterLaws.{counters_are_join, counters_have_events, counters_identical, reaches}
+use Rattle.lvish_lattice.specs.laws.MaxCounterLaws.{counters_are_join, counters_have_events, counters_identical, greater, reaches}
 use Rattle.lvish_lattice.specs.Plain.{int_identical, pairs_identical}
 use Rattle.lvish_lattice.specs.declared.max_counter.MaxCounter.{MaxCounter}
 use Rattle.lvish_compound.specs.declared.tally.Tally.{Tally}
-use Rattle.lvish_compound.specs.laws.AmountLaws.{join_total, up_to, up_to_total, up_to_rises, up_to_above, up_to_within, keys_total, keys_within, events_count, greater}
-use Rattle.lvish_compound.specs.Amounts.{level, level_at, total_of, gain}
+use Rattle.lvish_compound.specs.laws.AmountLaws.{join_total, up_to, up_to_total, up_to_rises, up_to_above, up_to_within, keys_total, keys_within, events_count}
+use Rattle.lvish_compound.specs.Amounts.{level_at, total_of, gain}
 use Rattle.lvish_compound.specs.Keyed.{key, by_both}
 use Rattle.lvish_compound.specs.laws.Identity.{equiv_by_identity}
 use Rattle.lvish_compound.specs.MapOf as map_of
@@ -42,7 +43,7 @@ pub same_amount : IsIdentity amount_test
 same_amount = counters_identical amount_test (λ a b. refl)
 
 pub amount_itself : (c : MaxCounter) → amount_test c c ≡ true
-amount_itself c = nat_eq_equiv.refl c.value
+amount_itself c = nat_eq_equiv.refl (level c)
 
 same_entry : IsIdentity (λ (p q : ℤ × MaxCounter). int_eq p.0 q.0 && amount_test p.1 q.1)
 same_entry = pairs_identical int_eq amount_test int_identical same_amount (λ (p q : ℤ × MaxCounter). int_eq p.0 q.0 && amount_test p.1 q.1) (λ p q. refl)

@@ -8,7 +8,7 @@ use borrow.Author.Tests.{leb-true, le-leb}
 use Rattle.lvish_lattice.specs.Ascending.{rises_by_test}
 use Rattle.lvish_lattice.specs.Lattice.{IsAtOrBelow, IsChecked, IsAnswered}
 use Rattle.lvish_lattice.specs.MaxCounter as max
-use Rattle.lvish_lattice.specs.MaxCounter.{number_of}
+use Rattle.lvish_lattice.specs.MaxCounter.{level, number_of, counter_of}
 use Rattle.lvish_lattice.specs.laws.MaxCounterLaws.{counters_are_join}
 use Rattle.lvish_lattice.specs.declared.max_counter.MaxCounter.{MaxCounter}
 use Rattle.lvish_compound.specs.declared.number_test.Test.{Test}
@@ -46,7 +46,7 @@ amounts_embedded k = record {
 }
   where
     greatest : MaxCounter → MaxCounter → MaxCounter
-    greatest a b = cond (nat_le a.value b.value) b a
+    greatest a b = cond (nat_le (level a) (level b)) b a
 
 -- tallies within states
 tallies_embedded : IsEmbedded tally.joined joined of_tally tally_in
@@ -64,7 +64,7 @@ amount_answers k t h = answered_same (composed (amounts_embedded k) tallies_embe
 
 -- a tally with the greatest total
 thousand : MaxCounter
-thousand = record { value = HIGHEST_LEVEL; bounded = lit≤ tt }
+thousand = counter_of HIGHEST_LEVEL (lit≤ tt)
 
 full : Tally
 unfolding thousand
