@@ -4,14 +4,13 @@ use Rattle.std.proofs.Common.{lit≤, arith}
 use Rattle.std.specs.List.Sorted.{IsStrictlySortedBy}
 use Rattle.std.specs.Ordering.{int_cmp, int_eq}
 use borrow.Author.Tests.{leb-true, eqb-true}
-use Rattle.lvish_lattice.specs.declared.max_counter.MaxCounter.{MaxCounter}
+use Rattle.lvish_compound.specs.Vocabulary.{MaxCounter, HIGHEST_TOTAL}
 use Rattle.lvish_lattice.specs.Lattice.{IsAtOrBelow}
-use Rattle.lvish_compound.specs.declared.tally.Tally.{Tally}
+pub use Rattle.lvish_compound.specs.declared.tally.Tally.{Tally}
 use Rattle.lvish_compound.specs.Amounts as amounts
 use Rattle.lvish_compound.specs.MapOf as map_of
 use Rattle.lvish_compound.specs.MapReads.{holding}
 use Rattle.lvish_lattice.specs.MaxCounter.{level, level_within, zero}
-use Rattle.lvish_compound.specs.declared.limits.TheConstants.{HIGHEST_TOTAL}
 
 -- the type of a function's values
 abbrev Codomain : {A B : Type 0} → (A → B) → Type 0

@@ -1,6 +1,5 @@
 -- Numbers that only grow.
-use Rattle.std.specs.Prelude.{◌≡◌, ◌≤◌, ℕ, ℤ, pos, Bool, cond, List, Option, Some, Contains, find, map, option_map, nat_le}
-use Rattle.std.proofs.Common.{lit≤}
+use Rattle.std.proofs.Common.{◌≡◌, ◌≤◌, ℕ, ℤ, pos, Bool, cond, List, Option, Some, Contains, find, map, option_map, nat_le, lit≤}
 use Rattle.std.specs.List.{range_with_len}
 use Rattle.lvish_lattice.specs.declared.limits.TheConstants.{HIGHEST_LEVEL}
 use Rattle.lvish_lattice.specs.declared.max_counter.MaxCounter.{MaxCounter}

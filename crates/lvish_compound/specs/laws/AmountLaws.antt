@@ -11,12 +11,11 @@ use Rattle.std.specs.Cmp.{Equal-is, tied_itself}
 use Rattle.std.specs.List.{AllByRecursion}
 use Rattle.std.specs.List.Sorted.{IsStrictlySortedBy}
 use Rattle.std.specs.Ordering.{int_cmp, eq_by_cmp, is_eq, ordering_reverse}
-use Rattle.std.specs.declared.cmp.Ordering.TheVariants.{Less}
+use Rattle.lvish_compound.specs.Vocabulary.{Less, MaxCounter}
 use borrow.Author.Tests.{leb-true, leb-false}
 use Rattle.lvish_lattice.specs.Ascending.{below_all, level_all, and_left, and_right, and_both}
 use Rattle.lvish_lattice.specs.MaxCounter.{level, level_within, counter_of, zero as none, joined, events_of as levels_of}
 use Rattle.lvish_lattice.specs.laws.MaxCounterLaws.{counters_are_join, greater}
-use Rattle.lvish_lattice.specs.declared.max_counter.MaxCounter.{MaxCounter}
 use Rattle.lvish_compound.specs.Amounts.{level_of, total_of, level_at, gains, gain}
 use Rattle.lvish_compound.specs.Keyed.{key, at, has_no, add, add_all, of_key, events_of}
 use Rattle.lvish_compound.specs.laws.KeyedLaws.{at_below, added, add_joins, add_rises}
