@@ -1,20 +1,16 @@
 -- Where the states of a script's variables clash.
-use Rattle.std.specs.Prelude.{◌≡◌, ◌≢◌, ◌↔◌, ℤ, Bool, true, false, cond, Option, Some, None, option_map, refl}
-use Rattle.std.proofs.Common.{sym, ◌∙◌, ap, true≢false}
+use Rattle.std.proofs.Common.{◌≡◌, ◌≢◌, ◌↔◌, ℤ, Bool, true, false, cond, Option, Some, None, option_map, refl, sym, ◌∙◌, ap, true≢false}
 use Rattle.std.proofs.lemmas.Cmp.{int_eq_equiv}
 use Rattle.std.specs.Ordering.{int_eq}
 use Rattle.lvish_lattice.specs.Plain.{int_identical}
 use Rattle.lvish_lattice.specs.Top.{IsTopWhere, TwoValues}
-use Rattle.lvish_lattice.specs.declared.flat.Flat.TheVariants.{Value}
-use Rattle.lvish_compound.specs.declared.any.Any.{Any}
-use Rattle.lvish_compound.specs.declared.any.Any.TheVariants.{Part, Map, Sides, Tally}
+use Rattle.lvish_compound.specs.Vocabulary.{Value, Empty, Cell, Set, Max}
 use Rattle.lvish_compound.specs.declared.part.Part as part
-use Rattle.lvish_compound.specs.declared.part.Part.TheVariants.{Empty, Cell, Set, Max}
 use Rattle.lvish_compound.specs.Clashes.{AtSomeKey, PartsClash, Clash}
 use Rattle.lvish_compound.specs.Held.{HeldState, held}
 use Rattle.lvish_compound.specs.MapOf as map_of
 use Rattle.lvish_compound.specs.Parts as parts
-use Rattle.lvish_compound.specs.States.{nothing, of_map, of_pair, of_tally, unless_part, joined}
+use Rattle.lvish_compound.specs.States.{Part, Map, Sides, Tally, Any, nothing, of_map, of_pair, of_tally, unless_part, joined}
 use Rattle.lvish_compound.specs.laws.NumberLaws.{sets_join}
 use Rattle.lvish_compound.specs.laws.TallyLaws.{tallies_top}
 use Rattle.lvish_compound.proofs.Clashes.{pairs_clash}

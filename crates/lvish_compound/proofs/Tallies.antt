@@ -4,14 +4,12 @@ use Rattle.std.proofs.Common.{sym, ◌∙◌, ap, arith, true≢false}
 use Rattle.std.proofs.lemmas.List.Sums.{sum_by-cons}
 use Rattle.std.proofs.lemmas.Result.{IfOk-weaker}
 use Rattle.lvish_lattice.specs.Lattice.{events_beyond, fresh_of}
-use Rattle.lvish_lattice.specs.declared.max_counter.MaxCounter.{MaxCounter}
-use Rattle.lvish_compound.specs.declared.tally.Tally.{Tally}
+use Rattle.lvish_compound.specs.Vocabulary.{MaxCounter, HIGHEST_TOTAL}
 use Rattle.lvish_compound.specs.Amounts.{total_of, gains, gain}
 use Rattle.lvish_compound.specs.laws.AmountLaws.{gain_within}
 use Rattle.lvish_compound.specs.MapOf as map_of
-use Rattle.lvish_compound.specs.Tally.{Amounts, entries_of, tally_of, joined, events_of}
+use Rattle.lvish_compound.specs.Tally.{Tally, Amounts, entries_of, tally_of, joined, events_of}
 use Rattle.lvish_compound.specs.laws.TallyLaws.{same_tally, total_of_join, past_bound, made_there, joined_tally}
-use Rattle.lvish_compound.specs.declared.limits.TheConstants.{HIGHEST_TOTAL}
 
 -- a walk over the entries that are put
 pub gained_more : (es fs ks ms : List (ℤ × MaxCounter)) (f : ℤ × MaxCounter) (g : ℕ) → g + gain es ks ≡ gain es fs → ks ≡ f ∷ ms → (g + gains es f) + gain es ms ≡ gain es fs

@@ -1,7 +1,7 @@
 -- Ascending lists as sets: a list is determined by its members, and a merge is a join.
 use Rattle.std.specs.Prelude.{◌≡◌, Bool, true, false, not, ◌||◌, ◌&&◌, List, [], ◌∷◌, ◌↔◌, ◌++◌, All, refl, filter, slice_index_or, Contains, Result, Ok, Err, is_ok, nat_lt}
-use Rattle.std.proofs.Common.{sym, ◌∙◌, ap, subst, true≢false, arith, zero, suc, length, ◌<◌, ◌≤◌, ℕ, take, drop}
-use Rattle.std.proofs.Math.Bool.{or_comm, or_assoc, or-false}
+use Rattle.std.proofs.Common.{sym, ◌∙◌, ap, subst, true≢false, arith, zero, suc, length, ◌<◌, ◌≤◌, ℕ, take}
+use Rattle.std.proofs.Math.Bool.{or_comm, or_assoc, or-false, or_self}
 use Rattle.std.proofs.lemmas.List.{append-nil, take_at}
 use Rattle.std.specs.declared.cmp.Ordering.{Ordering}
 use Rattle.std.specs.declared.cmp.Ordering.TheVariants.{Less, Equal, Greater}
@@ -23,10 +23,6 @@ use Rattle.lvish_lattice.specs.Lattice.{IsIdentity}
 -- elements that tie are the same
 pub ties_are_same : {V : Type 0} {eq : V → V → Bool} (cmp : V → V → Ordering) → IsIdentity eq → ((x y : V) → eq x y ≡ is_eq (cmp x y)) → (x y : V) → cmp x y ≡ Equal → x ≡ y
 ties_are_same cmp same ties x y t = same x y (ties x y ∙ ap is_eq t)
-
-or_same : (a : Bool) → (a || a) ≡ a
-or_same true = refl
-or_same false = refl
 
 or_once : (t a b : Bool) → (t || (a || b)) ≡ ((t || a) || (t || b))
 or_once true a b = refl
@@ -126,7 +122,7 @@ module _ {K : Type 0} {R : K → K → Ordering} (o : IsTotalOrder R) where
   below_all x y [] h a = tt
   below_all x y (z ∷ zs) h a = (o.trans x y z h a.0, below_all x y zs h a.1)
 
-  level_all : (x y : K) (ys : List K) → R x y ≡ Equal → Below y ys → Below x ys
+  pub level_all : (x y : K) (ys : List K) → R x y ≡ Equal → Below y ys → Below x ys
   level_all x y [] h a = tt
   level_all x y (z ∷ zs) h a = (o.congr x y z h ∙ a.0, level_all x y zs h a.1)
 
@@ -211,7 +207,7 @@ module _ {K : Type 0} {R : K → K → Ordering} (o : IsTotalOrder R) where
     put_step x us ds ys e s t = merge_first x us ys (subst (IsStrictlySortedBy R) e s) t ∙ ap (λ l. merge l ys) (sym e)
 
     pub merge_same : (xs : List K) → IsStrictlySortedBy R xs → merge xs xs ≡ xs
-    merge_same xs s = same_members _ _ (merge_rises xs xs s s) s (λ q. merge_has q xs xs ∙ or_same (has xs q))
+    merge_same xs s = same_members _ _ (merge_rises xs xs s s) s (λ q. merge_has q xs xs ∙ or_self (has xs q))
 
     has_within : (xs ys : List K) → All (λ x. has ys x ≡ true) xs → (q : K) → has xs q ≡ true → has ys q ≡ true
     has_within [] ys h q m = absurd (true≢false (sym m))
@@ -265,12 +261,6 @@ merge_first_ends R xs ys e = rw e refl
 pub merge_second_ends : {K : Type 0} (R : K → K → Ordering) (xs ys : List K) → ys ≡ [] → sorted_merge R true xs ys ≡ xs ++ ys
 merge_second_ends R [] ys e = refl
 merge_second_ends R (x ∷ xs) ys e = rw e (sym (append-nil (x ∷ xs)))
-
-pub rises_drop : {K : Type 0} (R : K → K → Ordering) (n : ℕ) (xs : List K) → IsStrictlySortedBy R xs → IsStrictlySortedBy R (drop n xs)
-unfolding IsStrictlySortedBy
-rises_drop R zero xs s = s
-rises_drop R (suc n) [] s = s
-rises_drop R (suc n) (x ∷ xs) s = rises_drop R n xs s.1
 
 pub rises_take : {K : Type 0} (R : K → K → Ordering) (n : ℕ) (xs : List K) → IsStrictlySortedBy R xs → IsStrictlySortedBy R (take n xs)
 unfolding IsStrictlySortedBy

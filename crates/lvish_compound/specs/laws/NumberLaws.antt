@@ -1,49 +1,40 @@
 -- Reads by numbers of a cell, a set, a counter, and of a part that is one of them: when they are checked, and what they answer.
 use Rattle.std.specs.Prelude.{◌≡◌, ◌↔◌, ℕ, ℤ, pos, negsuc, Bool, true, false, cond, nat_le, List, [], ◌∷◌, Option, Some, None, Contains, find, is_some, refl, option_map}
-use Rattle.std.proofs.Common.{zero, suc, sym, ◌∙◌, ap, subst, inl, ⊎_elim, arith}
+use Rattle.std.proofs.Common.{sym, ◌∙◌, ap, subst, inl, ⊎_elim}
 use Rattle.std.proofs.Math.Bool.{or-false}
 use Rattle.std.specs.List.{list_all}
+use Rattle.std.proofs.lemmas.List.Sums.{AllPass-from_list_all}
 use Rattle.std.specs.Ordering.{int_eq}
 use Rattle.std.specs.Set.{is_member}
 use Rattle.std.proofs.lemmas.Cmp.{int_cmp_total, int_eq_equiv}
-use Rattle.lvish_lattice.specs.declared.flat.Flat.{Flat}
-use Rattle.lvish_lattice.specs.declared.flat.Flat.TheVariants.{Bottom, Value}
+use Rattle.lvish_compound.specs.Vocabulary.{Flat, Bottom, Value, MaxCounter, Test, Kind, Part, Empty, Set, Max, HIGHEST_LEVEL}
 use Rattle.lvish_lattice.specs.declared.flat.FlatRead.{FlatRead}
 use Rattle.lvish_lattice.specs.declared.flat.FlatRead.TheVariants as flat_read
 use Rattle.lvish_lattice.specs.declared.grow_set.Members.TheVariants as members
-use Rattle.lvish_lattice.specs.declared.max_counter.MaxCounter.{MaxCounter}
-use Rattle.lvish_lattice.specs.Ascending.{and_left, and_right}
 use Rattle.lvish_lattice.specs.Flat as flat
 use Rattle.lvish_lattice.specs.laws.FlatLaws.{flat_checked, flat_answers}
 use Rattle.lvish_lattice.specs.GrowSet as set
 use Rattle.lvish_lattice.specs.Members as members_of
 use Rattle.lvish_lattice.specs.declared.grow_set.Members.{Members}
 use Rattle.lvish_lattice.specs.Lattice.{IsAtOrBelow, Answers, IsChecked, IsAnswered}
-use Rattle.lvish_lattice.specs.Listed.{found, found_one}
+use Rattle.lvish_lattice.specs.Listed.{found, found_one, first_contained, only_contained}
 use Rattle.lvish_lattice.specs.MaxCounter as max
+use Rattle.lvish_lattice.specs.MaxCounter.{level}
 use Rattle.lvish_lattice.specs.laws.MaxCounterLaws.{reaches}
 use Rattle.lvish_lattice.specs.laws.MembersLaws.{sets_checked, sets_answer}
 use Rattle.lvish_lattice.specs.Plain.{int_identical}
-use Rattle.lvish_compound.specs.declared.number_test.Test.{Test}
 use Rattle.lvish_compound.specs.declared.number_test.Test.TheVariants.{Any, In, At}
 use Rattle.lvish_compound.specs.declared.part.Part.TheVariants as part
 use Rattle.lvish_compound.specs.Numbers.{max_of, max_by, Waits, StandsFor, ByNumber, HasOne, is_level, all_pass, are_levels, cell_answer, first_that, is_reached}
 use Rattle.lvish_compound.specs.Held.{HeldState, held}
 use Rattle.lvish_compound.specs.States.{singleton}
 use Rattle.std.proofs.lemmas.Option.{cond_some, same_Some}
-use Rattle.lvish_compound.specs.declared.kind.Kind.{Kind}
 use Rattle.lvish_compound.specs.declared.kind.Kind.TheVariants as kind
-use Rattle.lvish_compound.specs.declared.part.Part.{Part}
-use Rattle.lvish_compound.specs.declared.part.Part.TheVariants.{Empty, Set, Max}
 use Rattle.lvish_compound.specs.laws.Embedded.{kind_embedded, image_of_one, checked_there, answered_same}
 use Rattle.lvish_compound.specs.laws.PartLaws.{OfCell, OfSet, OfMax, part_one_of}
 use Rattle.lvish_compound.specs.Parts.{of_cell, joined}
 use Rattle.lvish_compound.specs.Places.{IsApart, fits_kind}
 use Rattle.lvish_compound.specs.StateReads.{part_answer}
-use Rattle.lvish_lattice.specs.declared.limits.TheConstants.{HIGHEST_LEVEL}
-
-first_contained : (n : ℤ) → Contains (n ∷ []) n
-first_contained n = (0, omega arith, refl)
 
 abbrev pub cell_at : ℤ → Option (Flat ℤ)
 cell_at n = Some (Value n)
@@ -53,20 +44,16 @@ flat_of Any = flat_read.Any
 flat_of (In xs) = flat_read.In xs
 flat_of (At n) = flat_read.In (n ∷ [])
 
-only_of : (n x : ℤ) → Contains (n ∷ []) x → n ≡ x
-only_of n x (zero, lt, e) = e
-only_of n x (suc i, lt, e) = absurd (omega arith)
-
 to_flat : (t : Test) (s : Flat ℤ) (n : ℤ) → ByNumber t (StandsFor cell_at) s n → flat.Member (flat_of t) s n
 to_flat Any s n m = subst (λ x. flat.Member flat_read.Any x n) (same_Some (Value n) s m.1) refl
 to_flat (In xs) s n m = subst (λ x. flat.Member (flat_read.In xs) x n) (same_Some (Value n) s m.1) (refl, m.0)
-to_flat (At k) s n m = subst (λ x. flat.Member (flat_read.In (k ∷ [])) x n) (same_Some (Value n) s m.1) (refl, subst (λ x. Contains (k ∷ []) x) m.0 (first_contained k))
+to_flat (At k) s n m = subst (λ x. flat.Member (flat_read.In (k ∷ [])) x n) (same_Some (Value n) s m.1) (refl, subst (λ x. Contains (k ∷ []) x) m.0 (first_contained k []))
 
 from_flat : (t : Test) (s : Flat ℤ) (n : ℤ) → flat.Member (flat_of t) s n → ByNumber t (StandsFor cell_at) s n
 from_flat t Bottom n m = absurd m
 from_flat Any (Value x) n m = (tt, ap (λ (v : ℤ). Some (Value v)) (sym m))
 from_flat (In xs) (Value x) n m = (subst (λ v. Contains xs v) m.0 m.1, ap (λ (v : ℤ). Some (Value v)) (sym m.0))
-from_flat (At k) (Value x) n m = (only_of k x m.1 ∙ m.0, ap (λ (v : ℤ). Some (Value v)) (sym m.0))
+from_flat (At k) (Value x) n m = (only_contained k x m.1 ∙ m.0, ap (λ (v : ℤ). Some (Value v)) (sym m.0))
 
 -- two reads with the same members
 checked_alike : {S A : Type 0} {join : S → S → Option S} {M N : S → A → Type 0} → ((s : S) (a : A) → M s a → N s a) → IsChecked join N → IsChecked join M
@@ -125,9 +112,7 @@ module _ {S : Type 0} (join : S → S → Option S) (at : ℤ → S → Type 0) 
   checked_by_one (At k) a b listed = (λ h x y m n v w. inl (sym v.0 ∙ w.0), λ h. tt)
 
 pub all_of : (test : ℤ → Bool) (xs : List ℤ) (n : ℤ) → list_all test xs ≡ true → Contains xs n → test n ≡ true
-all_of test [] n h c = absurd (omega (arith, c.1))
-all_of test (x ∷ xs) n h (zero, lt, e) = ap test (sym e) ∙ and_left (test x) (list_all test xs) h
-all_of test (x ∷ xs) n h (suc i, lt, e) = all_of test xs n (and_right (test x) (list_all test xs) h) (i, omega arith, e)
+all_of test xs n h c = ap test (sym c.2) ∙ AllPass-from_list_all test xs h c.0 n c.1
 
 -- a number that is waited for passes where all of them pass
 pub all_waited : (test : ℤ → Bool) (t : Test) → HasOne t → all_pass test t ≡ true → (n : ℤ) → Waits t n → test n ≡ true
@@ -145,7 +130,7 @@ sets_below : (s : HeldState part.Set) (n : ℤ) (m : HeldState part.Set) → set
 sets_below s n m e = (forth, back)
   where
     checked : IsChecked set.joined (SetMember (members.In (n ∷ [])))
-    checked = (sets_checked int_cmp_total (members.In (n ∷ []))).0 (λ x y c d. sym (only_of n x c) ∙ only_of n y d)
+    checked = (sets_checked int_cmp_total (members.In (n ∷ []))).0 (λ x y c d. sym (only_contained n x c) ∙ only_contained n y d)
 
     law : (find (is_member int_eq (set.items_of s)) (n ∷ []) ≡ Some n) ↔ Answers set.joined (SetMember (members.In (n ∷ []))) s n
     law = sets_answer int_cmp_total int_eq (λ x y. refl) int_identical (members.In (n ∷ [])) checked s n
@@ -156,7 +141,7 @@ sets_below s n m e = (forth, back)
         subst (λ x. IsAtOrBelow set.joined x s) (set.same_set a.0 (singleton n) a.1.1 ∙ same_Some _ _ e) a.2
 
     back : IsAtOrBelow set.joined m s → is_member int_eq (set.items_of s) n ≡ true
-    back h = (cond_some (is_member int_eq (set.items_of s) n) n n (law.1 (m, (first_contained n, ap set.items_of (sym (same_Some _ _ e))), h))).0
+    back h = (cond_some (is_member int_eq (set.items_of s) n) n n (law.1 (m, (first_contained n [], ap set.items_of (sym (same_Some _ _ e))), h))).0
 
 pub sets_join : (a b : HeldState part.Set) → set.joined a b ≡ None → ⊥
 sets_join a b h = cc (sym (set.joined-union int_cmp_total a b) ∙ h)
@@ -168,8 +153,8 @@ pub sets_answers : (t : Test) → IsChecked set.joined (ByNumber t (StandsFor se
 sets_answers t checked s n =
     first_answers set.joined (StandsFor set_at) t ((sets_one t).1 checked) s (is_member int_eq (set.items_of s)) (λ n w h. (singleton n, refl, (sets_below s n (singleton n) refl).0 h)) (λ n m e. (sets_below s n m e).1) n
 
-number_by : (n : ℕ) (b : Bool) (e : nat_le n HIGHEST_LEVEL ≡ b) (c : MaxCounter) → max_by n b e ≡ Some c → c.value ≡ n
-number_by n true e c h = sym (ap (λ (x : MaxCounter). x.value) (same_Some _ _ h))
+number_by : (n : ℕ) (b : Bool) (e : nat_le n HIGHEST_LEVEL ≡ b) (c : MaxCounter) → max_by n b e ≡ Some c → level c ≡ n
+number_by n true e c h = sym (ap level (same_Some _ _ h))
 number_by n false e c h = absurd cc
 
 -- the counter made from a number holds that number
@@ -179,7 +164,7 @@ number_of_max (negsuc n) c h = absurd cc
 
 maxes_below : (s : MaxCounter) (n : ℤ) (m : MaxCounter) → max_of n ≡ Some m → (is_reached (max.number_of s) n ≡ true) ↔ IsAtOrBelow max.joined m s
 maxes_below s n m e =
-    let same : is_reached (max.number_of s) n ≡ nat_le m.value s.value = ap (is_reached (max.number_of s)) (sym (number_of_max n m e)) in (
+    let same : is_reached (max.number_of s) n ≡ nat_le (level m) (level s) = ap (is_reached (max.number_of s)) (sym (number_of_max n m e)) in (
       (λ h. (reaches m s).1 (sym same ∙ h)),
       λ h. same ∙ (reaches m s).0 h,
     )

@@ -1,27 +1,17 @@
 -- Parts are a lattice: each is a cell, a set or a counter.
-use Rattle.std.specs.Prelude.{◌≡◌, ◌⊎◌, ℤ, Bool, true, false, Option, None, option_map, refl}
-use Rattle.std.proofs.Common.{sym, ap, inl, inr}
+use Rattle.std.proofs.Common.{◌≡◌, ◌⊎◌, ℤ, Bool, true, false, Option, None, option_map, refl, sym, ap, inl, inr}
 use Rattle.std.proofs.lemmas.Cmp.{int_cmp_total, int_eq_equiv, nat_eq_equiv}
 use Rattle.std.specs.Cmp.{IsEquivalence}
 use Rattle.std.specs.Ordering.{int_eq, int_cmp}
-use Rattle.std.specs.declared.cmp.Ordering.{Ordering}
-use Rattle.std.specs.declared.cmp.Ordering.TheVariants.{Less, Equal}
+use Rattle.lvish_compound.specs.Vocabulary.{Ordering, Less, Equal, Flat, Bottom, Value, MaxCounter, Pair, Part, Empty, Cell, Set, Max, SideOf, One, Two}
 use Rattle.lvish_lattice.specs.Ascending.{ties_are_same}
 use Rattle.lvish_lattice.specs.Lattice.{IsIdentity, IsJoin, HasEvents}
 use Rattle.lvish_lattice.specs.Plain.{int_identical}
-use Rattle.lvish_lattice.specs.declared.flat.Flat.{Flat}
-use Rattle.lvish_lattice.specs.declared.flat.Flat.TheVariants.{Bottom, Value}
-use Rattle.lvish_lattice.specs.declared.max_counter.MaxCounter.{MaxCounter}
 use Rattle.lvish_lattice.specs.Flat as flat
 use Rattle.lvish_lattice.specs.laws.FlatLaws.{flat_is_join, flat_has_events}
 use Rattle.lvish_lattice.specs.GrowSet as set
 use Rattle.lvish_lattice.specs.MaxCounter as max
 use Rattle.lvish_lattice.specs.laws.MaxCounterLaws.{counters_are_join, counters_have_events, counters_identical}
-use Rattle.lvish_compound.specs.declared.pair.Pair.{Pair}
-use Rattle.lvish_compound.specs.declared.part.Part.{Part}
-use Rattle.lvish_compound.specs.declared.part.Part.TheVariants.{Empty, Cell, Set, Max}
-use Rattle.lvish_compound.specs.declared.side_of.SideOf.{SideOf}
-use Rattle.lvish_compound.specs.declared.side_of.SideOf.TheVariants.{One, Two}
 use Rattle.lvish_compound.specs.Above.{same_above}
 use Rattle.lvish_compound.specs.Held.{HeldState, held, is_bottom, bottom_of, held_by, held_above, held_bottom}
 use Rattle.lvish_compound.specs.laws.Identity.{equiv_by_identity}
@@ -42,7 +32,7 @@ itself : (s : Part) → alike s s ≡ true
 itself Empty = refl
 itself (Cell n) = int_eq_equiv.refl n
 itself (Set x) = (set.alike_equiv int_eq_equiv).refl x.state
-itself (Max x) = nat_eq_equiv.refl x.state.value
+itself (Max x) = nat_eq_equiv.refl (max.level x.state)
 
 pub alike_equiv : IsEquivalence alike
 alike_equiv = equiv_by_identity alike alike_identical itself

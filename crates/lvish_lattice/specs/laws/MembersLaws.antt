@@ -1,6 +1,5 @@
 -- Reads of a set by a list of elements: when they are checked, and what they answer.
-use Rattle.std.specs.Prelude.{◌≡◌, ◌↔◌, Bool, true, [], ◌∷◌, None, All, Contains, refl}
-use Rattle.std.proofs.Common.{sym, ◌∙◌, ap, subst, inl, ⊎_elim, arith}
+use Rattle.std.proofs.Common.{◌≡◌, ◌↔◌, Bool, true, [], ◌∷◌, None, All, Contains, refl, sym, ◌∙◌, ap, subst, inl, ⊎_elim, arith}
 use Rattle.std.specs.Cmp.{IsTotalOrder}
 use Rattle.std.specs.Set.{is_member}
 use Rattle.std.specs.Ordering.{is_eq}
@@ -12,13 +11,13 @@ use Rattle.lvish_lattice.specs.declared.grow_set.GrowSet.{GrowSet}
 use Rattle.lvish_lattice.specs.declared.grow_set.Members.{Members}
 use Rattle.lvish_lattice.specs.Lattice.{IsIdentity, IsAtOrBelow, IsChecked, IsAnswered, IsWatched}
 use Rattle.lvish_lattice.specs.Ascending.{ties_are_same, one_rises, within_by}
-use Rattle.lvish_lattice.specs.GrowSet.{joined, joined-union, below_from, items_of}
+use Rattle.lvish_lattice.specs.GrowSet.{joined, joined-union, below_from, items_of, set_with}
 use Rattle.lvish_lattice.specs.Listed.{found, found_one, some_is_not_none, one_is_each, missed}
 use Rattle.lvish_lattice.specs.Members.{listed, Member, answer_of, spot_of, watched}
 
 module _ {V : Type 0} {o : ord.Ghosts V} {e : partial_eq.Ghosts V} {p : partial_ord.Ghosts V} (total : IsTotalOrder o.cmp) where
   abbrev single : V → GrowSet V o e p
-  single x = record { items = x ∷ []; ascending = one_rises o.cmp x }
+  single x = set_with (x ∷ []) (one_rises o.cmp x)
 
   never_top : (a b : GrowSet V o e p) → joined a b ≡ None → ⊥
   never_top a b h = some_is_not_none (joined a b) _ (joined-union total a b) h
