@@ -18,14 +18,14 @@ use Rattle.lvish_lattice.specs.Listed.{found, found_one, first_contained, only_c
 use Rattle.lvish_lattice.specs.MaxCounter as max
 use Rattle.lvish_lattice.specs.MaxCounter.{level}
 use Rattle.lvish_lattice.specs.laws.MaxCounterLaws.{reaches}
-use Rattle.lvish_lattice.specs.laws.MembersLaws.{below_has, has_below}
+use Rattle.lvish_lattice.specs.laws.MembersLaws.{never_top, below_has, has_below}
 use Rattle.lvish_lattice.specs.Plain.{int_identical}
 use Rattle.lvish_compound.specs.declared.number_test.Test.TheVariants.{Any, In, At}
 use Rattle.lvish_compound.specs.declared.part.Part.TheVariants as part
 use Rattle.lvish_compound.specs.Numbers.{max_of, max_by, Waits, StandsFor, ByNumber, HasOne, is_level, all_pass, are_levels, cell_answer, first_that, is_reached}
 use Rattle.lvish_compound.specs.Held.{HeldState, held}
 use Rattle.lvish_compound.specs.States.{singleton}
-use Rattle.std.proofs.lemmas.Option.{cond_some, same_Some}
+use Rattle.std.proofs.lemmas.Option.{cond_some, none-some, same_Some}
 use Rattle.lvish_compound.specs.declared.kind.Kind.TheVariants as kind
 use Rattle.lvish_compound.specs.laws.Embedded.{kind_embedded, image_of_one, checked_there, answered_same}
 use Rattle.lvish_compound.specs.laws.PartLaws.{OfCell, OfSet, OfMax, part_one_of}
@@ -119,11 +119,8 @@ sets_below s n m e =
     let is : set.items_of m ≡ n ∷ [] = ap set.items_of (sym (same_Some _ _ e)) in
     (below_has int_cmp_total int_eq (λ x y. refl) int_identical m s n is, has_below int_cmp_total int_eq (λ x y. refl) int_identical m s n is)
 
-pub sets_join : (a b : HeldState part.Set) → set.joined a b ≡ None → ⊥
-sets_join a b h = cc (sym (set.joined-union int_cmp_total a b) ∙ h)
-
 pub sets_one : (t : Test) → HasOne t ↔ IsChecked set.joined (ByNumber t (StandsFor set_at))
-sets_one t = checked_by_one set.joined (StandsFor set_at) (λ _. Unit {0}) (λ n _. (singleton n, refl)) (λ m n _ _. sets_join (singleton m) (singleton n)) t tt tt (λ _ _ _ _. tt)
+sets_one t = checked_by_one set.joined (StandsFor set_at) (λ _. Unit {0}) (λ n _. (singleton n, refl)) (λ m n _ _. never_top int_cmp_total (singleton m) (singleton n)) t tt tt (λ _ _ _ _. tt)
 
 pub sets_answers : (t : Test) → IsChecked set.joined (ByNumber t (StandsFor set_at)) → IsAnswered set.joined (ByNumber t (StandsFor set_at)) (λ s. first_that (is_member int_eq (set.items_of s)) t)
 sets_answers t checked s n =
@@ -155,11 +152,8 @@ IsLevel n = is_level n ≡ true
 level_of : (n : ℤ) → IsLevel n → (c : MaxCounter) × (max_of n ≡ Some c)
 level_of n h = is_there (max_of n) h
 
-counters_join : (a b : MaxCounter) → max.joined a b ≡ None → ⊥
-counters_join a b h = cc
-
 pub maxes_one : (t : Test) → are_levels t ≡ true → HasOne t ↔ IsChecked max.joined (ByNumber t (StandsFor max_of))
-maxes_one t levels = checked_by_one max.joined (StandsFor max_of) IsLevel level_of (λ m n h k. counters_join (level_of m h).0 (level_of n k).0) t refl refl (λ xs e n c. all_of is_level xs n (ap are_levels (sym e) ∙ levels) c)
+maxes_one t levels = checked_by_one max.joined (StandsFor max_of) IsLevel level_of (λ m n h k e. none-some _ (sym e)) t refl refl (λ xs e n c. all_of is_level xs n (ap are_levels (sym e) ∙ levels) c)
 
 pub maxes_answers : (t : Test) → are_levels t ≡ true → IsChecked max.joined (ByNumber t (StandsFor max_of)) → IsAnswered max.joined (ByNumber t (StandsFor max_of)) (λ c. first_that (is_reached (max.number_of c)) t)
 maxes_answers t levels checked c n =

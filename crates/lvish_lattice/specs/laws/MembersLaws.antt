@@ -19,7 +19,7 @@ module _ {V : Type 0} {o : ord.Ghosts V} {e : partial_eq.Ghosts V} {p : partial_
   abbrev single : V → GrowSet V o e p
   single x = set_with (x ∷ []) (one_rises o.cmp x)
 
-  never_top : (a b : GrowSet V o e p) → joined a b ≡ None → ⊥
+  pub never_top : (a b : GrowSet V o e p) → joined a b ≡ None → ⊥
   never_top a b h = some_is_not_none (joined a b) _ (joined-union total a b) h
 
   -- a read is checked exactly where any two listed elements are the same
