@@ -7,10 +7,10 @@ use Rattle.lvish_lattice.specs.Lattice.{IsAtOrBelow, fresh_of}
 use Rattle.lvish_compound.specs.Vocabulary.{MaxCounter, Part, Empty, Set, Max, SideOf, One, Two}
 use Rattle.lvish_lattice.specs.GrowSet as set
 use Rattle.lvish_lattice.specs.MaxCounter as max
-use Rattle.lvish_compound.specs.Held.{HeldState, held, held_by}
+use Rattle.lvish_compound.specs.Held.{HeldState, held, held_agrees}
 use Rattle.lvish_compound.proofs.Carried.{carried_leq, carried_fresh, held_carried, none_beyond, all_beyond}
 use Rattle.lvish_compound.specs.Parts.{joined, events_of, set_in, max_in}
-use Rattle.lvish_compound.specs.laws.PartLaws.{OfSet, OfMax, inside, same_set, same_max, part_is_join}
+use Rattle.lvish_compound.specs.laws.PartLaws.{OfSet, OfMax, inside, sets_identical, maxes_identical, part_is_join}
 use Rattle.lvish_compound.specs.Pair.{sides}
 use Rattle.lvish_compound.specs.laws.PairLaws.{sides_beyond}
 use Rattle.lvish_compound.specs.laws.Pointwise.{right_unit}
@@ -56,10 +56,10 @@ module _ (eq : SideOf ℤ (SideOf ℤ ℤ) → SideOf ℤ (SideOf ℤ ℤ) → B
   max_beyond xs zs = outer (sides [] xs) (sides [] zs) ∙ ap (λ l. sides [] l) (sides_beyond int_eq int_eq inner k.sets k.maxes k.set_max k.max_set [] [] xs zs)
 
   set_wraps : (s : HeldState Set) → events_of (held Set Empty s) ≡ as_set (set.items_of s)
-  set_wraps s = held_by Set Empty (λ v. events_of v ≡ as_set (set.items_of s)) s (λ e. ap (λ (v : HeldState Set). as_set (set.items_of v)) (sym (same_set s e))) (λ x e. ap (λ (v : HeldState Set). as_set (set.items_of v)) e)
+  set_wraps = held_agrees Set sets_identical Empty events_of (λ s. as_set (set.items_of s)) refl (λ x. refl)
 
   max_wraps : (s : MaxCounter) → events_of (held Max Empty s) ≡ as_max (max.events_of s)
-  max_wraps s = held_by Max Empty (λ v. events_of v ≡ as_max (max.events_of s)) s (λ e. ap (λ (v : MaxCounter). as_max (max.events_of v)) (sym (same_max s e))) (λ x e. ap (λ (v : MaxCounter). as_max (max.events_of v)) e)
+  max_wraps = held_agrees Max maxes_identical Empty events_of (λ s. as_max (max.events_of s)) refl (λ x. refl)
 
   pub sets_fresh : (xs : List ℤ) (s r : Part) (x z : _) (p q : HeldState Set) → s ≡ Set x → r ≡ Set z → p ≡ x.state → q ≡ z.state → xs ≡ fresh_of set.joined int_eq set.items_of p q → sides [] (sides xs []) ≡ fresh_of joined eq events_of s r
   sets_fresh = carried_fresh (held_carried Set Empty joined (λ x z. refl)) int_eq set.items_of eq events_of as_set refl set_beyond set_wraps

@@ -8,17 +8,18 @@ use Rattle.lvish_compound.specs.declared.sides.Sides as sides
 use Rattle.lvish_compound.proofs.Carried.{IsCarried, carried_fresh, held_carried, none_beyond, all_beyond}
 use Rattle.lvish_compound.specs.EventNames.{PartEvent, part_event, entry_event, tally_event, side_event}
 use Rattle.lvish_compound.specs.laws.EventLaws.{apart, names_beyond}
-use Rattle.lvish_compound.specs.Held.{HeldState, state_in, held_by}
+use Rattle.lvish_compound.specs.Held.{HeldState, state_in, held_agrees}
 use Rattle.lvish_compound.specs.MapOf as map_of
 use Rattle.lvish_compound.specs.Pair as pair
 use Rattle.lvish_compound.specs.Parts as parts
 use Rattle.lvish_compound.proofs.PartCalls.{IsByKind}
 use Rattle.lvish_compound.specs.laws.SidesLaws.{same_sides, same_none}
 use Rattle.lvish_compound.specs.laws.StateEvents.{TestsNames, part_eq, part_exact, entry_eq, entry_exact, side_eq, side_exact}
-use Rattle.lvish_compound.specs.laws.StateLaws.{inside, pair_by, same_map, same_empty_tally, of_sides_above, any_is_join}
+use Rattle.lvish_compound.specs.laws.StateLaws.{pair_by, maps_identical, of_sides_above, any_is_join}
 use Rattle.lvish_compound.specs.Sides.{pair_of}
 use Rattle.lvish_compound.specs.States.{Part, Map, Sides, Tally, Any, nothing, of_part, of_map, of_pair, of_tally, unless_part, joined, events_of}
 use Rattle.lvish_compound.specs.Tally as tally
+use Rattle.lvish_compound.specs.laws.TallyLaws as tally_laws
 use Rattle.lvish_compound.specs.declared.tally.Tally as tallies
 
 abbrev itself : part.Part → part.Part
@@ -50,7 +51,7 @@ module _ (en : Event → Event → Bool) (by : TestsNames en) where
   tallies_beyond = names_beyond entry_exact.0 entry_exact.1 by.same_name by.its_name tally_event (λ d e h i. ((h i).key, (h i).number))
 
   map_wraps : (m : HeldState Map) → events_of (of_map m) ≡ map entry_event (map_of.map_events_of m)
-  map_wraps m = held_by Map nothing (λ s. events_of s ≡ map entry_event (map_of.map_events_of m)) m (λ e. ap (λ (v : HeldState Map). map entry_event (map_of.map_events_of v)) (sym (same_map m e))) (λ x e. ap (λ (v : HeldState Map). map entry_event (map_of.map_events_of v)) e)
+  map_wraps = held_agrees Map maps_identical nothing events_of (λ m. map entry_event (map_of.map_events_of m)) refl (λ x. refl)
 
   abbrev pair_events : Pair part.Part part.Part → List (SideOf PartEvent PartEvent)
   pair_events = pair.events_of parts.events_of parts.events_of
@@ -68,7 +69,7 @@ module _ (en : Event → Event → Bool) (by : TestsNames en) where
   pairs_fresh = carried_fresh pairs_carried side_eq pair_events en events_of (map side_event) refl sides_beyond pair_wraps
 
   tally_wraps : (t : tallies.Tally) → events_of (of_tally t) ≡ map tally_event (tally.events_of t)
-  tally_wraps t = held_by Tally nothing (λ s. events_of s ≡ map tally_event (tally.events_of t)) t (λ e. ap (λ (v : tallies.Tally). map tally_event (tally.events_of v)) (sym (same_empty_tally t e))) (λ x e. ap (λ (v : tallies.Tally). map tally_event (tally.events_of v)) e)
+  tally_wraps = held_agrees Tally tally_laws.alike_identical nothing events_of (λ t. map tally_event (tally.events_of t)) refl (λ x. refl)
 
   pub tallies_fresh : (xs : List (ℤ × ℤ)) (s r : Any) (x z : _) (p q : tallies.Tally) → s ≡ Tally x → r ≡ Tally z → p ≡ x.state → q ≡ z.state → xs ≡ fresh_of tally.joined entry_eq tally.events_of p q → map tally_event xs ≡ fresh_of joined en events_of s r
   tallies_fresh = carried_fresh tallies_carried entry_eq tally.events_of en events_of (map tally_event) refl tallies_beyond tally_wraps

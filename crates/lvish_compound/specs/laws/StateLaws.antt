@@ -12,7 +12,7 @@ use Rattle.lvish_compound.specs.declared.part.Part as part
 use Rattle.lvish_compound.specs.declared.sides.Sides as sides
 use Rattle.lvish_compound.specs.declared.tally.Tally as tallies
 use Rattle.lvish_compound.specs.Above.{same_above}
-use Rattle.lvish_compound.specs.Held.{HeldState, is_bottom, test_of, bottom_of, held_by, held_above, held_bottom}
+use Rattle.lvish_compound.specs.Held.{HeldState, test_of, bottom_of, held_agrees, held_above, held_bottom}
 use Rattle.lvish_compound.specs.MapOf as map_of
 use Rattle.lvish_compound.specs.laws.MapLaws as map_laws
 use Rattle.lvish_compound.specs.laws.Identity.{equiv_by_identity}
@@ -43,8 +43,8 @@ value_itself (Value n) = int_eq_equiv.refl n
 same_entry : IsIdentity entry_test
 same_entry = pairs_identical int_eq value_test int_identical same_value entry_test (λ p q. refl)
 
-pub same_map : (m : HeldState Map) → is_bottom Map m ≡ true → m ≡ bottom_of Map
-same_map m e = map_laws.alike_identical same_entry m (bottom_of Map) e
+pub maps_identical : IsIdentity (test_of Map)
+maps_identical = map_laws.alike_identical same_entry
 
 map_itself : (x : HeldState Map) → test_of Map x x ≡ true
 map_itself x = (map_laws.alike_equiv (equiv_by_identity entry_test same_entry (λ p. and_both (int_eq_equiv.refl p.0) (value_itself p.1)))).refl x
@@ -80,9 +80,6 @@ pair_by P p f g = elim (parts.no_sides p) as (λ t. parts.no_sides p ≡ t → P
   | true ↦ λ e. subst P (sym (of_no_sides p e)) (f e)
   | false ↦ λ e. let z : sides.Sides = record { pair = p; rises = e } in subst P (sym (of_sides_above z)) (g z refl)
 ] refl
-
-pub same_empty_tally : (t : tallies.Tally) → is_bottom Tally t ≡ true → t ≡ bottom_of Tally
-same_empty_tally t e = tally_laws.alike_identical t (bottom_of Tally) e
 
 pub data StateKind : Type 0 where
   OfPart OfMap OfSides OfTally : StateKind
@@ -145,9 +142,9 @@ whole (Tally x) = held_above Tally nothing x
 
 pub inside : (k : StateKind) (x : Inner k) → held_in k (of k x) ≡ x
 inside OfPart s = refl
-inside OfMap m = held_by Map nothing (λ s. map_in s ≡ m) m (λ e. sym (same_map m e)) (λ x e. e)
+inside OfMap m = held_agrees Map maps_identical nothing map_in (λ x. x) refl (λ x. refl) m
 inside OfSides p = pair_by (λ s. sides_in s ≡ p) p (λ e. sym (same_none p e)) (λ z e. e)
-inside OfTally t = held_by Tally nothing (λ s. tally_in s ≡ t) t (λ e. sym (same_empty_tally t e)) (λ x e. e)
+inside OfTally t = held_agrees Tally tally_laws.alike_identical nothing tally_in (λ x. x) refl (λ x. refl) t
 
 outside : (s : Any) (k : StateKind) → (kind s ≡ k → ⊥) → held_in k s ≡ least k
 outside (Part s) OfPart h = absurd (h refl)

@@ -79,10 +79,6 @@ made_from m false h t e = absurd cc
 pub made_there : (m : Amounts) → total_of m.entries ≤ HIGHEST_TOTAL → (t : Tally) × (tally_of m ≡ Some t) × (t.amounts ≡ m)
 made_there m h = let t : Tally = record { amounts = m; total = total_of m.entries; counted = refl; bounded = h } in (t, made_is m t refl, refl)
 
--- a map whose total is past the bound is that of no tally
-pub past_bound : (m : Amounts) → HIGHEST_TOTAL < total_of m.entries → tally_of m ≡ None
-past_bound m l = unless_some (tally_of m) (λ t e. omega (arith, l, t.counted, t.bounded, ap (λ (v : Amounts). total_of v.entries) (made_from m (nat_le (total_of m.entries) HIGHEST_TOTAL) refl t e)))
-
 pub joined_amounts : (s t u : Tally) → joined s t ≡ Some u → map_of.joined s.amounts t.amounts ≡ Some u.amounts
 joined_amounts s t u e = let m = bound tally_of (map_of.joined s.amounts t.amounts) u e in m.1 ∙ ap Some (sym (made_from m.0 (nat_le (total_of m.0.entries) HIGHEST_TOTAL) refl u m.2))
 
@@ -152,10 +148,10 @@ top_is_past s t h =
     (map key c.0.entries, c.0.ascending, omega (arith, past, sum))
 
 past_is_top : (s t : Tally) → IsPastTotal s t → joined s t ≡ None
-past_is_top s t (ks, rise, past) =
-    let c : (c : Amounts) × (map_of.joined s.amounts t.amounts ≡ Some c) = amounts_join s.amounts t.amounts in
-    let sum : sum_by (greater_level s t) ks ≡ sum_by (level_at c.0.entries) ks = ap (λ (f : ℤ → ℕ). sum_by f ks) (λ i q. sym (greater_at s t c.0 c.1 q) i) in
-    ap (option_and_then tally_of) c.1 ∙ past_bound c.0 (omega (arith, past, sum, keys_within c.0.entries ks rise))
+past_is_top s t (ks, rise, past) = unless_some (joined s t) (λ u e.
+    let c = joined_amounts s t u e in
+    let sum : sum_by (greater_level s t) ks ≡ sum_by (level_at u.amounts.entries) ks = ap (λ (f : ℤ → ℕ). sum_by f ks) (λ i q. sym (greater_at s t u.amounts c q) i) in
+    omega (arith, past, sum, keys_within u.amounts.entries ks rise, u.counted, u.bounded))
 
 -- a join is top exactly where the greater amounts add up to more than 10,000
 pub tallies_top : IsTopWhere joined IsPastTotal
