@@ -38,10 +38,6 @@ module _ {K : Type 0} {R : K → K → Ordering} (o : IsTotalOrder R) where
       merge_has o q (x ∷ xs) ys ∙ regrouped (eq_by_cmp R q x) (is_member (eq_by_cmp R) xs q) (is_member (eq_by_cmp R) ys q)
       ∙ sym (merge_has o q xs (sorted_merge R true (x ∷ []) ys) ∙ ap (λ b. is_member (eq_by_cmp R) xs q || b) (merge_has o q (x ∷ []) ys))))
 
-  -- a list that ascends and has the members of another that does is the other
-  pub from_members : ((x y : K) → R x y ≡ Equal → x ≡ y) → (xs ys : List K) → IsStrictlySortedBy R xs → IsStrictlySortedBy R ys → ((q : K) → is_member (eq_by_cmp R) xs q ≡ is_member (eq_by_cmp R) ys q) → xs ≡ ys
-  from_members same xs ys s t h = same_members o same xs ys s t h
-
 pub tail_rises : {K : Type 0} (R : K → K → Ordering) (x : K) (xs : List K) → IsStrictlySortedBy R (x ∷ xs) → IsStrictlySortedBy R xs
 unfolding IsStrictlySortedBy
 tail_rises R x xs s = s.1

@@ -50,13 +50,22 @@ impl<V: Ord> Model for Elements<V> {
     ghost view = { λ s. elements s.stored };
 }
 
+/// Puts the value in its place in the tree.
+fn put_in_tree<V: Plain>(tree: &mut BTreeSet<V>, x: V) -> Result<(), AllocError>
+    ensures put { IfOk result (λ _. tree.new.keys ≡ sorted_merge V.cmp true (x ∷ []) tree.old.keys) }
+    ensures refused { IfErr result (λ _. tree.new ≡ tree.old) }
+{
+    tree.insert(x)?;
+    Ok(())
+}
+
 /// A tree of two elements.
 fn tree_of_two<V: Plain>(alloc: Global, x: V, y: V) -> Result<BTreeSet<V>, AllocError>
     ensures { IfOk result (λ t. t.keys ≡ sorted_merge V.cmp true (x ∷ []) (y ∷ [])) }
 {
     let mut tree = BTreeSet::new(alloc);
-    tree.insert(y)?;
-    tree.insert(x)?;
+    put_in_tree(&mut tree, y)?;
+    put_in_tree(&mut tree, x)?;
     Ok(tree)
 }
 
@@ -71,13 +80,12 @@ fn grown<V: Plain>(alloc: Global, held: Option<V>, x: V) -> Result<Stored<V>, Al
     }
 }
 
-/// Puts the value in its place in the tree.
-fn put_in_tree<V: Plain>(tree: &mut BTreeSet<V>, x: V) -> Result<(), AllocError>
-    ensures put { IfOk result (λ _. tree.new.keys ≡ sorted_merge V.cmp true (x ∷ []) tree.old.keys) }
-    ensures refused { IfErr result (λ _. tree.new ≡ tree.old) }
+/// A tree of the same elements.
+fn tree_copy<V: Plain>(alloc: Global, tree: &BTreeSet<V>) -> Result<BTreeSet<V>, AllocError>
+    ensures made { IfOk result (λ t. IsFromIterResult V.cmp tree.now.keys t) }
+    ensures ascending { IsStrictlySortedBy V.cmp tree.now.keys }
 {
-    tree.insert(x)?;
-    Ok(())
+    tree.iter().copied().collect::<BTreeSet<V>>(alloc)
 }
 
 impl<V: Plain> Elements<V> {
@@ -246,12 +254,4 @@ impl<V: Plain> Elements<V> {
             }
         }
     }
-}
-
-/// A tree of the same elements.
-fn tree_copy<V: Plain>(alloc: Global, tree: &BTreeSet<V>) -> Result<BTreeSet<V>, AllocError>
-    ensures made { IfOk result (λ t. IsFromIterResult V.cmp tree.now.keys t) }
-    ensures ascending { IsStrictlySortedBy V.cmp tree.now.keys }
-{
-    tree.iter().copied().collect::<BTreeSet<V>>(alloc)
 }
