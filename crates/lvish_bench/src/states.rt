@@ -11,7 +11,7 @@ pub fn grow_set(alloc: Global, order: ElementOrder, count: u32) -> Result<usize,
         let put = GrowSet::of(alloc, &[order.element(place)])?;
         set.merge(alloc, &put)?;
     }
-    Ok(set.items().len())
+    Ok(set.items().count())
 }
 
 /// The size of a map to which this many keys were joined, one at a time.

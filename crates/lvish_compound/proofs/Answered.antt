@@ -3,10 +3,8 @@ use Rattle.std.proofs.Common.{◌≡◌, ℤ, List, [], ◌∷◌, None, find, r
 use Rattle.std.specs.Ordering.{int_eq}
 use Rattle.std.specs.Set.{is_member}
 use Rattle.lvish_compound.specs.declared.kind.Kind.TheVariants as kind
-use Rattle.lvish_compound.specs.declared.number_test.Test.{Test}
+use Rattle.lvish_compound.specs.Vocabulary.{Test, Part, Empty, Cell, Set, Max}
 use Rattle.lvish_compound.specs.declared.number_test.Test.TheVariants.{Any, In, At}
-use Rattle.lvish_compound.specs.declared.part.Part.{Part}
-use Rattle.lvish_compound.specs.declared.part.Part.TheVariants.{Empty, Cell, Set, Max}
 use Rattle.lvish_compound.specs.Numbers.{first_that}
 use Rattle.lvish_compound.specs.StateReads.{part_answer}
 

@@ -1,8 +1,7 @@
 -- What the entries of a put bring.
 use Rattle.std.proofs.Common.{◌≡◌, ◌==◌, ℕ, Bool, true, false, not, ◌&&◌, ◌||◌, List, [], ◌∷◌, map, filter, length, Option, Some, None, is_some, true≢false, refl, sym, ◌∙◌, ap, subst, arith, ◌++◌, append_assoc}
 use Rattle.std.proofs.lemmas.Bool.Decides.{nat_tests}
-use Rattle.std.specs.declared.cmp.Ordering.{Ordering}
-use Rattle.std.specs.declared.cmp.Ordering.TheVariants.{Less, Equal, Greater}
+use Rattle.lvish_compound.specs.Vocabulary.{Ordering, Less, Equal, Greater}
 use Rattle.std.specs.Ordering.{eq_by_cmp, is_eq, ordering_then}
 use Rattle.std.specs.Cmp.{IsTotalOrder, Equal-is, eq_by_cmp_equiv, on_total, then_total, tied_then}
 use Rattle.std.specs.Set.{is_member}
@@ -11,9 +10,13 @@ use Rattle.std.proofs.lemmas.Map.Made.{is_member-filter}
 use Rattle.std.proofs.lemmas.List.Kept.{IsStrictlySortedBy-filter}
 use Rattle.lvish_lattice.specs.Lattice.{IsJoin, IsAtOrBelow, HasEvents, fresh_of, events_beyond}
 use Rattle.lvish_lattice.specs.Ascending.{same_members, nothing_rises}
+use Rattle.lvish_lattice.specs.Listed.{unless_some}
 use Rattle.lvish_compound.specs.Keyed.{key, at, both_tie, by_both, of_key, events_by, events_of}
 use Rattle.lvish_compound.specs.laws.KeyedLaws.{events_have, events_rise}
 use Rattle.std.proofs.lemmas.List.{append-nil}
+use Rattle.lvish_compound.specs.laws.Pointwise.{right_unit}
+use Rattle.lvish_compound.proofs.Carried.{all_beyond}
+use Rattle.lvish_compound.proofs.PairFresh.{nothing_beyond}
 
 pub no_length : {A : Type 0} (xs : List A) (n : ℕ) → length xs ≡ n → true ≡ (n == 0) → xs ≡ []
 no_length [] n e t = refl
@@ -47,27 +50,16 @@ module _ {L E : Type 0} {least : L} {join : L → L → Option L} {ev : L → Li
   kept_rises : (x : L) (ys : List E) → IsStrictlySortedBy C ys → IsStrictlySortedBy C (kept x ys)
   kept_rises x ys s = IsStrictlySortedBy-filter C (λ e. not (has (ev x) e)) ys s
 
-  never_both : (b : Bool) → (b && not b) ≡ false
-  never_both true = refl
-  never_both false = refl
-
-  beyond_itself : (x : L) → kept x (ev x) ≡ []
-  beyond_itself x = same_members oc same_event _ _ (kept_rises x (ev x) (h.ascending x)) (nothing_rises C) (λ q. kept_has x (ev x) q ∙ never_both (has (ev x) q))
-
   -- bottom brings nothing
   pub least_brings : (x : L) → fresh_of join (eq_by_cmp C) ev x least ≡ []
-  least_brings x = ap (events_beyond (eq_by_cmp C) ev x) (j.commutative x least ∙ j.unit x) ∙ beyond_itself x
+  least_brings x = ap (events_beyond (eq_by_cmp C) ev x) (right_unit j x) ∙ nothing_beyond (eq_by_cmp C) (eq_by_cmp_equiv oc).refl (ev x)
 
   pub fresh_rises : (x p : L) → IsStrictlySortedBy C (fresh_of join (eq_by_cmp C) ev x p)
   fresh_rises x p = elim (join x p) as (λ r. IsStrictlySortedBy C (events_beyond (eq_by_cmp C) ev x r)) [ None ↦ nothing_rises C | Some c ↦ kept_rises x (ev c) (h.ascending c) ]
 
-  all_kept : (ys : List E) → filter (λ e. true) ys ≡ ys
-  all_kept [] = refl
-  all_kept (y ∷ ys) = ap (λ zs. y ∷ zs) (all_kept ys)
-
   -- to bottom a part brings all its events
   pub to_least : (p : L) → (is_some (join least p) ≡ true) × (ev p ≡ fresh_of join (eq_by_cmp C) ev least p)
-  to_least p = (ap is_some (j.unit p), sym (ap (events_beyond (eq_by_cmp C) ev least) (j.unit p) ∙ ap (λ xs. filter (λ e. not (has xs e)) (ev p)) h.none ∙ all_kept (ev p)))
+  to_least p = (ap is_some (j.unit p), sym (ap (events_beyond (eq_by_cmp C) ev least) (j.unit p) ∙ ap (λ xs. filter (λ e. not (has xs e)) (ev p)) h.none ∙ sym (all_beyond (eq_by_cmp C) (ev p))))
 
   only_old : (a b c : Bool) → c ≡ (a || b) → (c && not a) ≡ false → c ≡ a
   only_old true b c u n = u
@@ -79,11 +71,7 @@ module _ {L E : Type 0} {least : L} {join : L → L → Option L} {ev : L → Li
   old_join x p c e n = h.determine c x (same_members oc same_event _ _ (h.ascending c) (h.ascending x) (λ q. only_old (has (ev x) q) (has (ev p) q) (has (ev c) q) (h.union x p c e q) (sym (kept_has x (ev c) q) ∙ ap (λ ys. has ys q) n)))
 
   pub nothing_fresh : (x p : L) → fresh_of join (eq_by_cmp C) ev x p ≡ [] → (IsAtOrBelow join p x → ⊥) → join x p ≡ None
-  nothing_fresh x p n b = by_join (join x p) refl n
-    where
-      by_join : (r : Option L) → join x p ≡ r → events_beyond (eq_by_cmp C) ev x r ≡ [] → r ≡ None
-      by_join None e n = refl
-      by_join (Some c) e n = absurd (b (j.commutative p x ∙ e ∙ ap Some (old_join x p c e n)))
+  nothing_fresh x p n b = unless_some _ (λ c e. b (j.commutative p x ∙ e ∙ ap Some (old_join x p c e (sym (ap (events_beyond (eq_by_cmp C) ev x) e) ∙ n))))
 
   -- the same by a test that holds where two events tie
   module _ (eq : E → E → Bool) (ties : (x y : E) → eq x y ≡ is_eq (C x y)) where

@@ -5,12 +5,7 @@ use Rattle.std.proofs.lemmas.Result.{IfOk-weaker}
 use Rattle.std.specs.Set.{is_member}
 use Rattle.lvish_lattice.specs.Lattice.{IsAtOrBelow, events_beyond, fresh_of}
 use Rattle.std.proofs.lemmas.Option.{same_Some}
-use Rattle.std.specs.declared.cmp.Ord as ord
-use Rattle.std.specs.declared.cmp.PartialEq as partial_eq
-use Rattle.std.specs.declared.cmp.PartialOrd as partial_ord
-use Rattle.std.specs.declared.hash.Hash as hash
-use Rattle.lvish_lattice.specs.declared.lattice.Lattice as lattice
-use Rattle.lvish_compound.specs.declared.above.Above.{Above}
+use Rattle.lvish_compound.specs.Vocabulary.{OrdGhosts, PartialEqGhosts, PartialOrdGhosts, HashGhosts, LatticeGhosts, Above}
 use Rattle.lvish_compound.specs.Above.{state_of, same_above}
 use Rattle.lvish_compound.proofs.PairFresh.{nothing_beyond}
 use Rattle.lvish_compound.specs.Held.{held, held_above}
@@ -87,6 +82,6 @@ pub none_beyond : {S N : Type 0} (eq : N → N → Bool) → ((n : N) → eq n n
 none_beyond eq its ev s o e = sym (ap (events_beyond eq ev s) e ∙ nothing_beyond eq its (ev s))
 
 -- a state under a name holds the state
-pub held_carried : {L E S : Type 0} {l : lattice.Ghosts L E} {le : partial_eq.Ghosts L} {eo : ord.Ghosts E} {ee : partial_eq.Ghosts E} {ep : partial_ord.Ghosts E} {eh : hash.Ghosts E} (put : Above L E l le eo ee ep eh → S) (nothing : S) (join : S → S → Option S)
+pub held_carried : {L E S : Type 0} {l : LatticeGhosts L E} {le : PartialEqGhosts L} {eo : OrdGhosts E} {ee : PartialEqGhosts E} {ep : PartialOrdGhosts E} {eh : HashGhosts E} (put : Above L E l le eo ee ep eh → S) (nothing : S) (join : S → S → Option S)
     → ((x z : Above L E l le eo ee ep eh) → join (put x) (put z) ≡ option_map (held put nothing) (l.joined x.state z.state)) → IsCarried put state_of (held put nothing) join l.joined
 held_carried put nothing join inside = record { back = held_above put nothing; same = same_above; inside = inside }

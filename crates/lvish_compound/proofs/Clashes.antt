@@ -4,16 +4,10 @@ use Rattle.std.proofs.Common.{sym, ◌∙◌, ap, inl, inr, ⊎_elim}
 use Rattle.std.specs.Cmp.{IsTotalOrder}
 use Rattle.std.specs.List.Sorted.{IsStrictlySortedBy}
 use Rattle.std.specs.Ordering.{eq_by_cmp}
-use Rattle.std.specs.declared.cmp.Ordering.{Ordering}
-use Rattle.std.specs.declared.cmp.Ordering.TheVariants.{Equal}
-use Rattle.std.specs.declared.cmp.Ord as ord
-use Rattle.std.specs.declared.cmp.PartialEq as partial_eq
-use Rattle.std.specs.declared.cmp.PartialOrd as partial_ord
-use Rattle.std.specs.declared.hash.Hash as hash
+use Rattle.lvish_compound.specs.Vocabulary.{Ordering, Equal, OrdGhosts, PartialEqGhosts, PartialOrdGhosts, HashGhosts, LatticeGhosts}
 use Rattle.lvish_lattice.specs.Lattice.{IsJoin, IsIdentity}
-use Rattle.lvish_lattice.specs.Listed.{some_is_not_none}
+use Rattle.lvish_lattice.specs.Listed.{some_is_not_none, unless_some}
 use Rattle.lvish_lattice.specs.Top.{IsTopWhere}
-use Rattle.lvish_lattice.specs.declared.lattice.Lattice as lattice
 use Rattle.lvish_compound.specs.declared.map_of.MapOf.{MapOf}
 use Rattle.lvish_compound.specs.Clashes.{JoinToTop, AtSomeKey, AtSomeSide}
 use Rattle.lvish_compound.specs.Keyed.{key, at, add, add_all}
@@ -32,11 +26,7 @@ module _ {K L : Type 0} (R : K → K → Ordering) (least : L) (join : L → L �
 
   -- an entry that can't be added joins to top
   add_top : (k : K) (v : L) (es : List (K × L)) → add R least join k v es ≡ None → join (at R least join es k) v ≡ None
-  add_top k v es h = by_join (join (at R least join es k) v) refl
-    where
-      by_join : (r : Option L) → join (at R least join es k) v ≡ r → r ≡ None
-      by_join None e = refl
-      by_join (Some w) e = let m = add_there R least join o j k v es w e in absurd (some_is_not_none (add R least join k v es) m.0 m.1 h)
+  add_top k v es h = unless_some _ (λ w e. let m = add_there R least join o j k v es w e in some_is_not_none (add R least join k v es) m.0 m.1 h)
 
   -- a key where the rest joins to top, once the first entry is added, isn't that of the entry
   at_later : (f : K × L) (fs es gs : List (K × L)) (q : K) → Ascends es → Ascends (f ∷ fs) → add R least join f.0 f.1 es ≡ Some gs → TopAt gs fs q → TopAt es (f ∷ fs) q
@@ -57,22 +47,14 @@ module _ {K L : Type 0} (R : K → K → Ordering) (least : L) (join : L → L �
           let p : (q : K) × TopAt gs fs q = later gs (add_rises R least join o j f.0 f.1 es gs s e) t.1 (sym (ap (option_and_then (λ hs. add_all R least join hs fs)) e) ∙ h) in
           (p.0, at_later f fs es gs p.0 s t e p.1)
 
-module _ {K L E : Type 0} {ko : ord.Ghosts K} {ke : partial_eq.Ghosts K} {kp : partial_ord.Ghosts K} {l : lattice.Ghosts L E} {le : partial_eq.Ghosts L} {eo : ord.Ghosts E} {ee : partial_eq.Ghosts E} {ep : partial_ord.Ghosts E} {eh : hash.Ghosts E}
+module _ {K L E : Type 0} {ko : OrdGhosts K} {ke : PartialEqGhosts K} {kp : PartialOrdGhosts K} {l : LatticeGhosts L E} {le : PartialEqGhosts L} {eo : OrdGhosts E} {ee : PartialEqGhosts E} {ep : PartialOrdGhosts E} {eh : HashGhosts E}
     (o : IsTotalOrder ko.cmp) (same_key : (x y : K) → ko.cmp x y ≡ Equal → x ≡ y) (j : IsJoin l.least l.joined) (itself : (x : L) → le.eq x x ≡ true) (same : IsIdentity le.eq) where
   -- where the maps have no join, their entries have none
   no_entries : (a b : MapOf K L E ko ke kp l le eo ee ep eh) → map_of.joined a b ≡ None → add_all ko.cmp l.least l.joined a.entries b.entries ≡ None
-  no_entries a b h = by_add (add_all ko.cmp l.least l.joined a.entries b.entries) refl
-    where
-      by_add : (r : Option (List (K × L))) → add_all ko.cmp l.least l.joined a.entries b.entries ≡ r → r ≡ None
-      by_add None e = refl
-      by_add (Some es) e = let w = map_laws.with_entries o same_key j itself same a b es e in absurd (some_is_not_none (map_of.joined a b) w.0 w.2 h)
+  no_entries a b h = unless_some _ (λ es e. let w = map_laws.with_entries o same_key j itself same a b es e in some_is_not_none (map_of.joined a b) w.0 w.2 h)
 
   no_join : (a b : MapOf K L E ko ke kp l le eo ee ep eh) (q : K) → l.joined (map_of.at a q) (map_of.at b q) ≡ None → map_of.joined a b ≡ None
-  no_join a b q h = by_join (map_of.joined a b) refl
-    where
-      by_join : (r : Option (MapOf K L E ko ke kp l le eo ee ep eh)) → map_of.joined a b ≡ r → r ≡ None
-      by_join None e = refl
-      by_join (Some c) e = absurd (some_is_not_none (l.joined (map_of.at a q) (map_of.at b q)) _ (map_laws.joins_places o same_key j itself same a b c e q) h)
+  no_join a b q h = unless_some _ (λ c e. some_is_not_none (l.joined (map_of.at a q) (map_of.at b q)) _ (map_laws.joins_places o same_key j itself same a b c e q) h)
 
   pub maps_top : IsTopWhere (map_of.joined {ko = ko} {ke = ke} {kp = kp} {l = l} {le = le} {eo = eo} {ee = ee} {ep = ep} {eh = eh}) (AtSomeKey {ko = ko} {ke = ke} {kp = kp} {l = l} {le = le} {eo = eo} {ee = ee} {ep = ep} {eh = eh} (JoinToTop l.joined))
   maps_top a b = (λ h. all_top ko.cmp l.least l.joined o j b.entries a.entries a.ascending b.ascending (no_entries a b h), λ w. no_join a b w.0 w.1)

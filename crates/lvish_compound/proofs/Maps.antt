@@ -3,21 +3,14 @@ use Rattle.std.proofs.Common.{◌≡◌, Bool, true, false, not, ◌&&◌, Match
 use Rattle.std.proofs.lemmas.Result.{IfErr-weaker, IfOk-weaker}
 use Rattle.std.specs.Cmp.{IsTotalOrder, both_tied}
 use Rattle.std.specs.Ordering.{eq_by_cmp, is_eq}
-use Rattle.std.specs.declared.cmp.Ordering.{Ordering}
-use Rattle.std.specs.declared.cmp.Ordering.TheVariants.{Equal}
+use Rattle.lvish_compound.specs.Vocabulary.{Ordering, Equal, OrdGhosts, PartialEqGhosts, PartialOrdGhosts, HashGhosts, LatticeGhosts}
 use Rattle.std.specs.List.Sorted.{IsStrictlySortedBy}
 use Rattle.lvish_lattice.specs.Lattice.{IsIdentity, IsJoin, HasEvents, fresh_of, events_beyond}
 use Rattle.lvish_compound.specs.Keyed.{key, has_no, add, add_all, events_by}
 use Rattle.lvish_compound.specs.laws.KeyedLaws.{add_rises, add_above}
-use Rattle.lvish_compound.specs.MapOf.{same_map, map_of, map_of-entries, joined, at, map_events_of}
+use Rattle.lvish_compound.specs.MapOf.{MapOf, same_map, map_of, map_of-entries, joined, at, map_events_of}
 use Rattle.lvish_compound.specs.laws.MapLaws.{with_entries, joins_places}
 use Rattle.lvish_compound.proofs.Brought.{brought}
-use Rattle.std.specs.declared.cmp.Ord as ord
-use Rattle.std.specs.declared.cmp.PartialEq as partial_eq
-use Rattle.std.specs.declared.cmp.PartialOrd as partial_ord
-use Rattle.std.specs.declared.hash.Hash as hash
-use Rattle.lvish_lattice.specs.declared.lattice.Lattice as lattice
-use Rattle.lvish_compound.specs.declared.map_of.MapOf.{MapOf}
 
 module _ {K L Refused : Type 0} (R : K → K → Ordering) (least : L) (join : L → L → Option L) (o : IsTotalOrder R) (j : IsJoin least join) (k : K) (v : L) (es fs : List (K × L)) (q : Result Bool Refused)
     (ok : IfOk q (λ b. (b ≡ is_some (add R least join k v es)) × (fs ≡ unwrap_or (add R least join k v es) es))) (err : IfErr q (λ _. fs ≡ es)) where
@@ -39,7 +32,7 @@ module _ {K L Refused : Type 0} (R : K → K → Ordering) (least : L) (join : L
   pub stays_above : (eq : L → L → Bool) → ((x : L) → eq x x ≡ true) → IsIdentity eq → eq v least ≡ false → has_no eq least es ≡ true → has_no eq least fs ≡ true
   stays_above eq itself same p n = either (λ zs. has_no eq least zs ≡ true) n (λ gs. add_above R least join o j eq itself same k v es gs (ap not p) n)
 
-module _ {K L E : Type 0} {ko : ord.Ghosts K} {ke : partial_eq.Ghosts K} {kp : partial_ord.Ghosts K} {l : lattice.Ghosts L E} {le : partial_eq.Ghosts L} {eo : ord.Ghosts E} {ee : partial_eq.Ghosts E} {ep : partial_ord.Ghosts E} {eh : hash.Ghosts E} where
+module _ {K L E : Type 0} {ko : OrdGhosts K} {ke : PartialEqGhosts K} {kp : PartialOrdGhosts K} {l : LatticeGhosts L E} {le : PartialEqGhosts L} {eo : OrdGhosts E} {ee : PartialEqGhosts E} {ep : PartialOrdGhosts E} {eh : HashGhosts E} where
   pub joined_some : (a b c : MapOf K L E ko ke kp l le eo ee ep eh) → add_all ko.cmp l.least l.joined a.entries b.entries ≡ Some c.entries → joined a b ≡ Some c
   joined_some a b c h = ap (option_and_then map_of) h ∙ map_of-entries c
 

@@ -1,13 +1,10 @@
 -- What a put brings to a pair.
-use Rattle.std.specs.Prelude.{◌≡◌, Bool, true, false, cond, not, ◌||◌, List, [], ◌∷◌, Option, Some, None, filter, is_some, refl}
-use Rattle.std.proofs.Common.{sym, ◌∙◌, ap}
+use Rattle.std.proofs.Common.{◌≡◌, Bool, true, false, cond, not, ◌||◌, List, [], ◌∷◌, Option, Some, None, filter, is_some, refl, sym, ◌∙◌, ap}
 use Rattle.std.proofs.lemmas.Bool.{or_right}
 use Rattle.std.specs.Set.{is_member}
 use Rattle.std.specs.Cmp.{IsEquivalence}
 use Rattle.lvish_lattice.specs.Lattice.{IsJoin, IsAtOrBelow, events_beyond, fresh_of}
-use Rattle.lvish_compound.specs.declared.pair.Pair.{Pair}
-use Rattle.lvish_compound.specs.declared.side_of.SideOf.{SideOf}
-use Rattle.lvish_compound.specs.declared.side_of.SideOf.TheVariants.{One, Two}
+use Rattle.lvish_compound.specs.Vocabulary.{Pair, SideOf, One, Two}
 use Rattle.lvish_compound.specs.Pair.{both, joined, events_of, sides}
 use Rattle.lvish_compound.specs.laws.PairLaws.{sides_beyond}
 

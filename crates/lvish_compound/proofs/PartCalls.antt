@@ -1,21 +1,16 @@
 -- What comparing, merging and fresh events are on parts.
-use Rattle.std.specs.Prelude.{◌≡◌, ◌↔◌, ℤ, Bool, true, false, not, IsTrue, List, [], filter, refl}
-use Rattle.std.proofs.Common.{sym, ◌∙◌, ap}
+use Rattle.std.proofs.Common.{◌≡◌, ◌↔◌, ℤ, Bool, true, false, not, IsTrue, List, [], filter, refl, sym, ◌∙◌, ap}
 use Rattle.std.specs.Set.{is_member}
 use Rattle.std.specs.Ordering.{int_eq}
 use Rattle.std.proofs.lemmas.Cmp.{int_eq_equiv}
 use Rattle.lvish_lattice.specs.Lattice.{IsAtOrBelow, fresh_of}
-use Rattle.lvish_lattice.specs.declared.max_counter.MaxCounter.{MaxCounter}
+use Rattle.lvish_compound.specs.Vocabulary.{MaxCounter, Part, Empty, Set, Max, SideOf, One, Two}
 use Rattle.lvish_lattice.specs.GrowSet as set
 use Rattle.lvish_lattice.specs.MaxCounter as max
-use Rattle.lvish_compound.specs.declared.part.Part.{Part}
-use Rattle.lvish_compound.specs.declared.part.Part.TheVariants.{Empty, Set, Max}
-use Rattle.lvish_compound.specs.declared.side_of.SideOf.{SideOf}
-use Rattle.lvish_compound.specs.declared.side_of.SideOf.TheVariants.{One, Two}
-use Rattle.lvish_compound.specs.Held.{HeldState, held, held_by}
+use Rattle.lvish_compound.specs.Held.{HeldState, held, held_agrees}
 use Rattle.lvish_compound.proofs.Carried.{carried_leq, carried_fresh, held_carried, none_beyond, all_beyond}
 use Rattle.lvish_compound.specs.Parts.{joined, events_of, set_in, max_in}
-use Rattle.lvish_compound.specs.laws.PartLaws.{OfSet, OfMax, inside, same_set, same_max, part_is_join}
+use Rattle.lvish_compound.specs.laws.PartLaws.{OfSet, OfMax, inside, sets_identical, maxes_identical, part_is_join}
 use Rattle.lvish_compound.specs.Pair.{sides}
 use Rattle.lvish_compound.specs.laws.PairLaws.{sides_beyond}
 use Rattle.lvish_compound.specs.laws.Pointwise.{right_unit}
@@ -61,31 +56,19 @@ module _ (eq : SideOf ℤ (SideOf ℤ ℤ) → SideOf ℤ (SideOf ℤ ℤ) → B
   max_beyond xs zs = outer (sides [] xs) (sides [] zs) ∙ ap (λ l. sides [] l) (sides_beyond int_eq int_eq inner k.sets k.maxes k.set_max k.max_set [] [] xs zs)
 
   set_wraps : (s : HeldState Set) → events_of (held Set Empty s) ≡ as_set (set.items_of s)
-  set_wraps s = held_by Set Empty (λ v. events_of v ≡ as_set (set.items_of s)) s (λ e. ap (λ (v : HeldState Set). as_set (set.items_of v)) (sym (same_set s e))) (λ x e. ap (λ (v : HeldState Set). as_set (set.items_of v)) e)
+  set_wraps = held_agrees Set sets_identical Empty events_of (λ s. as_set (set.items_of s)) refl (λ x. refl)
 
   max_wraps : (s : MaxCounter) → events_of (held Max Empty s) ≡ as_max (max.events_of s)
-  max_wraps s = held_by Max Empty (λ v. events_of v ≡ as_max (max.events_of s)) s (λ e. ap (λ (v : MaxCounter). as_max (max.events_of v)) (sym (same_max s e))) (λ x e. ap (λ (v : MaxCounter). as_max (max.events_of v)) e)
+  max_wraps = held_agrees Max maxes_identical Empty events_of (λ s. as_max (max.events_of s)) refl (λ x. refl)
 
-  sets_fresh_by : (xs : List ℤ) (s r : Part) (x z : _) (p q : HeldState Set) → s ≡ Set x → r ≡ Set z → p ≡ x.state → q ≡ z.state → xs ≡ fresh_of set.joined int_eq set.items_of p q → sides [] (sides xs []) ≡ fresh_of joined eq events_of s r
-  sets_fresh_by = carried_fresh (held_carried Set Empty joined (λ x z. refl)) int_eq set.items_of eq events_of as_set refl set_beyond set_wraps
+  pub sets_fresh : (xs : List ℤ) (s r : Part) (x z : _) (p q : HeldState Set) → s ≡ Set x → r ≡ Set z → p ≡ x.state → q ≡ z.state → xs ≡ fresh_of set.joined int_eq set.items_of p q → sides [] (sides xs []) ≡ fresh_of joined eq events_of s r
+  sets_fresh = carried_fresh (held_carried Set Empty joined (λ x z. refl)) int_eq set.items_of eq events_of as_set refl set_beyond set_wraps
 
-  maxes_fresh_by : (xs : List ℤ) (s r : Part) (x z : _) (p q : MaxCounter) → s ≡ Max x → r ≡ Max z → p ≡ x.state → q ≡ z.state → xs ≡ fresh_of max.joined int_eq max.events_of p q → sides [] (sides [] xs) ≡ fresh_of joined eq events_of s r
-  maxes_fresh_by = carried_fresh (held_carried Max Empty joined (λ x z. refl)) int_eq max.events_of eq events_of as_max refl max_beyond max_wraps
+  pub maxes_fresh : (xs : List ℤ) (s r : Part) (x z : _) (p q : MaxCounter) → s ≡ Max x → r ≡ Max z → p ≡ x.state → q ≡ z.state → xs ≡ fresh_of max.joined int_eq max.events_of p q → sides [] (sides [] xs) ≡ fresh_of joined eq events_of s r
+  maxes_fresh = carried_fresh (held_carried Max Empty joined (λ x z. refl)) int_eq max.events_of eq events_of as_max refl max_beyond max_wraps
 
-  first_fresh_by : (s r : Part) → s ≡ Empty → events_of r ≡ fresh_of joined eq events_of s r
-  first_fresh_by s r e = all_beyond eq (events_of r) ∙ ap (λ (v : Part). fresh_of joined eq events_of v r) (sym e)
+  pub first_fresh : (s r : Part) → s ≡ Empty → events_of r ≡ fresh_of joined eq events_of s r
+  first_fresh s r e = all_beyond eq (events_of r) ∙ ap (λ (v : Part). fresh_of joined eq events_of v r) (sym e)
 
-  nothing_fresh_by : (s r : Part) → r ≡ Empty → [] ≡ fresh_of joined eq events_of s r
-  nothing_fresh_by s r e = none_beyond eq event_itself events_of s (joined s r) (ap (joined s) e ∙ right_unit part_is_join s)
-
-pub first_fresh : (eq : SideOf ℤ (SideOf ℤ ℤ) → SideOf ℤ (SideOf ℤ ℤ) → Bool) (s r : Part) → s ≡ Empty → IsByKind eq → events_of r ≡ fresh_of joined eq events_of s r
-first_fresh eq s r e k = first_fresh_by eq k s r e
-
-pub nothing_fresh : (eq : SideOf ℤ (SideOf ℤ ℤ) → SideOf ℤ (SideOf ℤ ℤ) → Bool) (s r : Part) → r ≡ Empty → IsByKind eq → [] ≡ fresh_of joined eq events_of s r
-nothing_fresh eq s r e k = nothing_fresh_by eq k s r e
-
-pub sets_fresh : (eq : SideOf ℤ (SideOf ℤ ℤ) → SideOf ℤ (SideOf ℤ ℤ) → Bool) (xs : List ℤ) (s r : Part) (x z : _) (p q : HeldState Set) → s ≡ Set x → r ≡ Set z → p ≡ x.state → q ≡ z.state → xs ≡ fresh_of set.joined int_eq set.items_of p q → IsByKind eq → sides [] (sides xs []) ≡ fresh_of joined eq events_of s r
-sets_fresh eq xs s r x z p q es er ep' eq' e k = sets_fresh_by eq k xs s r x z p q es er ep' eq' e
-
-pub maxes_fresh : (eq : SideOf ℤ (SideOf ℤ ℤ) → SideOf ℤ (SideOf ℤ ℤ) → Bool) (xs : List ℤ) (s r : Part) (x z : _) (p q : MaxCounter) → s ≡ Max x → r ≡ Max z → p ≡ x.state → q ≡ z.state → xs ≡ fresh_of max.joined int_eq max.events_of p q → IsByKind eq → sides [] (sides [] xs) ≡ fresh_of joined eq events_of s r
-maxes_fresh eq xs s r x z p q es er ep' eq' e k = maxes_fresh_by eq k xs s r x z p q es er ep' eq' e
+  pub nothing_fresh : (s r : Part) → r ≡ Empty → [] ≡ fresh_of joined eq events_of s r
+  nothing_fresh s r e = none_beyond eq event_itself events_of s (joined s r) (ap (joined s) e ∙ right_unit part_is_join s)

@@ -1,18 +1,18 @@
 -- The entries of a tree, as the list that they stand for.
-use Rattle.std.proofs.Common.{◌≡◌, ◌↔◌, ℕ, ◌<◌, length, slice_get, IsSome, IfSome, MatchOption, arith, Bool, true, false, cond, not, List, [], ◌∷◌, ◌++◌, map, Option, Some, None, Result, IfOk, IfErr, option_map, option_and_then, unwrap_or, is_some, true≢false, refl, sym, ◌∙◌, ap, subst}
+use Rattle.std.proofs.Common.{◌≡◌, ◌↔◌, ℕ, ◌<◌, length, slice_get, IsSome, IfSome, MatchOption, arith, Bool, true, false, cond, not, List, [], ◌∷◌, ◌++◌, map, Option, Some, None, Result, IfOk, IfErr, option_map, option_and_then, unwrap_or, is_some, append_assoc, true≢false, refl, sym, ◌∙◌, ap, subst}
 use Rattle.std.proofs.lemmas.Map.{lookup-none}
 use Rattle.std.proofs.lemmas.Result.{IfErr-weaker, IfOk-weaker}
 use Rattle.std.proofs.lemmas.Map.Entries.{none_below_head}
 use Rattle.std.specs.Map.{lookup, set_value}
 use Rattle.std.specs.BTreeMap.{is_at, insert_entry}
-use Rattle.std.specs.declared.cmp.Ordering.{Ordering}
-use Rattle.std.specs.declared.cmp.Ordering.TheVariants.{Less, Equal, Greater}
+use Rattle.lvish_compound.specs.Vocabulary.{Ordering, Less, Equal, Greater}
 use Rattle.std.specs.Ordering.{eq_by_cmp, is_eq, is_lt, ordering_reverse, match_ordering}
 use Rattle.std.specs.Cmp.{IsTotalOrder, Equal-is}
 use Rattle.std.specs.List.{AllByRecursion}
 use Rattle.std.specs.List.Sorted.{IsStrictlySortedBy}
 use Rattle.lvish_lattice.specs.Lattice.{IsJoin}
 use Rattle.lvish_lattice.specs.Ascending.{and_left, and_right}
+use Rattle.lvish_lattice.specs.Listed.{unless_some}
 use Rattle.std.proofs.lemmas.Option.{same_Some}
 use Rattle.lvish_compound.specs.Keyed.{key, has_no, at, add, add_all}
 use Rattle.lvish_compound.specs.laws.KeyedLaws.{at_below, at_first, all_joins, all_there}
@@ -33,11 +33,7 @@ module _ {K L : Type 0} (R : K → K → Ordering) where
 
   -- no entry has a key that is above the greatest
   pub past_last : (k last : K) (es : List (K × L)) → R last k ≡ Less → (IsSome (lookup (is_at (R k)) es) → is_lt (R last k) ≡ false) → lookup (is_at (R k)) es ≡ None
-  past_last k last es r h = by_found (lookup (is_at (R k)) es) (λ some. true≢false (sym (ap is_lt r) ∙ h some))
-    where
-      by_found : (x : Option L) → (IsSome x → ⊥) → x ≡ None
-      by_found None n = refl
-      by_found (Some y) n = absurd (n refl)
+  past_last k last es r h = unless_some (lookup (is_at (R k)) es) (λ x e. true≢false (sym (ap is_lt r) ∙ h (ap is_some e)))
 
   set_same : (k : K) (x : L) (es : List (K × L)) → lookup (is_at (R k)) es ≡ Some x → set_value (is_at (R k)) es x ≡ es
   set_same k x [] h = refl
@@ -60,15 +56,11 @@ module _ {K L : Type 0} (R : K → K → Ordering) where
         let above : R x.0 e.0 ≡ Greater = o.antisymm x.0 e.0 ∙ ap ordering_reverse (all_at e.0 es rest x s.0) in
         ap (λ r. match_ordering r (x ∷ e ∷ es) ((e.0, x.1) ∷ es) (e ∷ insert_entry R es x.0 x.1)) above ∙ ap (λ fs. e ∷ fs) (insert_last es rest x s.1)
 
-    append_one : (es rest : List (K × L)) (x : K × L) → (es ++ x ∷ []) ++ rest ≡ es ++ x ∷ rest
-    append_one [] rest x = refl
-    append_one (e ∷ es) rest x = ap (λ fs. e ∷ fs) (append_one es rest x)
-
     -- one entry of a copy more
     pub copied_more : (all es fs xs ys : List (K × L)) (k : K) (p v : L) → S all → es ++ xs ≡ all → xs ≡ (k, p) ∷ ys → v ≡ p → fs ≡ insert_entry R es k v → fs ++ ys ≡ all
     copied_more all es fs xs ys k p v s h e w new =
         let whole : es ++ (k, p) ∷ ys ≡ all = ap (λ zs. es ++ zs) (sym e) ∙ h in
-        ap (λ zs. zs ++ ys) (new ∙ ap (insert_entry R es k) w ∙ insert_last es ys (k, p) (subst (λ zs. S zs) (sym whole) s)) ∙ append_one es ys (k, p) ∙ whole
+        ap (λ zs. zs ++ ys) (new ∙ ap (insert_entry R es k) w ∙ insert_last es ys (k, p) (subst (λ zs. S zs) (sym whole) s)) ∙ append_assoc es ((k, p) ∷ []) ys ∙ whole
 
 module _ {K L : Type 0} (R : K → K → Ordering) (least : L) (join : L → L → Option L) where
   -- what a look-up finds is what the key holds
@@ -219,12 +211,9 @@ module _ {K L : Type 0} (R : K → K → Ordering) (least : L) (join : L → L �
 
     -- where one has none, nor have the lists
     pub top : (es all xs fs : List (K × L)) (k : K) (p : L) → S R es → S R all → (Each es xs ↔ Each es all) → xs ≡ (k, p) ∷ fs → join (At es k) p ≡ None → add_all R least join es all ≡ None
-    top es all xs fs k p s t h e n = by_all (add_all R least join es all) refl
-      where
-        by_all : (a : Option (List (K × L))) → add_all R least join es all ≡ a → a ≡ None
-        by_all None is = refl
-        by_all (Some gs) is = let each : Each es ((k, p) ∷ fs) = subst (λ zs. Each es zs) e (h.1 (each_from es all t (λ q. ap is_some (all_joins R least join o j es all gs s t is q)))) in
-            absurd (true≢false (sym each.0 ∙ ap is_some n))
+    top es all xs fs k p s t h e n = unless_some _ (λ gs is.
+        let each : Each es ((k, p) ∷ fs) = subst (λ zs. Each es zs) e (h.1 (each_from es all t (λ q. ap is_some (all_joins R least join o j es all gs s t is q)))) in
+        true≢false (sym each.0 ∙ ap is_some n))
 
     module _ (same_key : (x y : K) → R x y ≡ Equal → x ≡ y) where
       each_all : (es fs : List (K × L)) → Each es fs → (q : K) → (w : L) × (join (At es q) (At fs q) ≡ Some w)

@@ -1,18 +1,15 @@
 -- Which reads don't fit their place, and which numbers no counter holds.
-use Rattle.std.specs.Prelude.{◌≡◌, ◌⊎◌, ◌↔◌, ℕ, ℤ, suc, pos, negsuc, Bool, true, false, ◌&&◌, nat_le, List, [], ◌∷◌, Contains, is_some, refl}
+use Rattle.std.specs.Prelude.{◌≡◌, ◌⊎◌, ◌↔◌, ℕ, ℤ, suc, pos, negsuc, Bool, true, false, ◌&&◌, nat_le, List, [], ◌∷◌, is_some, refl}
 use Rattle.std.proofs.Common.{sym, ◌∙◌, ap, inl, inr, ⊎_elim, true≢false, arith}
 use Rattle.std.specs.List.{list_all}
-use Rattle.lvish_compound.specs.declared.kind.Kind.{Kind}
+use Rattle.std.proofs.lemmas.List.Folds.{list_all_at}
+use Rattle.lvish_compound.specs.Vocabulary.{Kind, Test, Place, HIGHEST_LEVEL, HIGHEST_TOTAL}
 use Rattle.lvish_compound.specs.declared.kind.Kind.TheVariants as kind
-use Rattle.lvish_compound.specs.declared.number_test.Test.{Test}
 use Rattle.lvish_compound.specs.declared.number_test.Test.TheVariants.{Any, In, At}
-use Rattle.lvish_compound.specs.declared.place.Place.{Place}
 use Rattle.lvish_compound.specs.declared.place.Place.TheVariants as place
-use Rattle.lvish_compound.specs.Numbers.{max_by, is_level, are_levels, is_total, are_totals}
+use Rattle.lvish_compound.specs.Numbers.{max_by, all_pass, is_level, are_levels, is_total, are_totals}
 use Rattle.lvish_compound.specs.Places.{test_fits, fits_kind, is_side}
 use Rattle.lvish_compound.specs.Refusals.{Mentions, IsBeyond, IsNoSide, IsBeyondCounters, IsBeyondTotal, IsBeyondTotals, IsReadRefused}
-use Rattle.lvish_lattice.specs.declared.limits.TheConstants.{HIGHEST_LEVEL}
-use Rattle.lvish_compound.specs.declared.limits.TheConstants.{HIGHEST_TOTAL}
 
 held_by : (n : ℕ) (t : Bool) (h : nat_le n HIGHEST_LEVEL ≡ t) → is_some (max_by n t h) ≡ t
 held_by n true h = refl
@@ -39,28 +36,20 @@ module _ (test : ℤ → Bool) (Beyond : ℤ → Type 0) (where_beyond : (n : �
       by_test false e rest = (x, (0, omega arith, refl), (where_beyond x).0 e)
       by_test true e rest = let w = rest (sym (ap (λ b. b && list_all test xs) e) ∙ h) in (w.0, (suc w.1.0, omega (arith, w.1.1), w.1.2), w.2)
 
-  list_within : (xs : List ℤ) (n : ℤ) → Contains xs n → test n ≡ false → list_all test xs ≡ false
-  list_within xs n p h = Rattle.std.proofs.lemmas.List.Folds.list_all_at test xs p.0 n p.1 (ap test p.2 ∙ h)
-
-  by_list : (xs : List ℤ) → (list_all test xs ≡ false) ↔ SomeBeyond (In xs)
-  by_list xs = (list_beyond xs, λ w. list_within xs w.0 w.1 ((where_beyond w.0).1 w.2))
-
-  by_one : (m : ℤ) → (test m ≡ false) ↔ SomeBeyond (At m)
-  by_one m = (λ h. (m, refl, (where_beyond m).0 h), λ w. ap test w.1 ∙ (where_beyond w.0).1 w.2)
+  all_beyond : (t : Test) → (all_pass test t ≡ false) ↔ SomeBeyond t
+  all_beyond Any = (λ h. absurd cc, λ w. absurd w.1)
+  all_beyond (In xs) = (list_beyond xs, λ w. list_all_at test xs w.1.0 w.0 w.1.1 (ap test w.1.2 ∙ (where_beyond w.0).1 w.2))
+  all_beyond (At m) = (λ h. (m, refl, (where_beyond m).0 h), λ w. ap test w.1 ∙ (where_beyond w.0).1 w.2)
 
 pub tests_beyond : (t : Test) → (are_levels t ≡ false) ↔ IsBeyondCounters t
-tests_beyond Any = (λ h. absurd cc, λ w. absurd w.1)
-tests_beyond (In xs) = by_list is_level IsBeyond beyond xs
-tests_beyond (At m) = by_one is_level IsBeyond beyond m
+tests_beyond = all_beyond is_level IsBeyond beyond
 
 past_total : (n : ℤ) → (is_total n ≡ false) ↔ IsBeyondTotal n
 past_total (pos n) = (λ h. let few : nat_le n HIGHEST_TOTAL ≡ false = h in inr (grind (arith, few)), λ w. ⊎_elim (λ e. grind (arith, e)) (λ e. grind (arith, e)) w)
 past_total (negsuc n) = (λ _. inl (omega arith), λ _. refl)
 
 totals_beyond : (t : Test) → (are_totals t ≡ false) ↔ IsBeyondTotals t
-totals_beyond Any = (λ h. absurd cc, λ w. absurd w.1)
-totals_beyond (In xs) = by_list is_total IsBeyondTotal past_total xs
-totals_beyond (At m) = by_one is_total IsBeyondTotal past_total m
+totals_beyond = all_beyond is_total IsBeyondTotal past_total
 
 no_side : (i : ℕ) → (is_side i ≡ false) ↔ IsNoSide i
 no_side i = (λ h. (λ e. not_true (is_side i) (grind (arith, e)) h, λ e. not_true (is_side i) (grind (arith, e)) h), λ w. grind (arith, w.0, w.1))

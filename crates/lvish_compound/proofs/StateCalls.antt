@@ -1,31 +1,25 @@
 -- What comparing, merging and fresh events are on states of a script's variables.
-use Rattle.std.specs.Prelude.{◌≡◌, ◌↔◌, ℤ, pos, Bool, false, not, cond, IsTrue, List, [], map, filter, refl}
-use Rattle.std.proofs.Common.{sym, ◌∙◌, ap}
+use Rattle.std.proofs.Common.{◌≡◌, ℤ, pos, Bool, false, not, cond, List, [], map, filter, refl, sym, ◌∙◌, ap}
 use Rattle.std.specs.Set.{is_member}
-use Rattle.lvish_lattice.specs.Lattice.{IsAtOrBelow, events_beyond, fresh_of}
-use Rattle.lvish_compound.specs.declared.any.Any.{Any}
-use Rattle.lvish_compound.specs.declared.any.Any.TheVariants.{Part, Map, Sides, Tally}
-use Rattle.lvish_compound.specs.declared.event.Event.{Event}
-use Rattle.lvish_compound.specs.declared.pair.Pair.{Pair}
+use Rattle.lvish_lattice.specs.Lattice.{events_beyond, fresh_of}
+use Rattle.lvish_compound.specs.Vocabulary.{Event, Pair, Empty, SideOf, One, Two}
 use Rattle.lvish_compound.specs.declared.part.Part as part
-use Rattle.lvish_compound.specs.declared.part.Part.TheVariants.{Empty}
 use Rattle.lvish_compound.specs.declared.sides.Sides as sides
-use Rattle.lvish_compound.specs.declared.side_of.SideOf.{SideOf}
-use Rattle.lvish_compound.specs.declared.side_of.SideOf.TheVariants.{One, Two}
-use Rattle.lvish_compound.proofs.Carried.{IsCarried, carried_leq, carried_fresh, held_carried, none_beyond, all_beyond}
+use Rattle.lvish_compound.proofs.Carried.{IsCarried, carried_fresh, held_carried, none_beyond, all_beyond}
 use Rattle.lvish_compound.specs.EventNames.{PartEvent, part_event, entry_event, tally_event, side_event}
 use Rattle.lvish_compound.specs.laws.EventLaws.{apart, names_beyond}
-use Rattle.lvish_compound.specs.Held.{HeldState, state_in, held_by}
+use Rattle.lvish_compound.specs.Held.{HeldState, state_in, held_agrees}
 use Rattle.lvish_compound.specs.MapOf as map_of
 use Rattle.lvish_compound.specs.Pair as pair
 use Rattle.lvish_compound.specs.Parts as parts
 use Rattle.lvish_compound.proofs.PartCalls.{IsByKind}
 use Rattle.lvish_compound.specs.laws.SidesLaws.{same_sides, same_none}
 use Rattle.lvish_compound.specs.laws.StateEvents.{TestsNames, part_eq, part_exact, entry_eq, entry_exact, side_eq, side_exact}
-use Rattle.lvish_compound.specs.laws.StateLaws.{OfMap, OfSides, OfTally, inside, pair_by, same_map, same_empty_tally, of_sides_above, any_is_join}
+use Rattle.lvish_compound.specs.laws.StateLaws.{pair_by, maps_identical, of_sides_above, any_is_join}
 use Rattle.lvish_compound.specs.Sides.{pair_of}
-use Rattle.lvish_compound.specs.States.{nothing, of_part, of_map, of_pair, of_tally, unless_part, joined, events_of, map_in, sides_in, tally_in}
+use Rattle.lvish_compound.specs.States.{Part, Map, Sides, Tally, Any, nothing, of_part, of_map, of_pair, of_tally, unless_part, joined, events_of}
 use Rattle.lvish_compound.specs.Tally as tally
+use Rattle.lvish_compound.specs.laws.TallyLaws as tally_laws
 use Rattle.lvish_compound.specs.declared.tally.Tally as tallies
 
 abbrev itself : part.Part → part.Part
@@ -40,17 +34,8 @@ maps_carried = held_carried Map nothing joined (λ x z. refl)
 pub pairs_carried : IsCarried Sides pair_of of_pair joined parts.pairs_joined
 pairs_carried = record { back = of_sides_above; same = same_sides; inside = λ x z. refl }
 
-pub maps_leq : (t : Bool) (s r : Any) (x z : _) (p q : HeldState Map) → s ≡ Map x → r ≡ Map z → p ≡ x.state → q ≡ z.state → IsTrue t ↔ IsAtOrBelow map_of.joined p q → IsTrue t ↔ IsAtOrBelow joined s r
-maps_leq = carried_leq maps_carried map_in (inside OfMap)
-
-pub pairs_leq : (t : Bool) (s r : Any) (x z : sides.Sides) (p q : Pair part.Part part.Part) → s ≡ Sides x → r ≡ Sides z → p ≡ x.pair → q ≡ z.pair → IsTrue t ↔ IsAtOrBelow parts.pairs_joined p q → IsTrue t ↔ IsAtOrBelow joined s r
-pairs_leq = carried_leq pairs_carried sides_in (inside OfSides)
-
 pub tallies_carried : IsCarried Tally (state_in Tally) of_tally joined tally.joined
 tallies_carried = held_carried Tally nothing joined (λ x z. refl)
-
-pub tallies_leq : (t : Bool) (s r : Any) (x z : _) (p q : tallies.Tally) → s ≡ Tally x → r ≡ Tally z → p ≡ x.state → q ≡ z.state → IsTrue t ↔ IsAtOrBelow tally.joined p q → IsTrue t ↔ IsAtOrBelow joined s r
-tallies_leq = carried_leq tallies_carried tally_in (inside OfTally)
 
 module _ (en : Event → Event → Bool) (by : TestsNames en) where
   parts_beyond : (os zs : List PartEvent) → filter (λ n. not (is_member en (map (part_event (pos 0)) os) n)) (map (part_event (pos 0)) zs) ≡ map (part_event (pos 0)) (filter (λ e. not (is_member part_eq os e)) zs)
@@ -66,7 +51,7 @@ module _ (en : Event → Event → Bool) (by : TestsNames en) where
   tallies_beyond = names_beyond entry_exact.0 entry_exact.1 by.same_name by.its_name tally_event (λ d e h i. ((h i).key, (h i).number))
 
   map_wraps : (m : HeldState Map) → events_of (of_map m) ≡ map entry_event (map_of.map_events_of m)
-  map_wraps m = held_by Map nothing (λ s. events_of s ≡ map entry_event (map_of.map_events_of m)) m (λ e. ap (λ (v : HeldState Map). map entry_event (map_of.map_events_of v)) (sym (same_map m e))) (λ x e. ap (λ (v : HeldState Map). map entry_event (map_of.map_events_of v)) e)
+  map_wraps = held_agrees Map maps_identical nothing events_of (λ m. map entry_event (map_of.map_events_of m)) refl (λ x. refl)
 
   abbrev pair_events : Pair part.Part part.Part → List (SideOf PartEvent PartEvent)
   pair_events = pair.events_of parts.events_of parts.events_of
@@ -84,7 +69,7 @@ module _ (en : Event → Event → Bool) (by : TestsNames en) where
   pairs_fresh = carried_fresh pairs_carried side_eq pair_events en events_of (map side_event) refl sides_beyond pair_wraps
 
   tally_wraps : (t : tallies.Tally) → events_of (of_tally t) ≡ map tally_event (tally.events_of t)
-  tally_wraps t = held_by Tally nothing (λ s. events_of s ≡ map tally_event (tally.events_of t)) t (λ e. ap (λ (v : tallies.Tally). map tally_event (tally.events_of v)) (sym (same_empty_tally t e))) (λ x e. ap (λ (v : tallies.Tally). map tally_event (tally.events_of v)) e)
+  tally_wraps = held_agrees Tally tally_laws.alike_identical nothing events_of (λ t. map tally_event (tally.events_of t)) refl (λ x. refl)
 
   pub tallies_fresh : (xs : List (ℤ × ℤ)) (s r : Any) (x z : _) (p q : tallies.Tally) → s ≡ Tally x → r ≡ Tally z → p ≡ x.state → q ≡ z.state → xs ≡ fresh_of tally.joined entry_eq tally.events_of p q → map tally_event xs ≡ fresh_of joined en events_of s r
   tallies_fresh = carried_fresh tallies_carried entry_eq tally.events_of en events_of (map tally_event) refl tallies_beyond tally_wraps

@@ -1,21 +1,17 @@
 -- Where the states of a script's variables clash.
-use Rattle.std.specs.Prelude.{◌≡◌, ◌≢◌, ◌↔◌, ℤ, Bool, true, false, cond, Option, Some, None, option_map, refl}
-use Rattle.std.proofs.Common.{sym, ◌∙◌, ap, true≢false}
-use Rattle.std.proofs.lemmas.Cmp.{int_eq_equiv}
+use Rattle.std.proofs.Common.{◌≡◌, ◌≢◌, ◌↔◌, ℤ, Bool, true, false, cond, Option, Some, None, option_map, refl, sym, ◌∙◌, ap, true≢false}
+use Rattle.std.proofs.lemmas.Cmp.{int_cmp_total, int_eq_equiv}
 use Rattle.std.specs.Ordering.{int_eq}
 use Rattle.lvish_lattice.specs.Plain.{int_identical}
 use Rattle.lvish_lattice.specs.Top.{IsTopWhere, TwoValues}
-use Rattle.lvish_lattice.specs.declared.flat.Flat.TheVariants.{Value}
-use Rattle.lvish_compound.specs.declared.any.Any.{Any}
-use Rattle.lvish_compound.specs.declared.any.Any.TheVariants.{Part, Map, Sides, Tally}
+use Rattle.lvish_compound.specs.Vocabulary.{Value, Empty, Cell, Set, Max}
 use Rattle.lvish_compound.specs.declared.part.Part as part
-use Rattle.lvish_compound.specs.declared.part.Part.TheVariants.{Empty, Cell, Set, Max}
 use Rattle.lvish_compound.specs.Clashes.{AtSomeKey, PartsClash, Clash}
 use Rattle.lvish_compound.specs.Held.{HeldState, held}
 use Rattle.lvish_compound.specs.MapOf as map_of
 use Rattle.lvish_compound.specs.Parts as parts
-use Rattle.lvish_compound.specs.States.{nothing, of_map, of_pair, of_tally, unless_part, joined}
-use Rattle.lvish_compound.specs.laws.NumberLaws.{sets_join}
+use Rattle.lvish_compound.specs.States.{Part, Map, Sides, Tally, Any, nothing, of_map, of_pair, of_tally, unless_part, joined}
+use Rattle.lvish_lattice.specs.laws.MembersLaws.{never_top}
 use Rattle.lvish_compound.specs.laws.TallyLaws.{tallies_top}
 use Rattle.lvish_compound.proofs.Clashes.{pairs_clash}
 
@@ -31,7 +27,7 @@ pub parts_top : IsTopWhere parts.joined PartsClash
 parts_top Empty t = (λ h. absurd cc, λ w. absurd (w.0 refl))
 parts_top s Empty = (λ h. absurd cc, λ w. absurd (w.1 refl))
 parts_top (Cell m) (Cell n) = cells_by (int_eq m n) m n refl
-parts_top (Set x) (Set y) = (λ h. sets_join x.state y.state ((mapped_top (held Set Empty) _).0 h), λ w. absurd w)
+parts_top (Set x) (Set y) = (λ h. never_top int_cmp_total x.state y.state ((mapped_top (held Set Empty) _).0 h), λ w. absurd w)
 parts_top (Max x) (Max y) = (λ h. absurd cc, λ w. absurd w)
 parts_top s t = (λ _. (λ e. absurd cc, λ e. absurd cc), λ _. refl)
 

@@ -4,14 +4,13 @@ use Rattle.std.proofs.Common.{sym, ◌∙◌, ap, arith, true≢false}
 use Rattle.std.proofs.lemmas.List.Sums.{sum_by-cons}
 use Rattle.std.proofs.lemmas.Result.{IfOk-weaker}
 use Rattle.lvish_lattice.specs.Lattice.{events_beyond, fresh_of}
-use Rattle.lvish_lattice.specs.declared.max_counter.MaxCounter.{MaxCounter}
-use Rattle.lvish_compound.specs.declared.tally.Tally.{Tally}
+use Rattle.lvish_lattice.specs.Listed.{unless_some}
+use Rattle.lvish_compound.specs.Vocabulary.{MaxCounter, HIGHEST_TOTAL}
 use Rattle.lvish_compound.specs.Amounts.{total_of, gains, gain}
 use Rattle.lvish_compound.specs.laws.AmountLaws.{gain_within}
 use Rattle.lvish_compound.specs.MapOf as map_of
-use Rattle.lvish_compound.specs.Tally.{Amounts, entries_of, tally_of, joined, events_of}
-use Rattle.lvish_compound.specs.laws.TallyLaws.{same_tally, total_of_join, past_bound, made_there, joined_tally}
-use Rattle.lvish_compound.specs.declared.limits.TheConstants.{HIGHEST_TOTAL}
+use Rattle.lvish_compound.specs.Tally.{Tally, Amounts, entries_of, tally_of, joined, events_of}
+use Rattle.lvish_compound.specs.laws.TallyLaws.{same_tally, total_of_join, made_there, joined_amounts, joined_tally}
 
 -- a walk over the entries that are put
 pub gained_more : (es fs ks ms : List (ℤ × MaxCounter)) (f : ℤ × MaxCounter) (g : ℕ) → g + gain es ks ≡ gain es fs → ks ≡ f ∷ ms → (g + gains es f) + gain es ms ≡ gain es fs
@@ -31,14 +30,7 @@ pub sum_of_join : (s t : Tally) (c : Amounts) → map_of.joined s.amounts t.amou
 sum_of_join s t c h = omega (arith, total_of_join s.amounts t.amounts c h, s.counted)
 
 pub past_is_top : (s t : Tally) → HIGHEST_TOTAL < sum s t → joined s t ≡ None
-past_is_top s t l = by_join (map_of.joined s.amounts t.amounts) refl
-  where
-    by_join : (o : Option Amounts) → map_of.joined s.amounts t.amounts ≡ o → option_and_then tally_of o ≡ None
-    by_join None e = refl
-    by_join (Some c) e = past_bound c (omega (arith, l, sum_of_join s t c e))
-
-pub no_amounts : (s t : Tally) → map_of.joined s.amounts t.amounts ≡ None → joined s t ≡ None
-no_amounts s t e = ap (option_and_then tally_of) e
+past_is_top s t l = unless_some (joined s t) (λ u e. omega (arith, l, sum_of_join s t u.amounts (joined_amounts s t u e), u.counted, u.bounded))
 
 pub merged_total : (s t : Tally) (m : Amounts) (b : Bool) → b ≡ is_some (map_of.joined s.amounts t.amounts) → m ≡ unwrap_or (map_of.joined s.amounts t.amounts) s.amounts → (b ≡ true → sum s t ≡ total_of m.entries) × (b ≡ false → s.total ≡ total_of m.entries)
 merged_total s t m b is e = by_join (map_of.joined s.amounts t.amounts) refl is e
@@ -51,7 +43,7 @@ merged_one : (s t n : Tally) (b : Bool) → b ≡ is_some (map_of.joined s.amoun
 merged_one s t n b is e = by_join (map_of.joined s.amounts t.amounts) refl is e
   where
     by_join : (o : Option Amounts) → map_of.joined s.amounts t.amounts ≡ o → b ≡ is_some o → n.amounts ≡ unwrap_or o s.amounts → (b ≡ is_some (joined s t)) × (n ≡ unwrap_or (joined s t) s)
-    by_join None h is e = let top = no_amounts s t h in (is ∙ ap is_some (sym top), same_tally n s e ∙ ap (λ o. unwrap_or o s) (sym top))
+    by_join None h is e = let top : joined s t ≡ None = ap (option_and_then tally_of) h in (is ∙ ap is_some (sym top), same_tally n s e ∙ ap (λ o. unwrap_or o s) (sym top))
     by_join (Some c) h is e = let there = joined_tally s t n (h ∙ ap Some (sym e)) in (is ∙ ap is_some (sym there), ap (λ o. unwrap_or o s) (sym there))
 
 -- amounts that are merged are those of the join

@@ -1,62 +1,46 @@
 -- The states of one value.
-use Rattle.std.proofs.Common.{◌≡◌, ◌↔◌, ℕ, zero, suc, ℤ, nat_le, Bool, true, false, List, [], ◌∷◌, Some, option_map, Contains, refl, sym, ◌∙◌, ap, arith}
+use Rattle.std.proofs.Common.{◌≡◌, ◌↔◌, ℕ, ℤ, nat_le, Bool, true, false, List, [], ◌∷◌, Some, option_map, Contains, refl, sym, ◌∙◌, ap, arith}
 use Rattle.std.specs.Cmp.{tied_itself}
 use Rattle.std.specs.List.Sorted.{IsStrictlySortedBy}
 use Rattle.std.specs.Ordering.{int_cmp}
 use Rattle.std.proofs.lemmas.Cmp.{int_cmp_total}
 use borrow.Author.Tests.{le-leb}
-use Rattle.lvish_lattice.specs.declared.flat.Flat.TheVariants.{Value}
-use Rattle.lvish_lattice.specs.declared.max_counter.MaxCounter.{MaxCounter}
+use Rattle.lvish_compound.specs.Vocabulary.{Value, MaxCounter, Pair, Empty, Set, Max, HIGHEST_LEVEL}
 use Rattle.lvish_lattice.specs.GrowSet as grow_set
-use Rattle.lvish_lattice.specs.MaxCounter.{number_of, zero as no_amount}
+use Rattle.lvish_lattice.specs.Listed.{first_contained, later_contained, only_contained}
+use Rattle.lvish_lattice.specs.MaxCounter.{level, level_within, number_of, zero as no_amount}
 use Rattle.lvish_lattice.specs.laws.MaxCounterLaws.{same_counter}
-use Rattle.lvish_compound.specs.declared.any.Any.{Any}
-use Rattle.lvish_compound.specs.declared.any.Any.TheVariants.{Part, Map}
-use Rattle.lvish_compound.specs.declared.pair.Pair.{Pair}
 use Rattle.lvish_compound.specs.declared.part.Part as part
-use Rattle.lvish_compound.specs.declared.part.Part.TheVariants.{Empty, Set, Max}
 use Rattle.lvish_compound.specs.Numbers.{max_of, max_by}
 use Rattle.lvish_compound.specs.Held.{HeldState, held, state_in, held_above}
 use Rattle.lvish_compound.specs.MapOf as map_of
 use Rattle.lvish_compound.specs.MapReads.{holding}
 use Rattle.lvish_compound.specs.laws.PairLaws.{same_pair}
-use Rattle.lvish_compound.specs.States.{of_map, of_pair, of_tally, singleton, counter, counted, entry, amount, side}
+use Rattle.lvish_compound.specs.States.{Part, Map, Any, of_map, of_pair, of_tally, singleton, counter, counted, entry, amount, side}
 use Rattle.lvish_compound.specs.Keyed.{single_entry}
-use Rattle.lvish_compound.specs.Tally.{single, entries_of, amounts_of, amount_test}
+use Rattle.lvish_compound.specs.Tally.{Tally, single, entries_of, amounts_of, amount_test}
 use Rattle.lvish_compound.specs.laws.TallyLaws.{same_tally}
-use Rattle.lvish_compound.specs.declared.tally.Tally.{Tally}
-use Rattle.lvish_lattice.specs.declared.limits.TheConstants.{HIGHEST_LEVEL}
-
-first_of : (x : ℤ) (xs : List ℤ) → Contains (x ∷ xs) x
-first_of x xs = (0, omega arith, refl)
-
-second_of : (x y : ℤ) (xs : List ℤ) → Contains (x ∷ y ∷ xs) y
-second_of x y xs = (1, omega arith, refl)
-
-only_of : (n x : ℤ) → Contains (n ∷ []) x → x ≡ n
-only_of n x (zero, lt, e) = sym e
-only_of n x (suc i, lt, e) = absurd (omega arith)
 
 one_item : (n : ℤ) (xs : List ℤ) → IsStrictlySortedBy int_cmp xs → ((x : ℤ) → Contains xs x ↔ Contains (n ∷ []) x) → xs ≡ n ∷ []
 unfolding IsStrictlySortedBy
-one_item n [] s h = let p = (h n).1 (first_of n []) in absurd (omega (arith, p.1))
-one_item n (x ∷ []) s h = ap (λ y. y ∷ []) (only_of n x ((h x).0 (first_of x [])))
+one_item n [] s h = let p = (h n).1 (first_contained n []) in absurd (omega (arith, p.1))
+one_item n (x ∷ []) s h = ap (λ y. y ∷ []) (sym (only_contained n x ((h x).0 (first_contained x []))))
 one_item n (x ∷ y ∷ ys) s h =
-    let first : x ≡ n = only_of n x ((h x).0 (first_of x (y ∷ ys))) in
-    let second : y ≡ n = only_of n y ((h y).0 (second_of x y ys)) in
+    let first : x ≡ n = sym (only_contained n x ((h x).0 (first_contained x (y ∷ ys)))) in
+    let second : y ≡ n = sym (only_contained n y ((h y).0 (later_contained x y (y ∷ ys) (first_contained y ys)))) in
     absurd (cc (sym (tied_itself int_cmp_total n) ∙ (λ i. int_cmp (sym first i) (sym second i)) ∙ s.0.0))
 
 -- the set of one element
 pub set_is : (s : HeldState Set) (n m : ℤ) → m ≡ n → ((x : ℤ) → Contains (grow_set.items_of s) x ↔ Contains (m ∷ []) x) → s ≡ singleton n
-set_is s n m e h = grow_set.same_set s (singleton m) (one_item m (grow_set.items_of s) s.ascending h) ∙ ap singleton e
+set_is s n m e h = grow_set.same_set s (singleton m) (one_item m (grow_set.items_of s) (grow_set.items_ascend s) h) ∙ ap singleton e
 
-max_there : (n : ℕ) (t : Bool) (e : nat_le n HIGHEST_LEVEL ≡ t) (c : MaxCounter) → c.value ≡ n → t ≡ true → max_by n t e ≡ Some c
+max_there : (n : ℕ) (t : Bool) (e : nat_le n HIGHEST_LEVEL ≡ t) (c : MaxCounter) → level c ≡ n → t ≡ true → max_by n t e ≡ Some c
 max_there n true e c v t = ap (λ (x : MaxCounter). Some x) (same_counter _ c (sym v))
 max_there n false e c v t = absurd cc
 
 -- each counter is the one of its number
 pub max_of_number : (c : MaxCounter) → max_of (number_of c) ≡ Some c
-max_of_number c = max_there c.value (nat_le c.value HIGHEST_LEVEL) refl c refl (le-leb c.value HIGHEST_LEVEL c.bounded)
+max_of_number c = max_there (level c) (nat_le (level c) HIGHEST_LEVEL) refl c refl (le-leb (level c) HIGHEST_LEVEL (level_within c))
 
 pub counter_is : (n : ℤ) (c : MaxCounter) (x : _) → number_of c ≡ n → state_in Max x ≡ c → counter n ≡ Some (Part (Max x))
 counter_is n c x e f = ap counter (sym e) ∙ ap (option_map (λ d. Part (held Max Empty d))) (max_of_number c ∙ ap (λ (d : MaxCounter). Some d) (sym f)) ∙ ap (λ s. Some (Part s)) (held_above Max Empty x)

@@ -1,14 +1,11 @@
 -- Lists of keys with amounts, and their total.
 use Rattle.std.specs.Prelude.{ℕ, ℤ, ◌-◌, List, sum_by}
 use Rattle.std.specs.Ordering.{int_cmp}
-use Rattle.lvish_lattice.specs.MaxCounter.{zero, joined}
+use Rattle.lvish_lattice.specs.MaxCounter.{level, zero, joined}
 use Rattle.lvish_lattice.specs.declared.max_counter.MaxCounter.{MaxCounter}
 use Rattle.lvish_compound.specs.Keyed.{at}
 
 -- the number of an amount
-abbrev pub level : MaxCounter → ℕ
-level c = c.value
-
 abbrev pub level_of : ℤ × MaxCounter → ℕ
 level_of e = level e.1
 

@@ -2,8 +2,7 @@
 use Rattle.std.specs.Prelude.{ℤ, Option}
 use Rattle.lvish_compound.specs.declared.any.Any.{Any}
 use Rattle.lvish_compound.specs.declared.any_read.AnyRead.{AnyRead}
-use Rattle.lvish_compound.specs.declared.place.Place.{Place}
-use Rattle.lvish_compound.specs.declared.number_test.Test.{Test}
+use Rattle.lvish_compound.specs.Vocabulary.{Place, Test}
 use Rattle.lvish_compound.specs.StateReads.{MemberAt, answer_at}
 
 -- the place that is read

@@ -4,13 +4,9 @@ use Rattle.std.specs.Ordering.{int_eq}
 use Rattle.lvish_lattice.specs.Listed.{one_of}
 use Rattle.lvish_compound.specs.declared.any.Any.{Any}
 use Rattle.lvish_compound.specs.declared.any_read.AnyRead.{AnyRead}
-use Rattle.lvish_compound.specs.declared.event.Event.{Event}
-use Rattle.lvish_compound.specs.declared.kind.Kind.{Kind}
+use Rattle.lvish_compound.specs.Vocabulary.{Event, Kind, Test, Cell, Set, Max, Place}
 use Rattle.lvish_compound.specs.declared.kind.Kind.TheVariants as kind
-use Rattle.lvish_compound.specs.declared.number_test.Test.{Test}
 use Rattle.lvish_compound.specs.declared.number_test.Test.TheVariants as test
-use Rattle.lvish_compound.specs.declared.part.Part.TheVariants.{Cell, Set, Max}
-use Rattle.lvish_compound.specs.declared.place.Place.{Place}
 use Rattle.lvish_compound.specs.declared.place.Place.TheVariants as place
 
 -- at a cell and at an entry, an event of any number can wake a read

@@ -1,26 +1,17 @@
 -- Where two states clash: where their join is top, by what the states hold.
 use Rattle.std.specs.Prelude.{◌≡◌, ◌≢◌, ◌⊎◌, Option, None}
 use Rattle.lvish_lattice.specs.Top.{TwoValues}
-use Rattle.std.specs.declared.cmp.Ord as ord
-use Rattle.std.specs.declared.cmp.PartialEq as partial_eq
-use Rattle.std.specs.declared.cmp.PartialOrd as partial_ord
-use Rattle.std.specs.declared.hash.Hash as hash
-use Rattle.lvish_lattice.specs.declared.lattice.Lattice as lattice
-use Rattle.lvish_compound.specs.declared.any.Any.{Any}
-use Rattle.lvish_compound.specs.declared.any.Any.TheVariants.{Part, Map, Sides, Tally}
-use Rattle.lvish_compound.specs.declared.map_of.MapOf.{MapOf}
-use Rattle.lvish_compound.specs.declared.pair.Pair.{Pair}
+use Rattle.lvish_compound.specs.Vocabulary.{OrdGhosts, PartialEqGhosts, PartialOrdGhosts, HashGhosts, LatticeGhosts, Pair, Empty, Cell, Set, Max}
 use Rattle.lvish_compound.specs.declared.part.Part as part
-use Rattle.lvish_compound.specs.declared.part.Part.TheVariants.{Empty, Cell, Set, Max}
-use Rattle.lvish_compound.specs.MapOf.{at}
-use Rattle.lvish_compound.specs.States.{nothing}
+use Rattle.lvish_compound.specs.MapOf.{MapOf, at}
+use Rattle.lvish_compound.specs.States.{Part, Map, Sides, Tally, Any, nothing}
 use Rattle.lvish_compound.specs.Tally.{IsPastTotal}
 
 -- two states join to top
 abbrev pub JoinToTop : {S : Type 0} → (S → S → Option S) → S → S → Type 0
 JoinToTop join s t = join s t ≡ None
 
-module _ {K L E : Type 0} {ko : ord.Ghosts K} {ke : partial_eq.Ghosts K} {kp : partial_ord.Ghosts K} {l : lattice.Ghosts L E} {le : partial_eq.Ghosts L} {eo : ord.Ghosts E} {ee : partial_eq.Ghosts E} {ep : partial_ord.Ghosts E} {eh : hash.Ghosts E} where
+module _ {K L E : Type 0} {ko : OrdGhosts K} {ke : PartialEqGhosts K} {kp : PartialOrdGhosts K} {l : LatticeGhosts L E} {le : PartialEqGhosts L} {eo : OrdGhosts E} {ee : PartialEqGhosts E} {ep : PartialOrdGhosts E} {eh : HashGhosts E} where
   -- the parts of two maps at some key clash
   abbrev pub AtSomeKey : (L → L → Type 0) → MapOf K L E ko ke kp l le eo ee ep eh → MapOf K L E ko ke kp l le eo ee ep eh → Type 0
   AtSomeKey ClashThere a b = (k : K) × ClashThere (at a k) (at b k)

@@ -1,12 +1,8 @@
 -- The events of a script's variables, named by key, kind and number.
 use Rattle.std.specs.Prelude.{ℤ, pos}
-use Rattle.lvish_compound.specs.declared.event.Event.{Event}
+use Rattle.lvish_compound.specs.Vocabulary.{Event, SideOf, One, Two, Ordering}
 use Rattle.lvish_compound.specs.declared.kind.Kind.TheVariants.{Cell, Set, Max, Map, Tally}
-use Rattle.lvish_compound.specs.declared.side_of.SideOf.{SideOf}
-use Rattle.lvish_compound.specs.declared.side_of.SideOf.TheVariants.{One, Two}
-use Rattle.std.specs.declared.cmp.Ordering.{Ordering}
 use Rattle.std.specs.Ordering.{int_cmp, nat_cmp, ordering_then}
-use Rattle.lvish_compound.specs.declared.event.Event.{Event}
 use Rattle.lvish_compound.specs.Kinds.{rank}
 
 abbrev pub PartEvent : Type 0

@@ -1,15 +1,10 @@
 -- States of a lattice held under a name, and nothing for bottom.
-use Rattle.std.specs.Prelude.{◌≡◌, Bool, true, false, Option, Some, None, refl}
-use Rattle.std.proofs.Common.{sym, ap, subst}
-use Rattle.std.specs.declared.cmp.Ord as ord
-use Rattle.std.specs.declared.cmp.PartialEq as partial_eq
-use Rattle.std.specs.declared.cmp.PartialOrd as partial_ord
-use Rattle.std.specs.declared.hash.Hash as hash
-use Rattle.lvish_lattice.specs.declared.lattice.Lattice as lattice
-use Rattle.lvish_compound.specs.declared.above.Above.{Above}
+use Rattle.std.proofs.Common.{◌≡◌, Bool, true, false, Option, Some, None, refl, sym, ap, subst, ◌∙◌}
+use Rattle.lvish_compound.specs.Vocabulary.{OrdGhosts, PartialEqGhosts, PartialOrdGhosts, HashGhosts, LatticeGhosts, Above}
+use Rattle.lvish_lattice.specs.Lattice.{IsIdentity}
 use Rattle.lvish_compound.specs.Above.{above, above_is, bottom_is_none}
 
-module _ {L E S : Type 0} {l : lattice.Ghosts L E} {le : partial_eq.Ghosts L} {eo : ord.Ghosts E} {ee : partial_eq.Ghosts E} {ep : partial_ord.Ghosts E} {eh : hash.Ghosts E} (put : Above L E l le eo ee ep eh → S) where
+module _ {L E S : Type 0} {l : LatticeGhosts L E} {le : PartialEqGhosts L} {eo : OrdGhosts E} {ee : PartialEqGhosts E} {ep : PartialOrdGhosts E} {eh : HashGhosts E} (put : Above L E l le eo ee ep eh → S) where
   abbrev pub from : S → Option (Above L E l le eo ee ep eh) → S
   from nothing (Some x) = put x
   from nothing None = nothing
@@ -46,3 +41,7 @@ module _ {L E S : Type 0} {l : lattice.Ghosts L E} {le : partial_eq.Ghosts L} {e
     | true ↦ λ e. subst P (sym (held_bottom nothing s e)) (f e)
     | false ↦ λ e. let x : Above L E l le eo ee ep eh = record { state = s; rises = e } in subst P (sym (held_above nothing x)) (g x refl)
   ] refl
+
+  -- what is seen of the state, and of what it is held as
+  pub held_agrees : IsIdentity test_of → (nothing : S) {T : Type 0} (seen : S → T) (shown : L → T) → seen nothing ≡ shown bottom_of → ((x : Above L E l le eo ee ep eh) → seen (put x) ≡ shown x.state) → (s : L) → seen (held nothing s) ≡ shown s
+  held_agrees same nothing seen shown none some s = held_by nothing (λ v. seen v ≡ shown s) s (λ e. none ∙ ap shown (sym (same s _ e))) (λ x e. some x ∙ ap shown e)

@@ -1,10 +1,9 @@
 -- Lists of entries, each a key and a value above the least one: finite functions into a lattice, and their pointwise join.
 use Rattle.std.specs.Prelude.{Bool, cond, not, List, [], ◌∷◌, Option, Some, option_and_then, option_map}
-use Rattle.std.specs.declared.cmp.Ordering.{Ordering}
+use Rattle.lvish_compound.specs.Vocabulary.{Ordering}
 use Rattle.std.specs.Ordering.{eq_by_cmp, match_ordering}
 use Rattle.std.specs.List.{list_all}
 use Rattle.std.specs.Prelude.{Bool, ◌&&◌, List, [], ◌∷◌, ◌++◌, map}
-use Rattle.std.specs.declared.cmp.Ordering.{Ordering}
 use Rattle.std.specs.Ordering.{eq_by_cmp, ordering_then}
 
 abbrev pub key : {K L : Type 0} → K × L → K

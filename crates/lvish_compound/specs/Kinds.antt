@@ -1,11 +1,9 @@
 -- The kinds of a script's variables: their `==` and their order, by laws of all enums without fields.
 use Rattle.std.specs.Prelude.{ℕ, Bool}
 use Rattle.std.specs.Cmp.Derive.{of_values, points}
-use Rattle.std.specs.declared.cmp.Ordering.{Ordering}
-use Rattle.std.specs.declared.cmp.Ordering.TheVariants.{Less, Equal, Greater}
+use Rattle.lvish_compound.specs.Vocabulary.{Ordering, Less, Equal, Greater, Kind}
 use denote.Enum.Bare.{sameb}
 use Rattle.lvish_compound.specs.contracts.kind.Kind.{the_type, enum}
-use Rattle.lvish_compound.specs.declared.kind.Kind.{Kind}
 use Rattle.lvish_compound.specs.declared.kind.Kind.TheVariants.{Cell, Set, Max, Map, Tally}
 
 -- the place of a kind in the order of kinds

@@ -18,4 +18,5 @@ pub mod Sides
 pub mod StateReads
 pub mod States
 pub mod Tally
+pub mod Vocabulary
 pub mod laws

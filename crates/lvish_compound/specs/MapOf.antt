@@ -1,20 +1,14 @@
 -- Maps that only grow.
-use Rattle.std.specs.Prelude.{◌≡◌, Bool, true, false, ◌&&◌, List, [], map, Option, Some, None, option_and_then, refl}
-use Rattle.std.proofs.Common.{ap}
+use Rattle.std.proofs.Common.{◌≡◌, Bool, true, false, ◌&&◌, List, [], map, Option, Some, None, option_and_then, refl, ap}
 use mathlib.Core.HLevel.{Σ_prop_path, ×_prop}
 use Rattle.std.proofs.Math.Bool.{Bool-set}
-use Rattle.std.specs.declared.cmp.Ordering.{Ordering}
+use Rattle.lvish_compound.specs.Vocabulary.{Ordering, OrdGhosts, PartialEqGhosts, PartialOrdGhosts, HashGhosts, LatticeGhosts}
 use Rattle.std.specs.List.Sorted.{IsStrictlySortedBy, IsStrictlySortedBy-prop}
 use Rattle.std.specs.Cmp.Lexicographic.{pointwise}
 use Rattle.lvish_compound.specs.Keyed.{events_of, key, has_no, add_all}
 use Rattle.lvish_lattice.specs.Ascending.{is_ascending, nothing_rises, rises_by_test, test_rises, and_left, and_right, and_both}
 use Rattle.lvish_compound.specs.Keyed as keyed
-use Rattle.std.specs.declared.cmp.Ord as ord
-use Rattle.std.specs.declared.cmp.PartialEq as partial_eq
-use Rattle.std.specs.declared.cmp.PartialOrd as partial_ord
-use Rattle.std.specs.declared.hash.Hash as hash
-use Rattle.lvish_lattice.specs.declared.lattice.Lattice as lattice
-use Rattle.lvish_compound.specs.declared.map_of.MapOf.{MapOf}
+pub use Rattle.lvish_compound.specs.declared.map_of.MapOf.{MapOf}
 
 module _ {K L : Type 0} (cmp : K → K → Ordering) (eq : L → L → Bool) (least : L) where
   -- what the ghost fields say, and a test of it
@@ -27,7 +21,7 @@ module _ {K L : Type 0} (cmp : K → K → Ordering) (eq : L → L → Bool) (le
   abbrev is_sound : List (K × L) → Bool
   is_sound es = is_ascending cmp (map key es) && has_no eq least es
 
-module _ {K L E : Type 0} {ko : ord.Ghosts K} {ke : partial_eq.Ghosts K} {kp : partial_ord.Ghosts K} {l : lattice.Ghosts L E} {le : partial_eq.Ghosts L} {eo : ord.Ghosts E} {ee : partial_eq.Ghosts E} {ep : partial_ord.Ghosts E} {eh : hash.Ghosts E} where
+module _ {K L E : Type 0} {ko : OrdGhosts K} {ke : PartialEqGhosts K} {kp : PartialOrdGhosts K} {l : LatticeGhosts L E} {le : PartialEqGhosts L} {eo : OrdGhosts E} {ee : PartialEqGhosts E} {ep : PartialOrdGhosts E} {eh : HashGhosts E} where
   pub same_map : (a b : MapOf K L E ko ke kp l le eo ee ep eh) → a.entries ≡ b.entries → a ≡ b
   same_map a b h =
       let pairs : ◌≡◌ {A = (es : List (K × L)) × Sound ko.cmp le.eq l.least es} (a.entries, (a.ascending, a.above)) (b.entries, (b.ascending, b.above)) = Σ_prop_path (Sound-prop ko.cmp le.eq l.least) h in

@@ -2,17 +2,13 @@
 use Rattle.std.specs.Prelude.{◌≡◌, ℤ, pos, negsuc, Bool, true, false, cond, int_le, nat_le, Option, Some, None, Contains, find, is_some, ℕ, refl}
 use Rattle.std.specs.List.{list_any, list_all}
 use Rattle.std.specs.Ordering.{int_eq}
-use Rattle.lvish_lattice.specs.declared.flat.Flat.{Flat}
-use Rattle.lvish_lattice.specs.declared.flat.Flat.TheVariants.{Bottom, Value}
-use Rattle.lvish_compound.specs.declared.number_test.Test.{Test}
+use Rattle.lvish_compound.specs.Vocabulary.{Flat, Bottom, Value, Test, MaxCounter, HIGHEST_LEVEL, HIGHEST_TOTAL}
 use Rattle.lvish_compound.specs.declared.number_test.Test.TheVariants.{Any, In, At}
 use borrow.Author.Tests.{leb-true}
-use Rattle.lvish_lattice.specs.declared.max_counter.MaxCounter.{MaxCounter}
-use Rattle.lvish_lattice.specs.declared.limits.TheConstants.{HIGHEST_LEVEL}
-use Rattle.lvish_compound.specs.declared.limits.TheConstants.{HIGHEST_TOTAL}
+use Rattle.lvish_lattice.specs.MaxCounter.{counter_of}
 
 abbrev pub max_by : (n : ℕ) (t : Bool) → nat_le n HIGHEST_LEVEL ≡ t → Option MaxCounter
-max_by n true h = Some (record { value = n; bounded = leb-true n HIGHEST_LEVEL h })
+max_by n true h = Some (counter_of n (leb-true n HIGHEST_LEVEL h))
 max_by n false h = None
 
 -- the counter that holds a number, where it is from 0 to 1000

@@ -1,8 +1,6 @@
 -- Two states side by side.
 use Rattle.std.specs.Prelude.{◌≡◌, List, ◌++◌, map, Option, Some, None, option_map}
-use Rattle.lvish_compound.specs.declared.pair.Pair.{Pair}
-use Rattle.lvish_compound.specs.declared.side_of.SideOf.{SideOf}
-use Rattle.lvish_compound.specs.declared.side_of.SideOf.TheVariants.{One, Two}
+use Rattle.lvish_compound.specs.Vocabulary.{Pair, SideOf, One, Two}
 
 abbrev pub of_one : {X Y : Type 0} → X → SideOf X Y
 of_one x = One x

@@ -1,16 +1,10 @@
 -- The sides of a script's pairs.
 use Rattle.std.specs.Prelude.{ℤ, Bool, true, false, ◌&&◌, List, [], ◌∷◌, Option, Some, None, option_map}
 use Rattle.std.specs.Ordering.{int_eq}
-use Rattle.lvish_lattice.specs.declared.flat.Flat.{Flat}
-use Rattle.lvish_lattice.specs.declared.flat.Flat.TheVariants.{Bottom, Value}
-use Rattle.lvish_lattice.specs.declared.max_counter.MaxCounter.{MaxCounter}
+use Rattle.lvish_compound.specs.Vocabulary.{Flat, Bottom, Value, MaxCounter, SideOf, Pair, Part, Empty, Cell, Set, Max}
 use Rattle.lvish_lattice.specs.Flat as flat
 use Rattle.lvish_lattice.specs.GrowSet as set
 use Rattle.lvish_lattice.specs.MaxCounter as max
-use Rattle.lvish_compound.specs.declared.side_of.SideOf.{SideOf}
-use Rattle.lvish_compound.specs.declared.pair.Pair.{Pair}
-use Rattle.lvish_compound.specs.declared.part.Part.{Part}
-use Rattle.lvish_compound.specs.declared.part.Part.TheVariants.{Empty, Cell, Set, Max}
 use Rattle.lvish_compound.specs.Above.{alike as same}
 use Rattle.lvish_compound.specs.Held.{HeldState, held, bottom_of}
 use Rattle.lvish_compound.specs.Pair as pair

@@ -1,9 +1,7 @@
 -- Places where a variable is read.
 use Rattle.std.specs.Prelude.{ℕ, Bool, true, false, ◌&&◌, ◌||◌, nat_eq}
-use Rattle.lvish_compound.specs.declared.kind.Kind.{Kind}
+use Rattle.lvish_compound.specs.Vocabulary.{Kind, Test, Place}
 use Rattle.lvish_compound.specs.declared.kind.Kind.TheVariants as kind
-use Rattle.lvish_compound.specs.declared.number_test.Test.{Test}
-use Rattle.lvish_compound.specs.declared.place.Place.{Place}
 use Rattle.lvish_compound.specs.declared.place.Place.TheVariants as place
 use Rattle.lvish_compound.specs.Numbers.{are_levels, are_totals, HasOne}
 

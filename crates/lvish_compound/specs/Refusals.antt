@@ -3,12 +3,9 @@ use Rattle.std.specs.Prelude.{◌≡◌, ◌≢◌, ◌⊎◌, ℕ, ℤ, pos, �
 use Rattle.lvish_compound.specs.declared.any.Any.{Any}
 use Rattle.lvish_compound.specs.declared.any.Any.TheVariants as any
 use Rattle.lvish_compound.specs.declared.kind.Kind.TheVariants as kind
-use Rattle.lvish_compound.specs.declared.number_test.Test.{Test}
+use Rattle.lvish_compound.specs.Vocabulary.{Test, Place, HIGHEST_LEVEL, HIGHEST_TOTAL}
 use Rattle.lvish_compound.specs.declared.number_test.Test.TheVariants as test
-use Rattle.lvish_compound.specs.declared.place.Place.{Place}
 use Rattle.lvish_compound.specs.declared.place.Place.TheVariants as place
-use Rattle.lvish_lattice.specs.declared.limits.TheConstants.{HIGHEST_LEVEL}
-use Rattle.lvish_compound.specs.declared.limits.TheConstants.{HIGHEST_TOTAL}
 
 -- a number that no counter holds
 abbrev pub IsBeyond : ℤ → Type 0

@@ -1,8 +1,6 @@
 -- Pairs of parts that aren't both empty.
 use Rattle.std.specs.Prelude.{◌≡◌, Bool, true, false, Option, Some, None, refl}
-use Rattle.lvish_compound.specs.declared.pair.Pair.{Pair}
-use Rattle.lvish_compound.specs.declared.part.Part.{Part}
-use Rattle.lvish_compound.specs.declared.part.Part.TheVariants.{Empty}
+use Rattle.lvish_compound.specs.Vocabulary.{Pair, Part, Empty}
 use Rattle.lvish_compound.specs.declared.sides.Sides.{Sides}
 use Rattle.lvish_compound.specs.Parts.{no_sides, pairs_alike}
 

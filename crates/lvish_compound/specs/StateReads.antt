@@ -4,17 +4,13 @@ use Rattle.std.specs.Set.{is_member}
 use Rattle.std.specs.Ordering.{int_eq}
 use Rattle.lvish_lattice.specs.GrowSet as grow_set
 use Rattle.lvish_lattice.specs.MaxCounter.{number_of}
-use Rattle.lvish_compound.specs.declared.any.Any.{Any}
-use Rattle.lvish_compound.specs.declared.kind.Kind.{Kind}
+use Rattle.lvish_compound.specs.Vocabulary.{Kind, Test, Part, Place}
 use Rattle.lvish_compound.specs.declared.kind.Kind.TheVariants as kind
-use Rattle.lvish_compound.specs.declared.number_test.Test.{Test}
-use Rattle.lvish_compound.specs.declared.part.Part.{Part}
-use Rattle.lvish_compound.specs.declared.place.Place.{Place}
 use Rattle.lvish_compound.specs.declared.place.Place.TheVariants as place
 use Rattle.lvish_compound.specs.MapOf as map_of
 use Rattle.lvish_compound.specs.Numbers.{ByNumber, cell_answer, first_that, is_reached}
 use Rattle.lvish_compound.specs.Parts.{cell_in, set_in, max_in}
-use Rattle.lvish_compound.specs.States.{cell, set, counter, entry, amount, of_tally, side, part_in, map_in, sides_in, tally_in}
+use Rattle.lvish_compound.specs.States.{Any, cell, set, counter, entry, amount, of_tally, side, part_in, map_in, sides_in, tally_in}
 use Rattle.lvish_compound.specs.Tally as tally
 use Rattle.lvish_compound.specs.declared.tally.Tally as tallies
 

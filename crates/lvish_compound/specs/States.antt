@@ -1,15 +1,12 @@
 -- The states of a script's variables: a part, a map, two parts side by side, or a tally.
 use Rattle.std.specs.Prelude.{ℕ, ℤ, pos, Bool, false, cond, nat_eq, List, [], ◌∷◌, map, Option, Some, None, option_map}
 use Rattle.lvish_lattice.specs.Ascending.{one_rises}
-use Rattle.lvish_lattice.specs.declared.flat.Flat.TheVariants.{Value}
-use Rattle.lvish_lattice.specs.declared.max_counter.MaxCounter.{MaxCounter}
+use Rattle.lvish_lattice.specs.GrowSet.{set_with}
+use Rattle.lvish_compound.specs.Vocabulary.{Value, MaxCounter, Event, Pair, Empty, Cell, Set, Max}
 use Rattle.std.specs.Ordering.{int_cmp}
-use Rattle.lvish_compound.specs.declared.any.Any.{Any}
-use Rattle.lvish_compound.specs.declared.any.Any.TheVariants.{Part, Map, Sides, Tally}
-use Rattle.lvish_compound.specs.declared.event.Event.{Event}
-use Rattle.lvish_compound.specs.declared.pair.Pair.{Pair}
+pub use Rattle.lvish_compound.specs.declared.any.Any.{Any}
+pub use Rattle.lvish_compound.specs.declared.any.Any.TheVariants.{Part, Map, Sides, Tally}
 use Rattle.lvish_compound.specs.declared.part.Part as part
-use Rattle.lvish_compound.specs.declared.part.Part.TheVariants.{Empty, Cell, Set, Max}
 use Rattle.lvish_compound.specs.declared.sides.Sides as sides
 use Rattle.lvish_compound.specs.declared.tally.Tally as tallies
 use Rattle.lvish_compound.specs.Above.{alike as same}
@@ -55,7 +52,7 @@ abbrev pub cell : ℤ → Any
 cell n = Part (Cell n)
 
 abbrev pub singleton : ℤ → HeldState Set
-singleton n = record { items = n ∷ []; ascending = one_rises int_cmp n }
+singleton n = set_with (n ∷ []) (one_rises int_cmp n)
 
 -- the set of one element
 abbrev pub set : ℤ → Any

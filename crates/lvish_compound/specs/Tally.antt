@@ -4,14 +4,13 @@ use Rattle.std.proofs.Common.{lit≤, arith}
 use Rattle.std.specs.List.Sorted.{IsStrictlySortedBy}
 use Rattle.std.specs.Ordering.{int_cmp, int_eq}
 use borrow.Author.Tests.{leb-true, eqb-true}
-use Rattle.lvish_lattice.specs.declared.max_counter.MaxCounter.{MaxCounter}
+use Rattle.lvish_compound.specs.Vocabulary.{MaxCounter, HIGHEST_TOTAL}
 use Rattle.lvish_lattice.specs.Lattice.{IsAtOrBelow}
-use Rattle.lvish_compound.specs.declared.tally.Tally.{Tally}
+pub use Rattle.lvish_compound.specs.declared.tally.Tally.{Tally}
 use Rattle.lvish_compound.specs.Amounts as amounts
 use Rattle.lvish_compound.specs.MapOf as map_of
 use Rattle.lvish_compound.specs.MapReads.{holding}
-use Rattle.lvish_lattice.specs.MaxCounter.{zero}
-use Rattle.lvish_compound.specs.declared.limits.TheConstants.{HIGHEST_TOTAL}
+use Rattle.lvish_lattice.specs.MaxCounter.{level, level_within, zero}
 
 -- the type of a function's values
 abbrev Codomain : {A B : Type 0} → (A → B) → Type 0
@@ -61,13 +60,13 @@ events_of t = map_of.map_events_of t.amounts
 abbrev pub amount_test : MaxCounter → MaxCounter → Bool
 amount_test x y = map_of.part_test (amounts_of empty) x y
 
-pub alone_total : (k : ℤ) (c : MaxCounter) (t : Bool) → amount_test c zero ≡ t → amounts.level c ≡ amounts.total_of (cond t [] ((k, c) ∷ []))
-alone_total k c true e = eqb-true c.value 0 e
+pub alone_total : (k : ℤ) (c : MaxCounter) (t : Bool) → amount_test c zero ≡ t → level c ≡ amounts.total_of (cond t [] ((k, c) ∷ []))
+alone_total k c true e = eqb-true (level c) 0 e
 alone_total k c false e = omega arith
 
 -- the tally of one key and its amount
 abbrev pub single : ℤ → MaxCounter → Tally
-single k c = record { amounts = holding k c; total = amounts.level c; counted = alone_total k c (amount_test c zero) refl; bounded = omega (arith, c.bounded) }
+single k c = record { amounts = holding k c; total = level c; counted = alone_total k c (amount_test c zero) refl; bounded = omega (arith, level_within c) }
 
 -- whether two tallies have the same amounts
 abbrev pub alike : Tally → Tally → Bool
@@ -75,7 +74,7 @@ alike s t = map_of.alike (λ (p q : ℤ × MaxCounter). int_eq p.0 q.0 && amount
 
 -- the greater of the two amounts of a key
 abbrev pub greater_level : Tally → Tally → ℤ → ℕ
-greater_level s t k = max (amounts.level (amount s k)) (amounts.level (amount t k))
+greater_level s t k = max (level (amount s k)) (level (amount t k))
 
 -- at some keys, each listed once, the greater amounts add up to more than 10,000
 abbrev pub IsPastTotal : Tally → Tally → Type 0

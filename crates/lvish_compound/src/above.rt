@@ -11,7 +11,7 @@ pub struct Above<L: Lattice> {
 }
 
 impl<L: Lattice> Above<L> {
-    ghost use Rattle.lvish_compound.specs.Above.{above};
+    ghost use Rattle.lvish_compound.specs.Above.{above, state_of};
 
     /// The state, unless it is bottom.
     pub fn of(alloc: Global, state: L) -> Option<Above<L>>
@@ -27,13 +27,13 @@ impl<L: Lattice> Above<L> {
     /// A state that isn't bottom.
     pub(crate) fn rising(state: L) -> Above<L>
         requires { L.eq state L.least ≡ false }
-        ensures { result.state ≡ state }
+        ensures { state_of result ≡ state }
     {
         Above { state }
     }
 
     pub fn state(&self) -> &L
-        ensures { result.now ≡ self.now.state }
+        ensures { result.now ≡ state_of self.now }
     {
         &self.state
     }
@@ -48,7 +48,7 @@ impl<L: Lattice> Above<L> {
 
     /// Joins a state to this one in place, as `Lattice::merge` does.
     pub fn merge(&mut self, alloc: Global, put: &Above<L>) -> Result<bool, AllocError>
-        ensures merged { IfOk result (λ b. (b ≡ is_some (L.joined self.old.state put.now.state)) × (self.new.state ≡ unwrap_or (L.joined self.old.state put.now.state) self.old.state)) }
+        ensures merged { IfOk result (λ b. (b ≡ is_some (L.joined (state_of self.old) (state_of put.now))) × (state_of self.new ≡ unwrap_or (L.joined (state_of self.old) (state_of put.now)) (state_of self.old))) }
         ensures refused { IfErr result (λ _. self.new ≡ self.old) }
     {
         self.state.merge(alloc, &put.state)

@@ -7,7 +7,7 @@ ghost use Rattle.lvish_lattice.specs.GrowSet.{items_of};
 ghost use Rattle.lvish_compound.specs.Numbers.{is_level, are_levels, is_total, are_totals, cell_answer, first_that, is_reached, HasOne};
 
 use crate::limits::HIGHEST_TOTAL;
-use lvish_lattice::{GrowSet, HIGHEST_LEVEL, Items, Plain, has_one_value};
+use lvish_lattice::{GrowSet, HIGHEST_LEVEL, Items, has_one_value};
 
 /// Which numbers are waited for: any, those of a list, or one.
 ///
@@ -52,13 +52,6 @@ fn is_reached(level: i64, number: i64) -> bool
     number <= level
 }
 
-/// Whether the set has the element.
-fn has<V: Plain>(set: &GrowSet<V>, element: V) -> bool
-    ensures { result ≡ is_member V.eq (items_of set.now) element }
-{
-    set.items().binary_search(&element).is_ok()
-}
-
 fn are_levels(numbers: &[i64]) -> bool
     ensures { result ≡ list_all is_level numbers.now }
 {
@@ -80,7 +73,7 @@ fn is_listed(numbers: &[i64], number: i64) -> bool
 fn first_held(numbers: &[i64], set: &GrowSet<i64>) -> Option<i64>
     ensures { result ≡ find (is_member int_eq (items_of set.now)) numbers.now }
 {
-    numbers.iter().copied().find(|number| has(set, *number))
+    numbers.iter().copied().find(|number| set.has(*number))
 }
 
 fn first_reached(numbers: &[i64], level: i64) -> Option<i64>
@@ -151,7 +144,7 @@ impl Test {
         match self {
             Test::Any => None,
             Test::In(numbers) => first_held(numbers.as_slice(), set),
-            Test::At(number) => only_if(has(set, *number), *number),
+            Test::At(number) => only_if(set.has(*number), *number),
         }
     }
 

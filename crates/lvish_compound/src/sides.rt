@@ -14,7 +14,7 @@ pub struct Sides {
 }
 
 impl Sides {
-    ghost use Rattle.lvish_compound.specs.Sides.{above};
+    ghost use Rattle.lvish_compound.specs.Sides.{above, pair_of};
 
     /// The pair, unless both sides are empty.
     pub fn of(pair: Pair<Part, Part>) -> Option<Sides>
@@ -28,7 +28,7 @@ impl Sides {
     }
 
     pub fn pair(&self) -> &Pair<Part, Part>
-        ensures { result.now ≡ self.now.pair }
+        ensures { result.now ≡ pair_of self.now }
     {
         &self.pair
     }
@@ -43,7 +43,7 @@ impl Sides {
 
     /// Joins a pair to this one in place, as `Lattice::merge` does.
     pub fn merge(&mut self, alloc: Global, put: &Sides) -> Result<bool, AllocError>
-        ensures merged { IfOk result (λ b. (b ≡ is_some (pairs_joined self.old.pair put.now.pair)) × (self.new.pair ≡ unwrap_or (pairs_joined self.old.pair put.now.pair) self.old.pair)) }
+        ensures merged { IfOk result (λ b. (b ≡ is_some (pairs_joined (pair_of self.old) (pair_of put.now))) × (pair_of self.new ≡ unwrap_or (pairs_joined (pair_of self.old) (pair_of put.now)) (pair_of self.old))) }
         ensures refused { IfErr result (λ _. self.new ≡ self.old) }
     {
         self.pair.merge(alloc, &put.pair)

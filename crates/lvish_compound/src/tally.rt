@@ -2,9 +2,9 @@ ghost use Rattle.std.specs.Prelude.{◌≡◌, ◌≤◌, IfOk, pos, map, true};
 ghost use Rattle.std.specs.List.Sorted.{IsStrictlySortedBy};
 ghost use Rattle.std.specs.Ordering.{int_cmp};
 ghost use Rattle.lvish_compound.specs.declared.limits.TheConstants.{HIGHEST_TOTAL};
-ghost use Rattle.lvish_compound.specs.Amounts.{total_of, level, gain};
+ghost use Rattle.lvish_compound.specs.Amounts.{total_of, gain};
 ghost use Rattle.lvish_compound.specs.Keyed.{key, has_no, single_entry};
-ghost use Rattle.lvish_lattice.specs.MaxCounter.{zero};
+ghost use Rattle.lvish_lattice.specs.MaxCounter.{level, zero};
 ghost use Rattle.lvish_compound.specs.MapOf as map_of;
 
 use crate::limits::HIGHEST_TOTAL;

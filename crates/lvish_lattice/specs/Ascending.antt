@@ -1,8 +1,7 @@
 -- Ascending lists as sets: a list is determined by its members, and a merge is a join.
-use Rattle.std.specs.Prelude.{◌≡◌, Bool, true, false, not, ◌||◌, ◌&&◌, List, [], ◌∷◌, ◌↔◌, ◌++◌, All, refl, filter, slice_index_or, Contains, Result, Ok, Err, is_ok, nat_lt}
-use Rattle.std.proofs.Common.{sym, ◌∙◌, ap, subst, true≢false, arith, zero, suc, length, ◌<◌, ◌≤◌, ℕ, take, drop}
-use Rattle.std.proofs.Math.Bool.{or_comm, or_assoc, or-false}
-use Rattle.std.proofs.lemmas.List.{append-nil, take_at}
+use Rattle.std.specs.Prelude.{◌≡◌, Bool, true, false, not, ◌||◌, ◌&&◌, List, [], ◌∷◌, ◌↔◌, All, refl, filter, slice_index_or}
+use Rattle.std.proofs.Common.{sym, ◌∙◌, ap, subst, true≢false, arith, suc}
+use Rattle.std.proofs.Math.Bool.{or_comm, or_assoc, or-false, or_self}
 use Rattle.std.specs.declared.cmp.Ordering.{Ordering}
 use Rattle.std.specs.declared.cmp.Ordering.TheVariants.{Less, Equal, Greater}
 use Rattle.std.specs.Ordering.{eq_by_cmp, is_eq, is_lt, ordering_reverse, match_ordering}
@@ -10,23 +9,14 @@ use Rattle.std.specs.Cmp.{IsTotalOrder, Equal-is, tied_itself, alike_right, eq_b
 use Rattle.std.proofs.lemmas.Map.Made.{is_member-filter, All-is_member}
 use Rattle.std.proofs.lemmas.List.Kept.{IsStrictlySortedBy-filter}
 use Rattle.std.specs.Set.{is_member, sorted_merge, merge_step, IsUnion}
-use Rattle.std.specs.List.{AllByRecursion, list_all, insert, HoldsAt}
-use Rattle.std.specs.List.Sorted.{IsStrictlySortedBy, IsSorted, IsSortedBy, IsBinarySearchResult, IsSearchInRange, IsPartitionPoint}
-use Rattle.std.proofs.lemmas.List.Sorted.{searchable_from_sorted}
-use Rattle.std.proofs.lemmas.List.Elements.{All-cons, All-nil}
-use Rattle.std.proofs.lemmas.Map.Views.{Contains-from_any, list_any-from_Contains}
-use borrow.Author.Tests.{ltb-true, ltb-false}
-use native.Mathlib.Numerals.{unary_clauses}
+use Rattle.std.specs.List.{AllByRecursion, list_all}
+use Rattle.std.specs.List.Sorted.{IsStrictlySortedBy}
 use Rattle.std.specs.Cmp.Lexicographic.{pointwise}
 use Rattle.lvish_lattice.specs.Lattice.{IsIdentity}
 
 -- elements that tie are the same
 pub ties_are_same : {V : Type 0} {eq : V → V → Bool} (cmp : V → V → Ordering) → IsIdentity eq → ((x y : V) → eq x y ≡ is_eq (cmp x y)) → (x y : V) → cmp x y ≡ Equal → x ≡ y
 ties_are_same cmp same ties x y t = same x y (ties x y ∙ ap is_eq t)
-
-or_same : (a : Bool) → (a || a) ≡ a
-or_same true = refl
-or_same false = refl
 
 or_once : (t a b : Bool) → (t || (a || b)) ≡ ((t || a) || (t || b))
 or_once true a b = refl
@@ -126,7 +116,7 @@ module _ {K : Type 0} {R : K → K → Ordering} (o : IsTotalOrder R) where
   below_all x y [] h a = tt
   below_all x y (z ∷ zs) h a = (o.trans x y z h a.0, below_all x y zs h a.1)
 
-  level_all : (x y : K) (ys : List K) → R x y ≡ Equal → Below y ys → Below x ys
+  pub level_all : (x y : K) (ys : List K) → R x y ≡ Equal → Below y ys → Below x ys
   level_all x y [] h a = tt
   level_all x y (z ∷ zs) h a = (o.congr x y z h ∙ a.0, level_all x y zs h a.1)
 
@@ -198,20 +188,8 @@ module _ {K : Type 0} {R : K → K → Ordering} (o : IsTotalOrder R) where
           merge_has q (merge xs ys) zs ∙ ap (λ b. b || has zs q) (merge_has q xs ys) ∙ or_assoc (has xs q) (has ys q) (has zs q)
           ∙ sym (merge_has q xs (merge ys zs) ∙ ap (λ b. has xs q || b) (merge_has q ys zs)))
 
-    -- an element below those of a list, put into the list merged with another
-    pub merge_first : (x : K) (us ys : List K) → IsStrictlySortedBy R (x ∷ us) → IsStrictlySortedBy R ys → merge (x ∷ []) (merge us ys) ≡ merge (x ∷ us) ys
-    unfolding IsStrictlySortedBy
-    merge_first x us ys s t = sym (merge_regroups (x ∷ []) us (tt, tt) s.1 ys t) ∙ ap (λ l. merge l ys) (in_front us s.0)
-      where
-        in_front : (us : List K) → Below x us → merge (x ∷ []) us ≡ x ∷ us
-        in_front [] b = refl
-        in_front (u ∷ us) b = ap (λ r. match_ordering r (x ∷ u ∷ us) (x ∷ us) (u ∷ merge (x ∷ []) us)) b.0
-
-    pub put_step : (x : K) (us ds ys : List K) → ds ≡ x ∷ us → IsStrictlySortedBy R ds → IsStrictlySortedBy R ys → merge (x ∷ []) (merge us ys) ≡ merge ds ys
-    put_step x us ds ys e s t = merge_first x us ys (subst (IsStrictlySortedBy R) e s) t ∙ ap (λ l. merge l ys) (sym e)
-
     pub merge_same : (xs : List K) → IsStrictlySortedBy R xs → merge xs xs ≡ xs
-    merge_same xs s = same_members _ _ (merge_rises xs xs s s) s (λ q. merge_has q xs xs ∙ or_same (has xs q))
+    merge_same xs s = same_members _ _ (merge_rises xs xs s s) s (λ q. merge_has q xs xs ∙ or_self (has xs q))
 
     has_within : (xs ys : List K) → All (λ x. has ys x ≡ true) xs → (q : K) → has xs q ≡ true → has ys q ≡ true
     has_within [] ys h q m = absurd (true≢false (sym m))
@@ -257,117 +235,3 @@ same_items {eq = eq} same (x ∷ xs) (y ∷ ys) h =
 pub within_by : {K : Type 0} {R : K → K → Ordering} (o : IsTotalOrder R) (same : (x y : K) → R x y ≡ Equal → x ≡ y) (eq : K → K → Bool) → ((x y : K) → eq x y ≡ is_eq (R x y)) → (xs ys : List K) → IsStrictlySortedBy R xs → IsStrictlySortedBy R ys
     → All (λ x. is_member eq ys x ≡ true) xs ↔ (sorted_merge R true xs ys ≡ ys)
 within_by {K} {R} o same eq ties xs ys s t = subst (λ (e : K → K → Bool). All (λ x. is_member e ys x ≡ true) xs ↔ (sorted_merge R true xs ys ≡ ys)) (λ i x y. sym (ties x y) i) (merge_within o same xs ys s t, within_merge o same xs ys)
-
--- a merge with nothing
-pub merge_first_ends : {K : Type 0} (R : K → K → Ordering) (xs ys : List K) → xs ≡ [] → sorted_merge R true xs ys ≡ xs ++ ys
-merge_first_ends R xs ys e = rw e refl
-
-pub merge_second_ends : {K : Type 0} (R : K → K → Ordering) (xs ys : List K) → ys ≡ [] → sorted_merge R true xs ys ≡ xs ++ ys
-merge_second_ends R [] ys e = refl
-merge_second_ends R (x ∷ xs) ys e = rw e (sym (append-nil (x ∷ xs)))
-
-pub rises_drop : {K : Type 0} (R : K → K → Ordering) (n : ℕ) (xs : List K) → IsStrictlySortedBy R xs → IsStrictlySortedBy R (drop n xs)
-unfolding IsStrictlySortedBy
-rises_drop R zero xs s = s
-rises_drop R (suc n) [] s = s
-rises_drop R (suc n) (x ∷ xs) s = rises_drop R n xs s.1
-
-pub rises_take : {K : Type 0} (R : K → K → Ordering) (n : ℕ) (xs : List K) → IsStrictlySortedBy R xs → IsStrictlySortedBy R (take n xs)
-unfolding IsStrictlySortedBy
-rises_take R zero xs s = tt
-rises_take R (suc n) [] s = tt
-rises_take {K} R (suc n) (x ∷ xs) s = (below_taken n xs s.0, rises_take R n xs s.1)
-  where
-    below_taken : (n : ℕ) (ys : List K) → AllByRecursion (λ y. R x y ≡ Less) ys → AllByRecursion (λ y. R x y ≡ Less) (take n ys)
-    below_taken zero ys b = tt
-    below_taken (suc n) [] b = tt
-    below_taken (suc n) (y ∷ ys) b = (b.0, below_taken n ys b.1)
-
-module _ {K : Type 0} {R : K → K → Ordering} (o : IsTotalOrder R) where
-  back_less : (x y : K) → R x y ≡ Less → R y x ≡ Greater
-  back_less x y h = o.antisymm y x ∙ ap ordering_reverse h
-
-  no_test : (x y : K) → R x y ≡ Less → is_lt (R y x) ≡ false
-  no_test x y h = ap is_lt (back_less x y h)
-
-  sorted_later : (x : K) (xs : List K) → AllByRecursion (λ y. R x y ≡ Less) xs → IsSortedBy (λ a b. is_lt (R a b)) xs → IsSortedBy (λ a b. is_lt (R a b)) (x ∷ xs)
-  sorted_later x [] b s k d l h = absurd (omega arith)
-  sorted_later x (y ∷ ys) b s zero d l h = no_test x y b.0
-  sorted_later x (y ∷ ys) b s (suc k) d l h = simp unary_clauses (simp unary_clauses at (s k d (omega arith) (omega arith)))
-
-  -- ascending lists are sorted
-  pub sorted_from_rising : (xs : List K) → IsStrictlySortedBy R xs → IsSorted R xs
-  unfolding IsStrictlySortedBy
-  sorted_from_rising [] s = λ k d l h. absurd (omega arith)
-  sorted_from_rising (x ∷ xs) s = sorted_later x xs s.0 (sorted_from_rising xs s.1)
-
-  -- what stands before and after the place of an element that the list does not have
-  pub parted : (xs : List K) (x : K) (i : ℕ) → IsStrictlySortedBy R xs → IsBinarySearchResult (λ y. R y x) xs (Err i) → IsPartitionPoint (λ y. R y x ≡ Less) (λ y. R y x ≡ Greater) xs i
-  parted xs x i s found = found (searchable_from_sorted o (λ y. y) xs x (sorted_from_rising xs s))
-
-  -- an element put in at its place
-  pub merge_at : (x : K) (xs : List K) (i : ℕ) → i ≤ length xs → IsPartitionPoint (λ y. R y x ≡ Less) (λ y. R y x ≡ Greater) xs i → sorted_merge R true (x ∷ []) xs ≡ insert xs i x
-  merge_at x [] zero l h = refl
-  merge_at x [] (suc i) l h = refl
-  merge_at x (y ∷ ys) zero l h = ap (λ r. match_ordering r (x ∷ y ∷ ys) (x ∷ ys) (y ∷ sorted_merge R true (x ∷ []) ys)) (o.antisymm x y ∙ ap ordering_reverse (h.1 0 y (omega arith) (omega arith)))
-  merge_at x (y ∷ ys) (suc i) l h =
-      ap (λ r. match_ordering r (x ∷ y ∷ ys) (x ∷ ys) (y ∷ sorted_merge R true (x ∷ []) ys)) (back_less y x (h.0 0 y (omega arith) (omega arith)))
-      ∙ ap (λ zs. y ∷ zs) (merge_at x ys i (omega arith) ((λ k d a b. h.0 (suc k) d (omega arith) (omega arith)), λ k d a b. h.1 (suc k) d (omega arith) (omega arith)))
-
-  not_tied : (x : K) → R x x ≡ Less → ⊥
-  not_tied x h = absurd (cc (tied_itself o x))
-
-  not_over : (x : K) → R x x ≡ Greater → ⊥
-  not_over x h = absurd (cc (tied_itself o x))
-
-  module _ (same : (x y : K) → R x y ≡ Equal → x ≡ y) where
-    is_there : (x : K) (xs : List K) (i : ℕ) → i < length xs → HoldsAt (λ y. R y x ≡ Equal) xs i → is_member (eq_by_cmp R) xs x ≡ true
-    is_there x xs i l h = list_any-from_Contains (eq_by_cmp_equiv o) x xs (i, l, same _ x (h x))
-
-    -- putting in an element that is there changes nothing
-    pub merge_found : (x : K) (xs : List K) (i : ℕ) → IsStrictlySortedBy R xs → i < length xs → HoldsAt (λ y. R y x ≡ Equal) xs i → sorted_merge R true (x ∷ []) xs ≡ xs
-    unfolding IsStrictlySortedBy
-    merge_found x xs i s l h = merge_within o same (x ∷ []) xs (tt, tt) s (All-cons (λ y. is_member (eq_by_cmp R) xs y ≡ true) x [] (is_there x xs i l h) (All-nil (λ y. is_member (eq_by_cmp R) xs y ≡ true)))
-
-    -- a search finds the members
-    pub search_has : (x : K) (xs : List K) (r : Result ℕ ℕ) → IsStrictlySortedBy R xs → IsSearchInRange r (length xs) → IsBinarySearchResult (λ y. R y x) xs r → is_ok r ≡ is_member (eq_by_cmp R) xs x
-    search_has x xs (Ok i) s l found = sym (is_there x xs i l found)
-    search_has x xs (Err i) s l found =
-        elim (is_member (eq_by_cmp R) xs x) as (λ b. is_member (eq_by_cmp R) xs x ≡ b → false ≡ b) [
-          | true ↦ λ m. absurd (nowhere (Contains-from_any (λ a b t. same a b ((Equal-is (R a b)).0 t)) x xs m))
-          | false ↦ λ m. refl
-        ] refl
-      where
-        nowhere : Contains xs x → ⊥
-        nowhere p = elim (nat_lt p.0 i) as (λ b. nat_lt p.0 i ≡ b → ⊥) [
-          | true ↦ λ t. not_tied x (subst (λ y. R y x ≡ Less) p.2 ((parted xs x i s found).0 p.0 x (omega arith) (ltb-true p.0 i t)))
-          | false ↦ λ t. not_over x (subst (λ y. R y x ≡ Greater) p.2 ((parted xs x i s found).1 p.0 x (ltb-false p.0 i t) p.1))
-        ] refl
-
-    -- where a search doesn't miss
-    pub merge_unless : (x : K) (xs : List K) (r : Result ℕ ℕ) → IsStrictlySortedBy R xs → IsSearchInRange r (length xs) → IsBinarySearchResult (λ y. R y x) xs r → ((i : ℕ) → r ≡ Err i → ⊥) → sorted_merge R true (x ∷ []) xs ≡ xs
-    merge_unless x xs (Ok i) s l found n = merge_found x xs i s l found
-    merge_unless x xs (Err i) s l found n = absurd (n i refl)
-
-    in_back : (x : K) (us : List K) → IsStrictlySortedBy R (us ++ x ∷ []) → sorted_merge R true (x ∷ []) us ≡ us ++ x ∷ []
-    unfolding IsStrictlySortedBy
-    in_back x [] s = refl
-    in_back x (u ∷ us) s = ap (λ r. match_ordering r (x ∷ u ∷ us) (x ∷ us) (u ∷ sorted_merge R true (x ∷ []) us)) (back_less u x (at_end us s.0)) ∙ ap (λ zs. u ∷ zs) (in_back x us s.1)
-      where
-        at_end : (us : List K) → AllByRecursion (λ y. R u y ≡ Less) (us ++ x ∷ []) → R u x ≡ Less
-        at_end [] b = b.0
-        at_end (v ∷ vs) b = at_end vs b.1
-
-    rises_front : (x : K) (us : List K) → IsStrictlySortedBy R (us ++ x ∷ []) → IsStrictlySortedBy R us
-    unfolding IsStrictlySortedBy
-    rises_front x us s = subst (IsStrictlySortedBy R) (take_at us (x ∷ []) (length us) refl) (rises_take R (length us) (us ++ x ∷ []) s)
-
-    -- an element above those of a list, put into the list merged with another
-    pub merge_last : (x : K) (us ys : List K) → IsStrictlySortedBy R (us ++ x ∷ []) → IsStrictlySortedBy R ys → sorted_merge R true (x ∷ []) (sorted_merge R true us ys) ≡ sorted_merge R true (us ++ x ∷ []) ys
-    unfolding IsStrictlySortedBy
-    merge_last x us ys s t = sym (merge_regroups o same (x ∷ []) us (tt, tt) (rises_front x us s) ys t) ∙ ap (λ l. sorted_merge R true l ys) (in_back x us s)
-
--- the same by a test that holds where two elements tie
-pub search_has_by : {K : Type 0} {R : K → K → Ordering} (o : IsTotalOrder R) (same : (x y : K) → R x y ≡ Equal → x ≡ y) (eq : K → K → Bool) → ((x y : K) → eq x y ≡ is_eq (R x y)) → (x : K) (xs : List K) (r : Result ℕ ℕ) → IsStrictlySortedBy R xs → IsSearchInRange r (length xs)
-    → IsBinarySearchResult (λ y. R y x) xs r → is_ok r ≡ is_member eq xs x
-search_has_by {K} {R} o same eq ties x xs r s l found = search_has o same x xs r s l found ∙ ap (λ (e : K → K → Bool). is_member e xs x) (λ i a b. sym (ties a b) i)

@@ -2,7 +2,7 @@
 use Rattle.std.specs.Prelude.{◌≡◌, ◌↔◌, Bool, true, false, not, List, [], Option, Some, None, option_and_then, is_some, unwrap_or, filter, refl}
 use Rattle.std.proofs.Common.{sym, ◌∙◌, ap, subst}
 use mathlib.Core.HLevel.{Σ_prop_path}
-use Rattle.std.specs.Cmp.{IsTotalOrder, IsEquivalence}
+use Rattle.std.specs.Cmp.{IsTotalOrder, IsEquivalence, on_equiv}
 use Rattle.std.specs.Cmp.Lexicographic.{pointwise}
 use Rattle.std.proofs.lemmas.Cmp.{lists_equiv}
 use Rattle.std.specs.Set.{is_member, sorted_merge, IsUnion}
@@ -23,21 +23,32 @@ module _ {V : Type 0} {o : ord.Ghosts V} {e : partial_eq.Ghosts V} {p : partial_
       let pairs : ◌≡◌ {A = (xs : List V) × IsStrictlySortedBy o.cmp xs} (a.items, a.ascending) (b.items, b.ascending) = Σ_prop_path (λ xs. IsStrictlySortedBy-prop o.cmp xs) h in
       λ i. record { items = (pairs i).0; ascending = (pairs i).1 }
 
+  -- the elements, ascending
+  abbrev pub items_of : GrowSet V o e p → List V
+  items_of s = s.items
+
+  pub items_ascend : (s : GrowSet V o e p) → IsStrictlySortedBy o.cmp (items_of s)
+  items_ascend s = s.ascending
+
+  -- the set of an ascending list
+  abbrev pub set_with : (xs : List V) → IsStrictlySortedBy o.cmp xs → GrowSet V o e p
+  set_with xs h = record { items = xs; ascending = h }
+
   abbrev pub empty : GrowSet V o e p
-  empty = record { items = []; ascending = nothing_rises o.cmp }
+  empty = set_with [] (nothing_rises o.cmp)
 
   -- whether two sets have the same items
   abbrev pub alike : (V → V → Bool) → GrowSet V o e p → GrowSet V o e p → Bool
   alike eq a b = pointwise eq a.items b.items
 
   pub alike_equiv : {eq : V → V → Bool} → IsEquivalence eq → IsEquivalence (alike eq)
-  alike_equiv laws = let q = lists_equiv laws in record { refl = λ a. q.refl a.items; symm = λ a b. q.symm a.items b.items; congr = λ a b c. q.congr a.items b.items c.items }
+  alike_equiv laws = on_equiv items_of (lists_equiv laws)
 
   pub alike_identical : {eq : V → V → Bool} → IsIdentity eq → IsIdentity (alike eq)
   alike_identical same a b h = same_set a b (same_items same a.items b.items h)
 
   made : (xs : List V) (b : Bool) → is_ascending o.cmp xs ≡ b → Option (GrowSet V o e p)
-  made xs true h = Some (record { items = xs; ascending = rises_by_test o.cmp xs h })
+  made xs true h = Some (set_with xs (rises_by_test o.cmp xs h))
   made xs false h = None
 
   -- the set with these items, where they ascend
@@ -57,13 +68,9 @@ module _ {V : Type 0} {o : ord.Ghosts V} {e : partial_eq.Ghosts V} {p : partial_
   abbrev pub joined : GrowSet V o e p → GrowSet V o e p → Option (GrowSet V o e p)
   joined a b = set_of (sorted_merge o.cmp true a.items b.items)
 
-  -- the elements, ascending
-  abbrev pub items_of : GrowSet V o e p → List V
-  items_of s = s.items
-
   module _ (total : IsTotalOrder o.cmp) where
     abbrev union : GrowSet V o e p → GrowSet V o e p → GrowSet V o e p
-    union a b = record { items = sorted_merge o.cmp true a.items b.items; ascending = merge_rises total _ _ a.ascending b.ascending }
+    union a b = set_with (sorted_merge o.cmp true a.items b.items) (merge_rises total _ _ a.ascending b.ascending)
 
     pub joined-union : (a b : GrowSet V o e p) → joined a b ≡ Some (union a b)
     joined-union a b = set_of-items (union a b)

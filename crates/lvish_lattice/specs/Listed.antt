@@ -1,16 +1,16 @@
 -- Reads by a list: the first that passes, and where one value alone is listed.
 use Rattle.std.specs.Prelude.{◌≡◌, ◌⊎◌, Bool, true, false, cond, List, [], ◌∷◌, Option, Some, None, Contains, find, option_map, refl}
 use Rattle.std.proofs.Common.{sym, ◌∙◌, ap, subst, arith, zero, suc, inl, inr}
-use Rattle.std.proofs.lemmas.Bool.{and_parts}
+use Rattle.std.proofs.lemmas.List.Sums.{AllPass-from_list_all}
 use Rattle.std.proofs.lemmas.Option.{cond_some, none-some}
 use Rattle.std.specs.List.{list_all}
 use Rattle.lvish_lattice.specs.Lattice.{IsIdentity}
 
 module _ {X : Type 0} where
-  first_contained : (x : X) (xs : List X) → Contains (x ∷ xs) x
+  pub first_contained : (x : X) (xs : List X) → Contains (x ∷ xs) x
   first_contained x xs = (0, omega arith, refl)
 
-  later_contained : (y x : X) (xs : List X) → Contains xs x → Contains (y ∷ xs) x
+  pub later_contained : (y x : X) (xs : List X) → Contains xs x → Contains (y ∷ xs) x
   later_contained y x xs p = (suc p.0, omega arith, p.2)
 
   -- what is found is listed, and passes
@@ -40,6 +40,11 @@ module _ {X : Type 0} where
   pub some_is_not_none : (r : Option X) (x : X) → r ≡ Some x → r ≡ None → ⊥
   some_is_not_none r x p q = none-some x (sym q ∙ p)
 
+  -- what is no value is none
+  pub unless_some : (r : Option X) → ((x : X) → r ≡ Some x → ⊥) → r ≡ None
+  unless_some (Some x) h = absurd (h x refl)
+  unless_some None h = refl
+
   -- the one value that is listed, however often; none where there is none, or several
   abbrev pub one_of : (X → X → Bool) → List X → Option X
   one_of eq [] = None
@@ -49,11 +54,11 @@ module _ {X : Type 0} where
   listed_cases z zs y (zero, lt, e) = inl e
   listed_cases z zs y (suc k, lt, e) = inr (k, omega (arith, lt), e)
 
+  pub only_contained : (z y : X) → Contains (z ∷ []) y → z ≡ y
+  only_contained z y c = elim (listed_cases z [] y c) [ inl e ↦ e | inr d ↦ absurd (omega (arith, d.1)) ]
+
   all_are : (eq : X → X → Bool) (same : IsIdentity eq) (x : X) (xs : List X) → list_all (eq x) xs ≡ true → (y : X) → Contains xs y → x ≡ y
-  all_are eq same x [] h y c = absurd (omega (arith, c.1))
-  all_are eq same x (z ∷ zs) h y c =
-      let b = and_parts (eq x z) (list_all (eq x) zs) h in
-      elim (listed_cases z zs y c) [ inl e ↦ same x z b.0 ∙ e | inr d ↦ all_are eq same x zs b.1 y d ]
+  all_are eq same x xs h y c = same x y (ap (eq x) (sym c.2) ∙ AllPass-from_list_all (eq x) xs h c.0 y c.1)
 
   -- that value is listed, and each listed value is the same
   pub one_is_each : (eq : X → X → Bool) (same : IsIdentity eq) (xs : List X) (x : X) → one_of eq xs ≡ Some x → Contains xs x × ((y : X) → Contains xs y → x ≡ y)

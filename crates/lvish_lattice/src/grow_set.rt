@@ -2,20 +2,28 @@ ghost use Rattle.std.specs.Prelude.{◌≡◌, ◌↔◌, [], IfOk, IsTrue, Cont
 ghost use Rattle.std.specs.Set.{is_member};
 ghost use Rattle.std.specs.List.Sorted.{IsStrictlySortedBy, IsStrictlySortedBy-prop};
 
-use crate::ascending::{beyond, has, is_within, merged, sorted};
+use crate::elements::Elements;
 use crate::items::Items;
 use crate::lattice::{Lattice, Plain, Reads};
 use crate::reads::{has_one_value, one_of};
+use crate::set_iter::SetIter;
 use std::alloc::{AllocError, Global};
 use std::hash::Hash;
 
 /// A set that only grows.
 ///
-/// It is stored as its elements in ascending order.
-#[derive(Debug, Drop)]
+/// It is stored as a tree, or as at most one element.
+#[derive(Debug)]
 pub struct GrowSet<V: Plain> {
-    items: Items<V>,
+    items: Elements<V>,
     ghost ascending: { IsStrictlySortedBy V.cmp items } by { IsStrictlySortedBy-prop V.cmp items },
+}
+
+// Written out, so that it is proved once, and not at each exit of a function that owns one.
+impl<V: Plain> Drop for GrowSet<V> {
+    fn drop(self) {
+        let GrowSet { items: _ } = self;
+    }
 }
 
 /// What is waited for: one of a list of elements.
@@ -40,11 +48,11 @@ impl<V: Plain> GrowSet<V> {
     ghost use Rattle.lvish_lattice.specs.GrowSet.{items_of};
 
     /// The empty set.
-    pub fn new(alloc: Global) -> GrowSet<V>
+    pub fn new(_alloc: Global) -> GrowSet<V>
         ensures { items_of result ≡ [] }
     {
         GrowSet {
-            items: Items::new(Vec::new(alloc)),
+            items: Elements::new(),
         }
     }
 
@@ -53,16 +61,23 @@ impl<V: Plain> GrowSet<V> {
         ensures { IfOk result (λ s. (x : V) → Contains (items_of s) x ↔ Contains values.now x) }
     {
         Ok(GrowSet {
-            items: Items::new(sorted(alloc, values)?),
+            items: Elements::of(alloc, values)?,
         })
     }
 
     /// The elements in ascending order, each once.
-    pub fn items(&self) -> &[V]
-        ensures same { result.now ≡ items_of self.now }
+    pub fn items(&self) -> SetIter<'_, V>
+        ensures same { result ≡ items_of self.now }
         ensures ascending { IsStrictlySortedBy V.cmp (items_of self.now) }
     {
-        self.items.as_slice()
+        self.items.iter()
+    }
+
+    /// Whether the set has the element.
+    pub fn has(&self, element: V) -> bool
+        ensures { result ≡ is_member V.eq (items_of self.now) element }
+    {
+        self.items.has(element)
     }
 }
 
@@ -75,7 +90,7 @@ impl<V: Plain> PartialEq for GrowSet<V> {
     ghost laws = { partial_equiv_from_equiv (alike_equiv V.Eq.laws) };
 
     fn eq(&self, other: &GrowSet<V>) -> bool {
-        self.items() == other.items()
+        self.items.is_equal(&other.items)
     }
 }
 
@@ -101,32 +116,34 @@ impl<V: Plain + Hash> Lattice for GrowSet<V> {
     }
 
     fn join(&self, alloc: Global, other: &GrowSet<V>) -> Result<Option<GrowSet<V>>, AllocError> {
-        let items = merged(alloc, self.items(), other.items())?;
-        Ok(Some(GrowSet {
-            items: Items::new(items),
-        }))
+        let items = self.items.joined(alloc, &other.items)?;
+        Ok(Some(GrowSet { items }))
     }
 
     fn leq(&self, other: &GrowSet<V>) -> bool {
-        is_within(self.items(), other.items())
+        self.items.is_within(&other.items)
     }
 
     fn events(&self, alloc: Global) -> Result<Vec<V>, AllocError> {
-        Vec::from_slice(alloc, self.items())
+        self.items.to_vec(alloc)
     }
 
     fn fresh(alloc: Global, old: &GrowSet<V>, put: &GrowSet<V>) -> Result<Vec<V>, AllocError> {
-        beyond(alloc, old.items(), put.items())
+        old.items.beyond(alloc, &put.items)
     }
 
     fn copy(&self, alloc: Global) -> Result<GrowSet<V>, AllocError> {
         Ok(GrowSet {
-            items: Items::new(Vec::from_slice(alloc, self.items())?),
+            items: self.items.copy(alloc)?,
         })
     }
 
-    fn merge(&mut self, _alloc: Global, put: &GrowSet<V>) -> Result<bool, AllocError> {
-        self.items.merge_in(put.items())?;
+    fn merge(&mut self, alloc: Global, put: &GrowSet<V>) -> Result<bool, AllocError> {
+        if let Some(x) = put.items.only() {
+            self.items.put(alloc, x)?;
+            return Ok(true);
+        }
+        self.items = put.items.joined(alloc, &self.items)?;
         Ok(true)
     }
 
@@ -140,12 +157,11 @@ impl<V: Plain + Hash> Lattice for GrowSet<V> {
     ghost has_events = { set_has_events V.Ord.total V.eq V.matches_eq };
 }
 
-/// The first of the listed values that the ascending list has.
-fn first_held<V: Plain>(listed: &[V], items: &[V]) -> Option<V>
-    requires { IsStrictlySortedBy V.cmp items.now }
+/// The first of the listed values that the set has.
+fn first_held<V: Plain>(listed: &[V], items: &Elements<V>) -> Option<V>
     ensures { result ≡ find (is_member V.eq items.now) listed.now }
 {
-    listed.iter().copied().find(|x| has(items, *x))
+    listed.iter().copied().find(|x| items.has(*x))
 }
 
 impl<V: Plain + Hash> Reads for GrowSet<V> {
@@ -171,7 +187,7 @@ impl<V: Plain + Hash> Reads for GrowSet<V> {
     }
 
     fn trigger(read: &Members<V>, state: &GrowSet<V>) -> Option<V> {
-        first_held(read.listed(), state.items())
+        first_held(read.listed(), &state.items)
     }
 
     fn spot(event: &V) -> V {

@@ -1,10 +1,5 @@
-ghost use Rattle.std.specs.Prelude.{◌≡◌, true, IfOk, IfErr};
-ghost use Rattle.std.specs.Set.{sorted_merge};
-ghost use Rattle.std.specs.List.Sorted.{IsStrictlySortedBy};
+ghost use Rattle.std.specs.Prelude.{◌≡◌};
 
-use crate::ascending::merge_in;
-use crate::lattice::Plain;
-use std::alloc::AllocError;
 use std::marker::Model;
 
 /// A vector, seen as its list.
@@ -32,18 +27,5 @@ impl<V> Items<V> {
         ensures { result.now ≡ self.now }
     {
         &self.items
-    }
-}
-
-impl<V: Plain> Items<V> {
-    /// Merges an ascending list into an ascending list.
-    pub(crate) fn merge_in(&mut self, put: &[V]) -> Result<(), AllocError>
-        requires first { IsStrictlySortedBy V.cmp self.old }
-        requires second { IsStrictlySortedBy V.cmp put.now }
-        ensures merged { IfOk result (λ _. self.new ≡ sorted_merge V.cmp true put.now self.old) }
-        ensures refused { IfErr result (λ _. self.new ≡ self.old) }
-        ensures ascending { IsStrictlySortedBy V.cmp self.new }
-    {
-        merge_in(&mut self.items, put)
     }
 }

@@ -27,7 +27,7 @@
 //! grow. The joins of the last two are never top.
 #![tactic(auto)]
 
-mod ascending;
+mod elements;
 mod flat;
 mod grow_set;
 mod integers;
@@ -38,6 +38,7 @@ mod limits;
 mod max_counter;
 mod numbered;
 mod reads;
+mod set_iter;
 mod tuples;
 
 pub use flat::{Flat, FlatRead, Whole};
@@ -48,3 +49,4 @@ pub use limits::HIGHEST_LEVEL;
 pub use max_counter::{Levels, MaxCounter, Range};
 pub use numbered::Numbered;
 pub use reads::{has_one_value, one_of};
+pub use set_iter::SetIter;

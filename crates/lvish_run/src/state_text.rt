@@ -1,12 +1,13 @@
 //! The texts of states, by the kinds of their variables.
 
 ghost use Rattle.std.specs.Prelude.{◌≡◌, IfOk, map, string_bytes};
+ghost use Rattle.lvish_lattice.specs.GrowSet.{items_of};
 ghost use Rattle.lvish_compound.specs.MapOf.{entries_of};
 ghost use Rattle.lvish_compound.specs.Tally.{entries_of as amounts_of};
 ghost use Rattle.lvish_run.specs.StateText.{braced, set_text, entry_text, map_text, amount_text, tally_text, simple_text, pair_text, state_text};
 
 use lvish_compound::{Any, MapOf, Part, Tally};
-use lvish_lattice::{Flat, MaxCounter};
+use lvish_lattice::{Flat, GrowSet, MaxCounter};
 use lvish_syntax::{SimpleKind, VariableKind};
 use std::alloc::{AllocError, Global};
 
@@ -20,11 +21,11 @@ fn braced(alloc: Global, pieces: &[String]) -> Result<String, AllocError>
 }
 
 /// The elements of a set in braces.
-fn set_text(alloc: Global, elements: &[i64]) -> Result<String, AllocError>
-    ensures { IfOk result (λ t. string_bytes t ≡ set_text elements.now) }
+fn set_text(alloc: Global, set: &GrowSet<i64>) -> Result<String, AllocError>
+    ensures { IfOk result (λ t. string_bytes t ≡ set_text (items_of set.now)) }
 {
-    let mut pieces = Vec::with_capacity(alloc, elements.len())?;
-    for element in elements {
+    let mut pieces = Vec::new(alloc);
+    for element in set.items() {
         pieces.push(format!(in alloc; "{element}")?)?;
     }
     braced(alloc, &pieces)
@@ -77,7 +78,7 @@ fn simple_text(alloc: Global, kind: SimpleKind, part: &Part) -> Result<String, A
     match (kind, part) {
         (SimpleKind::Cell, Part::Cell(number)) => format!(in alloc; "{number}"),
         (SimpleKind::Cell, _) => String::from_str(alloc, "empty"),
-        (SimpleKind::Set, Part::Set(set)) => set_text(alloc, set.state().items()),
+        (SimpleKind::Set, Part::Set(set)) => set_text(alloc, set.state()),
         (SimpleKind::Set, _) => String::from_str(alloc, "{}"),
         (SimpleKind::Max, Part::Max(counter)) => {
             let level = counter.state().get();

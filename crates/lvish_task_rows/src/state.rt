@@ -76,7 +76,10 @@ fn part_text(alloc: Global, part: &Part) -> Result<String, AllocError> {
     match part {
         Part::Empty => String::from_str(alloc, "empty"),
         Part::Cell(number) => format!(in alloc; "{number}"),
-        Part::Set(set) => format!(in alloc; "{:?}", set.state().items()),
+        Part::Set(set) => {
+            let elements = set.state().items().copied().collect::<Vec<i64>>(alloc)?;
+            format!(in alloc; "{elements:?}")
+        }
         Part::Max(max) => format!(in alloc; "max {}", max.state().get()),
     }
 }

@@ -1,6 +1,5 @@
 -- What is joined to a state that isn't bottom isn't bottom.
-use Rattle.std.specs.Prelude.{◌≡◌, Bool, true, false, Option, Some, None, unwrap_or, Result, Ok, Err, IfOk, IfErr, refl}
-use Rattle.std.proofs.Common.{sym, ◌∙◌, ap}
+use Rattle.std.proofs.Common.{◌≡◌, Bool, true, false, Option, Some, None, unwrap_or, Result, Ok, Err, IfOk, IfErr, refl, sym, ◌∙◌, ap}
 use Rattle.lvish_lattice.specs.Lattice.{IsIdentity, IsJoin}
 use Rattle.lvish_compound.specs.laws.Pointwise.{left_below, least_below}
 

@@ -1,5 +1,5 @@
 -- Totals of amounts: how they grow, and what is below them.
-use Rattle.std.specs.Prelude.{◌≡◌, ℕ, ℤ, ◌+◌, ◌-◌, ◌≤◌, Bool, true, false, cond, not, List, [], ◌∷◌, map, Option, Some, sum_by, length, max, min, nat_le, nat_eq, pos, refl}
+use Rattle.std.specs.Prelude.{◌≡◌, ℕ, ℤ, ◌+◌, ◌-◌, ◌≤◌, Bool, true, false, cond, not, List, [], ◌∷◌, map, Option, Some, sum_by, length, min, nat_le, nat_eq, pos, refl}
 use Rattle.std.proofs.Common.{sym, ◌∙◌, ap, arith, true≢false}
 use Rattle.std.proofs.lemmas.Cmp.{int_cmp_total}
 use Rattle.std.proofs.lemmas.Bool.{cond_both}
@@ -11,13 +11,12 @@ use Rattle.std.specs.Cmp.{Equal-is, tied_itself}
 use Rattle.std.specs.List.{AllByRecursion}
 use Rattle.std.specs.List.Sorted.{IsStrictlySortedBy}
 use Rattle.std.specs.Ordering.{int_cmp, eq_by_cmp, is_eq, ordering_reverse}
-use Rattle.std.specs.declared.cmp.Ordering.TheVariants.{Less, Equal}
+use Rattle.lvish_compound.specs.Vocabulary.{Less, MaxCounter}
 use borrow.Author.Tests.{leb-true, leb-false}
-use Rattle.lvish_lattice.specs.Ascending.{below_all, and_left, and_right, and_both}
-use Rattle.lvish_lattice.specs.MaxCounter.{zero as none, joined, events_of as levels_of}
-use Rattle.lvish_lattice.specs.laws.MaxCounterLaws.{counters_are_join}
-use Rattle.lvish_lattice.specs.declared.max_counter.MaxCounter.{MaxCounter}
-use Rattle.lvish_compound.specs.Amounts.{level, level_of, total_of, level_at, gains, gain}
+use Rattle.lvish_lattice.specs.Ascending.{below_all, level_all, and_left, and_right, and_both}
+use Rattle.lvish_lattice.specs.MaxCounter.{level, level_within, counter_of, zero as none, joined, events_of as levels_of}
+use Rattle.lvish_lattice.specs.laws.MaxCounterLaws.{counters_are_join, greater}
+use Rattle.lvish_compound.specs.Amounts.{level_of, total_of, level_at, gains, gain}
 use Rattle.lvish_compound.specs.Keyed.{key, at, has_no, add, add_all, of_key, events_of}
 use Rattle.lvish_compound.specs.laws.KeyedLaws.{at_below, added, add_joins, add_rises}
 use Rattle.std.proofs.lemmas.Option.{same_Some}
@@ -34,14 +33,6 @@ Below k es = AllByRecursion (λ y. int_cmp k y ≡ Less) (map key es)
 
 abbrev put_in : ℤ → MaxCounter → Entries → Option Entries
 put_in = add int_cmp none joined
-
-greater_by : (a b c : MaxCounter) (t : Bool) → nat_le a.value b.value ≡ t → Some (cond t b a) ≡ Some c → c.value ≡ max a.value b.value
-greater_by a b c true t h = let le = leb-true a.value b.value t in let e : b ≡ c = same_Some b c h in omega (arith, ap level e)
-greater_by a b c false t h = let lt = leb-false a.value b.value t in let e : a ≡ c = same_Some a c h in omega (arith, ap level e)
-
--- a join has the greater number
-pub greater : (a b c : MaxCounter) → joined a b ≡ Some c → c.value ≡ max a.value b.value
-greater a b c h = greater_by a b c (nat_le a.value b.value) refl h
 
 tied : (k : ℤ) → eq_by_cmp int_cmp k k ≡ true
 tied k = ap is_eq (tied_itself int_cmp_total k)
@@ -109,7 +100,7 @@ gain_within es (f ∷ fs) = omega (arith, gain_within es fs, sum_by-cons (gains 
 
 -- the entries up to a total
 abbrev pub at_most : ℕ → MaxCounter → MaxCounter
-at_most n c = record { value = min n c.value; bounded = omega (arith, c.bounded) }
+at_most n c = counter_of (min n (level c)) (omega (arith, level_within c))
 
 abbrev pub up_to : ℕ → Entries → Entries
 up_to n [] = []
@@ -142,11 +133,11 @@ up_to_within n [] q = omega arith
 up_to_within n (e ∷ es) q = by_number n e es (λ fs. level_at fs q ≤ level_at (e ∷ es) q) (λ l. within_by n e es q (eq_by_cmp int_cmp q e.0) refl (up_to_within (n - level e.1) es q)) (λ z. omega arith)
 
 -- with a test that compares amounts by their numbers
-module _ (test : MaxCounter → MaxCounter → Bool) (by_value : (a b : MaxCounter) → test a b ≡ nat_eq a.value b.value) where
+module _ (test : MaxCounter → MaxCounter → Bool) (by_value : (a b : MaxCounter) → test a b ≡ nat_eq (level a) (level b)) where
   rises : (n : ℕ) (c : MaxCounter) → 1 ≤ n → not (test c none) ≡ true → not (test (at_most n c) none) ≡ true
-  rises n c l h = by_zero (nat_eq c.value 0) refl (ap not (sym (by_value c none)) ∙ h)
+  rises n c l h = by_zero (nat_eq (level c) 0) refl (ap not (sym (by_value c none)) ∙ h)
     where
-      by_zero : (t : Bool) → nat_eq c.value 0 ≡ t → not (nat_eq c.value 0) ≡ true → not (test (at_most n c) none) ≡ true
+      by_zero : (t : Bool) → nat_eq (level c) 0 ≡ t → not (nat_eq (level c) 0) ≡ true → not (test (at_most n c) none) ≡ true
       by_zero true t k = absurd (true≢false (sym k ∙ ap not t))
       by_zero false t k = ap not (by_value (at_most n c) none) ∙ grind (arith, nat_tests)
 
@@ -156,10 +147,6 @@ module _ (test : MaxCounter → MaxCounter → Bool) (by_value : (a b : MaxCount
 
 abbrev LaterKeys : ℤ → List ℤ → Type 0
 LaterKeys k ks = AllByRecursion (λ y. int_cmp k y ≡ Less) ks
-
-past : (k q : ℤ) → int_cmp k q ≡ Equal → (ks : List ℤ) → LaterKeys k ks → LaterKeys q ks
-past k q t [] b = tt
-past k q t (x ∷ xs) b = (sym (int_cmp_total.congr k q x t) ∙ b.0, past k q t xs b.1)
 
 none_there : (ks : List ℤ) → sum_by (level_at []) ks ≡ 0
 none_there [] = refl
@@ -177,7 +164,7 @@ keys_total (e ∷ es) s = omega (arith, keys_total es s.1, same_later e es (map 
 
 more_by : (e : ℤ × MaxCounter) (es : Entries) (k : ℤ) (ks : List ℤ) (t : Bool) → eq_by_cmp int_cmp k e.0 ≡ t → LaterKeys k ks → sum_by (level_at (e ∷ es)) ks ≤ level e.1 + sum_by (level_at es) ks → sum_by (level_at (e ∷ es)) (k ∷ ks) ≤ level e.1 + sum_by (level_at es) (k ∷ ks)
 more_by e es k ks true t b h =
-    let rest : sum_by (level_at (e ∷ es)) ks ≡ sum_by (level_at es) ks = same_later e es ks (past k e.0 ((Equal-is (int_cmp k e.0)).0 t) ks b) in
+    let rest : sum_by (level_at (e ∷ es)) ks ≡ sum_by (level_at es) ks = same_later e es ks (level_all int_cmp_total e.0 k ks (int_cmp_total.antisymm e.0 k ∙ ap ordering_reverse ((Equal-is (int_cmp k e.0)).0 t)) b) in
     omega (arith, rest, first_at e es k t, sum_by-cons (level_at (e ∷ es)) k ks, sum_by-cons (level_at es) k ks)
 more_by e es k ks false t b h = omega (arith, h, later_at e es k t, sum_by-cons (level_at (e ∷ es)) k ks, sum_by-cons (level_at es) k ks)
 
@@ -194,4 +181,4 @@ keys_within (e ∷ es) ks s = omega (arith, one_more e es ks s, keys_within es k
 -- each amount has as many events as its number
 pub events_count : (es : Entries) → length (events_of levels_of es) ≡ total_of es
 events_count [] = refl
-events_count (e ∷ es) = omega (arith, events_count es, more e es, length-append (of_key e.0 (levels_of e.1)) (events_of levels_of es), length-map {B = ℤ × ℤ} (levels_of e.1) (λ (x : ℤ). (e.0, x)), length-map-range_with_len pos 1 e.1.value)
+events_count (e ∷ es) = omega (arith, events_count es, more e es, length-append (of_key e.0 (levels_of e.1)) (events_of levels_of es), length-map {B = ℤ × ℤ} (levels_of e.1) (λ (x : ℤ). (e.0, x)), length-map-range_with_len pos 1 (level e.1))

@@ -1,21 +1,14 @@
 -- Reads of a script's variables: when they are checked, and what they answer.
-use Rattle.std.specs.Prelude.{◌≡◌, ◌↔◌, ℕ, ℤ, true, nat_eq, Option, Some, None, option_map, option_and_then, refl}
-use Rattle.std.proofs.Common.{sym, ◌∙◌, ap, subst, inl, inr}
+use Rattle.std.proofs.Common.{◌≡◌, ◌↔◌, ℕ, ℤ, true, nat_eq, Option, Some, None, option_map, option_and_then, refl, sym, ◌∙◌, ap, subst, inl, inr}
 use Rattle.std.proofs.lemmas.Bool.{and_parts, eqb-true, or_cases}
 use Rattle.std.proofs.lemmas.Cmp.{int_cmp_total}
 use Rattle.std.specs.Ordering.{int_eq}
 use Rattle.lvish_lattice.specs.Flat as flat
 use Rattle.lvish_lattice.specs.Lattice.{IsChecked, IsAnswered}
-use Rattle.lvish_lattice.specs.declared.flat.Flat.{Flat}
-use Rattle.lvish_lattice.specs.declared.flat.Flat.TheVariants.{Value}
-use Rattle.lvish_compound.specs.declared.any.Any.{Any}
+use Rattle.lvish_compound.specs.Vocabulary.{Flat, Value, Kind, Test, Empty, Place}
 use Rattle.lvish_compound.specs.declared.any_read.AnyRead.{AnyRead}
-use Rattle.lvish_compound.specs.declared.kind.Kind.{Kind}
 use Rattle.lvish_compound.specs.declared.kind.Kind.TheVariants as kind
-use Rattle.lvish_compound.specs.declared.number_test.Test.{Test}
 use Rattle.lvish_compound.specs.declared.part.Part as part
-use Rattle.lvish_compound.specs.declared.part.Part.TheVariants.{Empty}
-use Rattle.lvish_compound.specs.declared.place.Place.{Place}
 use Rattle.lvish_compound.specs.declared.place.Place.TheVariants as place
 use Rattle.lvish_compound.specs.AnyReads.{Member, answer_of}
 use Rattle.lvish_compound.specs.Numbers.{max_of, StandsFor, ByNumber, cell_answer}
@@ -29,7 +22,7 @@ use Rattle.lvish_compound.specs.Parts as parts
 use Rattle.lvish_compound.specs.Places.{IsApart, kind_read_at, test_fits, fits_kind, is_side}
 use Rattle.lvish_compound.specs.laws.StateLaws.{value_itself, same_value, OfPart, OfMap, OfSides, any_one_of}
 use Rattle.lvish_compound.specs.StateReads.{MemberAt, state_of, side_in, part_answer, answer_at}
-use Rattle.lvish_compound.specs.States.{of_part, of_map, of_pair, joined, side, part_in, map_in}
+use Rattle.lvish_compound.specs.States.{Any, of_part, of_map, of_pair, joined, side, part_in, map_in}
 use Rattle.lvish_compound.specs.laws.TallyReads.{amount_checked, amount_answers, total_checked, total_answers}
 use Rattle.std.proofs.lemmas.Option.{same_Some}
 
@@ -60,13 +53,10 @@ of_parts kind.Max n = sym (map_twice of_max of_part (max_of n))
 of_parts kind.Map n = refl
 of_parts kind.Tally n = refl
 
-with_first : (o : Option part.Part) → option_and_then (side 1) (option_map of_part o) ≡ option_map first o
-with_first (Some s) = refl
-with_first None = refl
-
-with_second : (o : Option part.Part) → option_and_then (side 2) (option_map of_part o) ≡ option_map second o
-with_second (Some s) = refl
-with_second None = refl
+-- a part as one of two sides
+as_side : (i : ℕ) (put : part.Part → Any) → ((s : part.Part) → side i (of_part s) ≡ Some (put s)) → (o : Option part.Part) → option_and_then (side i) (option_map of_part o) ≡ option_map put o
+as_side i put is (Some s) = is s
+as_side i put is None = refl
 
 -- what holds of the first side and of the second holds of each side
 each_side : (P : ℕ → Type 0) → P 1 → P 2 → (i : ℕ) → is_side i ≡ true → P i
@@ -84,11 +74,8 @@ entries_image k t = number_image t (λ n s h. (Value n, refl, h)) (λ n v h. ap 
 parts_image : (l : Kind) (t : Test) → IsImage of_part (λ n. n) (ByNumber t (StandsFor (part_at l))) (ByNumber t (StandsFor (state_of l)))
 parts_image l t = image_of_one t (part_at l) (state_of l) (of_parts l)
 
-firsts_image : (l : Kind) (t : Test) → IsImage first (λ n. n) (ByNumber t (StandsFor (part_at l))) (MemberAt (place.Side 1 l) t)
-firsts_image l t = image_of_one t (part_at l) (λ n. option_and_then (side 1) (state_of l n)) (λ n. ap (option_and_then (side 1)) (of_parts l n) ∙ with_first (part_at l n))
-
-seconds_image : (l : Kind) (t : Test) → IsImage second (λ n. n) (ByNumber t (StandsFor (part_at l))) (MemberAt (place.Side 2 l) t)
-seconds_image l t = image_of_one t (part_at l) (λ n. option_and_then (side 2) (state_of l n)) (λ n. ap (option_and_then (side 2)) (of_parts l n) ∙ with_second (part_at l n))
+sides_image : (i : ℕ) (put : part.Part → Any) → ((s : part.Part) → side i (of_part s) ≡ Some (put s)) → (l : Kind) (t : Test) → IsImage put (λ n. n) (ByNumber t (StandsFor (part_at l))) (MemberAt (place.Side i l) t)
+sides_image i put is l t = image_of_one t (part_at l) (λ n. option_and_then (side i) (state_of l n)) (λ n. ap (option_and_then (side i)) (of_parts l n) ∙ as_side i put is (part_at l n))
 
 module _ (l : Kind) (t : Test) (h : fits_kind l t ≡ true) {put : part.Part → Any} {pick : Any → part.Part} (e : IsEmbedded parts.joined joined put pick) {outer : Any → ℤ → Type 0} (image : IsImage put (λ n. n) (ByNumber t (StandsFor (part_at l))) outer) where
   checked_by : IsApart l t ↔ IsChecked joined outer
@@ -107,8 +94,8 @@ checked_at place.Total t h = total_checked t h
 checked_at (place.Side i l) t h =
     let b : (is_side i ≡ true) × (fits_kind l t ≡ true) = and_parts (is_side i) (fits_kind l t) h in
     each_side (λ i. IsApart l t ↔ IsChecked joined (MemberAt (place.Side i l) t))
-    (checked_by l t b.1 firsts_embedded (firsts_image l t))
-    (checked_by l t b.1 seconds_embedded (seconds_image l t))
+    (checked_by l t b.1 firsts_embedded (sides_image 1 first (λ s. refl) l t))
+    (checked_by l t b.1 seconds_embedded (sides_image 2 second (λ s. refl) l t))
     i b.0
 
 pub answers_at : (p : Place) (t : Test) → test_fits p t ≡ true → IsChecked joined (MemberAt p t) → IsAnswered joined (MemberAt p t) (answer_at p t)
@@ -121,8 +108,8 @@ answers_at place.Total t h = total_answers t h
 answers_at (place.Side i l) t h =
     let b : (is_side i ≡ true) × (fits_kind l t ≡ true) = and_parts (is_side i) (fits_kind l t) h in
     each_side (λ i. IsChecked joined (MemberAt (place.Side i l) t) → IsAnswered joined (MemberAt (place.Side i l) t) (answer_at (place.Side i l) t))
-    (answers_by l t b.1 firsts_embedded (firsts_image l t))
-    (answers_by l t b.1 seconds_embedded (seconds_image l t))
+    (answers_by l t b.1 firsts_embedded (sides_image 1 first (λ s. refl) l t))
+    (answers_by l t b.1 seconds_embedded (sides_image 2 second (λ s. refl) l t))
     i b.0
 
 pub any_checked : (r : AnyRead) → IsApart (kind_read_at r.place) r.test ↔ IsChecked joined (Member r)

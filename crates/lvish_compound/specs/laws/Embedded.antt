@@ -1,10 +1,9 @@
 -- A lattice as a part of another: an embedding that keeps joins, and reads of the part as reads of the whole, as of a side of a pair.
-use Rattle.std.specs.Prelude.{◌≡◌, ◌↔◌, ℤ, Option, Some, None, option_map, refl, Bool, List, false, IsTrue}
-use Rattle.std.proofs.Common.{sym, ◌∙◌, ap, subst, inl, inr, ⊎_elim}
+use Rattle.std.proofs.Common.{◌≡◌, ◌↔◌, ℤ, Option, Some, None, option_map, refl, Bool, List, false, IsTrue, sym, ◌∙◌, ap, subst, inl, inr, ⊎_elim}
 use Rattle.std.proofs.lemmas.Iterator.Adapters.{option_map_id}
 use Rattle.std.proofs.lemmas.Option.{none-some}
 use Rattle.lvish_lattice.specs.Lattice.{IsJoin, IsAtOrBelow, IsChecked, IsAnswered, BringsAt, IsWatched}
-use Rattle.lvish_compound.specs.declared.number_test.Test.{Test}
+use Rattle.lvish_compound.specs.Vocabulary.{Test, Pair, SideOf, One, Two}
 use Rattle.lvish_compound.specs.Numbers.{StandsFor, ByNumber}
 use Rattle.lvish_compound.specs.Pair as pair
 use Rattle.lvish_compound.specs.Pair.{both, joined, events_of, Member, answer_of, of_one, of_two, spot_of, watched}
@@ -12,9 +11,6 @@ use Rattle.lvish_compound.specs.laws.PairLaws.{both_there, both_from, same_pair,
 use Rattle.lvish_compound.specs.laws.OneOf.{IsOneOf, away, joins_of, one_of_pointwise}
 use Rattle.lvish_lattice.specs.Listed.{mapped, unmapped}
 use Rattle.std.specs.Set.{is_member}
-use Rattle.lvish_compound.specs.declared.pair.Pair.{Pair}
-use Rattle.lvish_compound.specs.declared.side_of.SideOf.{SideOf}
-use Rattle.lvish_compound.specs.declared.side_of.SideOf.TheVariants.{One, Two}
 
 pub record IsEmbedded {L S : Type 0} (join : L → L → Option L) (joined : S → S → Option S) (put : L → S) (part : S → L) : Type 0 where
   pub back : (a : L) → part (put a) ≡ a
@@ -118,10 +114,15 @@ number_image t source image = record { source = λ s n w. let x = source n s w.1
 pub image_of_one : {L S : Type 0} {put : L → S} (t : Test) (inner : ℤ → Option L) (outer : ℤ → Option S) → ((n : ℤ) → outer n ≡ option_map put (inner n)) → IsImage put (λ n. n) (ByNumber t (StandsFor inner)) (ByNumber t (StandsFor outer))
 image_of_one {put = put} t inner outer same = number_image t (λ n s h. mapped put (inner n) s (sym (same n) ∙ h)) (λ n x h. same n ∙ ap (option_map put) h)
 
-pub brings_there : {S L E F W V : Type 0} {eq : E → E → Bool} {events : S → List E} {spot_of : E → W} {inner : F → F → Bool} {inner_events : L → List F} {inner_spot : F → V} (part : S → L) (f : F → E) (g : V → W)
-    → ((s : S) (y : F) → is_member eq (events s) (f y) ≡ is_member inner (inner_events (part s)) y) → ((y : F) → spot_of (f y) ≡ g (inner_spot y))
-    → (old new : S) (v : V) → BringsAt inner inner_events inner_spot (part old) (part new) v → BringsAt eq events spot_of old new (g v)
-brings_there part f g has at old new v b = record { event = f b.event; there = has new b.event ∙ b.there; missing = has old b.event ∙ b.missing; at = at b.event ∙ ap g b.at }
+-- an event of the part, as an event of the whole
+module _ {S L E F W V : Type 0} {eq : E → E → Bool} {events : S → List E} {spot_of : E → W} {inner : F → F → Bool} {inner_events : L → List F} {inner_spot : F → V} (part : S → L) (f : F → E) (g : V → W)
+    (has : (s : S) (y : F) → is_member eq (events s) (f y) ≡ is_member inner (inner_events (part s)) y) (at : (y : F) → spot_of (f y) ≡ g (inner_spot y)) (old new : S) where
+  pub brings_there : (v : V) → BringsAt inner inner_events inner_spot (part old) (part new) v → BringsAt eq events spot_of old new (g v)
+  brings_there v b = record { event = f b.event; there = has new b.event ∙ b.there; missing = has old b.event ∙ b.missing; at = at b.event ∙ ap g b.at }
+
+  -- the same at the one spot of a read of the part
+  pub waits_there : (o : Option V) (w : W) → option_map g o ≡ Some w → ((v : V) → o ≡ Some v → BringsAt inner inner_events inner_spot (part old) (part new) v) → BringsAt eq events spot_of old new w
+  waits_there o w is b = let v = mapped g o w is in subst (BringsAt eq events spot_of old new) v.2 (brings_there v.0 (b v.0 v.1))
 
 module _ {A B R T X Y : Type 0} {la : A} {lb : B} {f : A → A → Option A} {g : B → B → Option B} (ja : IsJoin la f) (jb : IsJoin lb g) (ma : R → A → X → Type 0) (mb : T → B → Y → Type 0) where
   abbrev Members : SideOf R T → Pair A B → SideOf X Y → Type 0
@@ -157,14 +158,8 @@ module _ {A B E F V W R T X Y : Type 0} (ee : E → E → Bool) (ef : F → F �
     (eq : SideOf E F → SideOf E F → Bool) (xx : (x z : E) → eq (One x) (One z) ≡ ee x z) (yy : (y w : F) → eq (Two y) (Two w) ≡ ef y w) (xy : (x : E) (y : F) → eq (One x) (Two y) ≡ false) (yx : (x : E) (y : F) → eq (Two y) (One x) ≡ false) where
   pub pair_waits : IsWatched ee va sa wa aa → IsWatched ef vb sb wb ab → IsWatched eq (events_of va vb) (spot_of sa sb) (watched wa wb) (answer_of aa ab)
   pair_waits la lb (One r) w is old new a none some =
-      let v = mapped of_one (wa r) w is in
       let x = mapped of_one (aa r new.one) a some in
-      subst (λ w. BringsAt eq (events_of va vb) (spot_of sa sb) old new w) v.2
-      (brings_there (λ (p : Pair A B). p.one) of_one of_one (λ p y. has_one ee ef eq xx yy xy yx (va p.one) (vb p.two) y) (λ y. refl) old new v.0
-      (la r v.0 v.1 old.one new.one x.0 (unmapped of_one (aa r old.one) none) x.1))
+      waits_there (λ (p : Pair A B). p.one) of_one of_one (λ p y. has_one ee ef eq xx yy xy yx (va p.one) (vb p.two) y) (λ y. refl) old new (wa r) w is (λ v e. la r v e old.one new.one x.0 (unmapped of_one (aa r old.one) none) x.1)
   pair_waits la lb (Two r) w is old new a none some =
-      let v = mapped of_two (wb r) w is in
       let x = mapped of_two (ab r new.two) a some in
-      subst (λ w. BringsAt eq (events_of va vb) (spot_of sa sb) old new w) v.2
-      (brings_there (λ (p : Pair A B). p.two) of_two of_two (λ p y. has_two ee ef eq xx yy xy yx (va p.one) (vb p.two) y) (λ y. refl) old new v.0
-      (lb r v.0 v.1 old.two new.two x.0 (unmapped of_two (ab r old.two) none) x.1))
+      waits_there (λ (p : Pair A B). p.two) of_two of_two (λ p y. has_two ee ef eq xx yy xy yx (va p.one) (vb p.two) y) (λ y. refl) old new (wb r) w is (λ v e. lb r v e old.two new.two x.0 (unmapped of_two (ab r old.two) none) x.1)

@@ -2,17 +2,12 @@
 use Rattle.std.specs.Prelude.{◌≡◌, ℤ, pos, Bool, false, cond, List, [], ◌∷◌, map, refl, true, not, ◌||◌, filter, Option, Some, None}
 use Rattle.std.proofs.Common.{sym, ◌∙◌, ap, inl, inr}
 use Rattle.std.proofs.lemmas.Cmp.{int_cmp_total}
-use Rattle.std.specs.declared.cmp.Ordering.{Ordering}
-use Rattle.std.specs.declared.cmp.Ordering.TheVariants.{Less, Greater}
+use Rattle.lvish_compound.specs.Vocabulary.{Ordering, Less, Greater, Event, Kind, SideOf, One, Two}
 use Rattle.std.specs.Cmp.{tied_itself}
 use Rattle.std.specs.List.{AllByRecursion}
 use Rattle.std.specs.List.Sorted.{IsStrictlySortedBy}
 use Rattle.std.specs.Ordering.{int_cmp, int_eq, ordering_then}
-use Rattle.lvish_compound.specs.declared.event.Event.{Event}
-use Rattle.lvish_compound.specs.declared.kind.Kind.{Kind}
 use Rattle.lvish_compound.specs.declared.kind.Kind.TheVariants.{Cell, Set, Max, Map, Tally}
-use Rattle.lvish_compound.specs.declared.side_of.SideOf.{SideOf}
-use Rattle.lvish_compound.specs.declared.side_of.SideOf.TheVariants.{One, Two}
 use Rattle.lvish_compound.specs.EventNames.{event_order, PartEvent, part_event, entry_event, tally_event, side_event}
 use Rattle.lvish_compound.specs.Keyed.{by_both}
 use Rattle.lvish_compound.specs.Pair.{sides}
@@ -143,27 +138,15 @@ whole_apart d e h = sym (whole_back d) ∙ ap raw_of h ∙ whole_back e
 pub apart : (d e : RawEvent) → name_of d ≡ name_of e → d ≡ e
 apart d e h = cc (whole_apart (One d) (One e) h)
 
--- the names of events of the first kinds alone, and of tallies alone
-pub names_of_first : (xs : List RawEvent) → map name_of xs ≡ map whole_name (sides xs [])
-names_of_first [] = refl
-names_of_first (x ∷ xs) = ap (λ l. name_of x ∷ l) (names_of_first xs)
+-- the names of events of one side alone
+module _ {X Y N : Type 0} (name : SideOf X Y → N) where
+  pub names_of_ones : (xs : List X) → map (λ x. name (One x)) xs ≡ map name (sides xs [])
+  names_of_ones [] = refl
+  names_of_ones (x ∷ xs) = ap (λ l. name (One x) ∷ l) (names_of_ones xs)
 
-pub names_of_last : (xs : List (ℤ × ℤ)) → map tally_event xs ≡ map whole_name (sides [] xs)
-names_of_last [] = refl
-names_of_last (x ∷ xs) = ap (λ l. tally_event x ∷ l) (names_of_last xs)
-
--- the names of events of one kind alone
-pub names_of_ones : (xs : List PartEvent) → map (part_event (pos 0)) xs ≡ map name_of (sides xs [])
-names_of_ones [] = refl
-names_of_ones (x ∷ xs) = ap (λ l. part_event (pos 0) x ∷ l) (names_of_ones xs)
-
-pub names_of_twos : (xs : List (ℤ × ℤ)) → map entry_event xs ≡ map name_of (sides [] (sides xs []))
-names_of_twos [] = refl
-names_of_twos (x ∷ xs) = ap (λ l. entry_event x ∷ l) (names_of_twos xs)
-
-pub names_of_threes : (xs : List (SideOf PartEvent PartEvent)) → map side_event xs ≡ map name_of (sides [] (sides [] xs))
-names_of_threes [] = refl
-names_of_threes (x ∷ xs) = ap (λ l. side_event x ∷ l) (names_of_threes xs)
+  pub names_of_twos : (ys : List Y) → map (λ y. name (Two y)) ys ≡ map name (sides [] ys)
+  names_of_twos [] = refl
+  names_of_twos (y ∷ ys) = ap (λ l. name (Two y) ∷ l) (names_of_twos ys)
 
 module _ {X Y : Type 0} where
   -- tests and orders of sides

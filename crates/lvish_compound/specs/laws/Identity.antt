@@ -1,6 +1,5 @@
 -- Tests that hold of identical values alone.
-use Rattle.std.specs.Prelude.{◌≡◌, Bool, true, false, refl}
-use Rattle.std.proofs.Common.{sym, ◌∙◌, ap}
+use Rattle.std.proofs.Common.{◌≡◌, Bool, true, false, refl, sym, ◌∙◌, ap}
 use Rattle.std.specs.Cmp.{IsEquivalence}
 use Rattle.lvish_lattice.specs.Lattice.{IsIdentity}
 

@@ -1,8 +1,7 @@
 -- Finite functions into a lattice are joined at each key, and their events are those of what the keys hold.
 use Rattle.std.specs.Prelude.{◌≡◌, Bool, true, false, cond, not, List, [], ◌∷◌, map, Option, Some, option_and_then, option_map, refl, ◌&&◌, ◌||◌, ◌++◌}
 use Rattle.std.proofs.Common.{sym, ◌∙◌, ap, subst, true≢false}
-use Rattle.std.specs.declared.cmp.Ordering.{Ordering}
-use Rattle.std.specs.declared.cmp.Ordering.TheVariants.{Less, Equal, Greater}
+use Rattle.lvish_compound.specs.Vocabulary.{Ordering, Less, Equal, Greater}
 use Rattle.std.specs.Ordering.{eq_by_cmp, is_eq, match_ordering, ordering_then}
 use Rattle.std.specs.Cmp.{IsTotalOrder, Equal-is, tied_itself, alike_right}
 use Rattle.std.specs.List.{AllByRecursion}

@@ -1,10 +1,9 @@
 -- The order of the kinds and the test of events, by laws of all enums without fields.
-use Rattle.std.specs.Prelude.{◌≡◌, ℕ, Bool, true, List, [], ◌∷◌, refl, ◌&&◌}
-use Rattle.std.proofs.Common.{◌∙◌, suc, inl, inr, arith, sym}
+use Rattle.std.proofs.Common.{◌≡◌, ℕ, Bool, true, List, [], ◌∷◌, refl, ◌&&◌, ◌∙◌, suc, inl, inr, arith, sym}
 use Rattle.std.proofs.lemmas.Bool.Decides.{nat_tests}
 use Rattle.std.specs.Cmp.Derive.{points}
 use Rattle.std.specs.Ordering.{nat_cmp, int_eq}
-use Rattle.std.specs.declared.cmp.Ordering.TheVariants.{Less, Equal, Greater}
+use Rattle.lvish_compound.specs.Vocabulary.{Less, Equal, Greater, Kind, Event}
 use denote.Enum.Bare.{same_true, true_same}
 use denote.Enum.Compared.{by}
 use denote.Enum.Declared.{Choice, rowss, intoss, tag_of}
@@ -12,12 +11,10 @@ use denote.Enum.Enum.{tag}
 use denote.Struct.Field.{Field}
 use Rattle.lvish_lattice.specs.Lattice.{IsIdentity}
 use Rattle.lvish_compound.specs.contracts.kind.Kind.{the_type, enum}
-use Rattle.lvish_compound.specs.declared.kind.Kind.{Kind}
 use Rattle.lvish_compound.specs.declared.kind.Kind.TheVariants.{Cell, Set, Max, Map, Tally}
 use Rattle.lvish_compound.specs.Kinds.{rank, same_kind, kind_cmp}
 use Rattle.std.proofs.lemmas.Bool.{and_parts}
 use Rattle.lvish_lattice.specs.Plain.{int_identical}
-use Rattle.lvish_compound.specs.declared.event.Event.{Event}
 
 pub kinds_identical : IsIdentity same_kind
 kinds_identical k l e = same_true the_type tt k l e

@@ -2,10 +2,9 @@
 use Rattle.std.specs.Prelude.{◌≡◌, Bool, true, false, ◌&&◌, List, [], Option, Some, None, option_and_then, refl, ◌↔◌, cond, ◌∷◌, option_map}
 use Rattle.std.proofs.Common.{sym, ◌∙◌, ap, subst}
 use Rattle.std.specs.Cmp.{IsTotalOrder, IsEquivalence, Equal-is, tied_itself}
-use Rattle.std.specs.declared.cmp.Ordering.{Ordering}
-use Rattle.std.specs.declared.cmp.Ordering.TheVariants.{Equal}
+use Rattle.lvish_compound.specs.Vocabulary.{Ordering, Equal, OrdGhosts, PartialEqGhosts, PartialOrdGhosts, HashGhosts, LatticeGhosts}
 use Rattle.std.proofs.lemmas.Cmp.{lists_equiv}
-use Rattle.lvish_lattice.specs.Lattice.{IsIdentity, IsJoin, HasEvents, IsChecked, IsAnswered, IsWatched, BringsAt}
+use Rattle.lvish_lattice.specs.Lattice.{IsIdentity, IsJoin, HasEvents, IsChecked, IsAnswered, IsWatched}
 use Rattle.std.specs.Set.{is_member}
 use Rattle.std.specs.Ordering.{eq_by_cmp, is_eq}
 use Rattle.lvish_compound.specs.Keyed.{both_tie, by_both, events_of, key, add_all, single_entry}
@@ -15,16 +14,9 @@ use Rattle.lvish_compound.specs.Keyed as keyed
 use Rattle.lvish_compound.specs.laws.KeyedLaws as keyed_laws
 use Rattle.std.proofs.lemmas.Option.{same_Some, none-some}
 use Rattle.lvish_compound.specs.laws.Pointwise.{bound, joins_below, IsPointwise, back, pointwise_is_join, pointwise_has_events}
-use Rattle.std.specs.declared.cmp.Ord as ord
-use Rattle.std.specs.declared.cmp.PartialEq as partial_eq
-use Rattle.std.specs.declared.cmp.PartialOrd as partial_ord
-use Rattle.std.specs.declared.hash.Hash as hash
-use Rattle.lvish_lattice.specs.declared.lattice.Lattice as lattice
-use Rattle.lvish_compound.specs.declared.map_of.MapOf.{MapOf}
 use Rattle.lvish_compound.specs.MapOf as maps
-use Rattle.lvish_compound.specs.MapOf.{same_map, map_events_of, empty, map_of, map_of-entries}
-use Rattle.lvish_compound.specs.laws.Embedded.{brings_there, IsEmbedded, IsImage, checked_there, answered_same}
-use Rattle.lvish_lattice.specs.Listed.{mapped}
+use Rattle.lvish_compound.specs.MapOf.{MapOf, same_map, map_events_of, empty, map_of, map_of-entries}
+use Rattle.lvish_compound.specs.laws.Embedded.{waits_there, IsEmbedded, IsImage, checked_there, answered_same}
 use Rattle.lvish_compound.specs.declared.map_reads.AtKey.{AtKey}
 use Rattle.lvish_compound.specs.MapReads.{Member, answer_of, spot_of, at_key_spot, watched, holding}
 
@@ -32,7 +24,17 @@ use Rattle.lvish_compound.specs.MapReads.{Member, answer_of, spot_of, at_key_spo
 pub events_by_ties : {S E : Type 0} {least : S} {join : S → S → Option S} {eq : E → E → Bool} {cmp : E → E → Ordering} {events : S → List E} → ((x y : E) → eq x y ≡ is_eq (cmp x y)) → HasEvents least join eq cmp events → HasEvents least join (eq_by_cmp cmp) cmp events
 events_by_ties {least = least} {join = join} {cmp = cmp} {events = events} ties h = subst (λ (t : _ → _ → Bool). HasEvents least join t cmp events) (λ i x y. ties x y i) h
 
-module _ {K L E : Type 0} {ko : ord.Ghosts K} {ke : partial_eq.Ghosts K} {kp : partial_ord.Ghosts K} {l : lattice.Ghosts L E} {le : partial_eq.Ghosts L} {eo : ord.Ghosts E} {ee : partial_eq.Ghosts E} {ep : partial_ord.Ghosts E} {eh : hash.Ghosts E} where
+both : {L : Type 0} (b : Bool) (x y : L) → x ≡ y → cond b x y ≡ y
+both true x y h = h
+both false x y h = refl
+
+at_alone : {K L : Type 0} (cmp : K → K → Ordering) (eq : L → L → Bool) (least : L) (join : L → L → Option L) → IsIdentity eq → (k : K) (v : L) (q : K) → keyed.at cmp least join (single_entry eq least k v) q ≡ cond (eq_by_cmp cmp q k) v least
+at_alone cmp eq least join same k v q = elim (eq v least) as (λ b. eq v least ≡ b → keyed.at cmp least join (cond b [] ((k, v) ∷ [])) q ≡ cond (eq_by_cmp cmp q k) v least) [
+  | true ↦ λ h. sym (both (eq_by_cmp cmp q k) v least (same v least h))
+  | false ↦ λ _. refl
+] refl
+
+module _ {K L E : Type 0} {ko : OrdGhosts K} {ke : PartialEqGhosts K} {kp : PartialOrdGhosts K} {l : LatticeGhosts L E} {le : PartialEqGhosts L} {eo : OrdGhosts E} {ee : PartialEqGhosts E} {ep : PartialOrdGhosts E} {eh : HashGhosts E} where
   abbrev at : MapOf K L E ko ke kp l le eo ee ep eh → K → L
   at m q = maps.at m q
 
@@ -105,18 +107,6 @@ module _ {K L E : Type 0} {ko : ord.Ghosts K} {ke : partial_eq.Ghosts K} {kp : p
           → is_member (λ (x z : K × E). keq x.0 z.0 && eeq x.1 z.1) (events_of l.events_of m.entries) (q, y) ≡ is_member eeq (l.events_of (at m q)) y
       map_has keq eeq kt et m q y = (λ i. is_member (λ (x z : K × E). kt x.0 z.0 i && et x.1 z.1 i) (events_of l.events_of m.entries) (q, y)) ∙ places_have m q y ∙ (λ i. is_member (λ x z. sym (et x z) i) (l.events_of (at m q)) y)
 
-both : {L : Type 0} (b : Bool) (x y : L) → x ≡ y → cond b x y ≡ y
-both true x y h = h
-both false x y h = refl
-
-at_alone : {K L : Type 0} (cmp : K → K → Ordering) (eq : L → L → Bool) (least : L) (join : L → L → Option L) → IsIdentity eq → (k : K) (v : L) (q : K) → keyed.at cmp least join (single_entry eq least k v) q ≡ cond (eq_by_cmp cmp q k) v least
-at_alone cmp eq least join same k v q = elim (eq v least) as (λ b. eq v least ≡ b → keyed.at cmp least join (cond b [] ((k, v) ∷ [])) q ≡ cond (eq_by_cmp cmp q k) v least) [
-  | true ↦ λ h. sym (both (eq_by_cmp cmp q k) v least (same v least h))
-  | false ↦ λ _. refl
-] refl
-
-module _ {K L E : Type 0} {ko : ord.Ghosts K} {ke : partial_eq.Ghosts K} {kp : partial_ord.Ghosts K} {l : lattice.Ghosts L E} {le : partial_eq.Ghosts L} {eo : ord.Ghosts E} {ee : partial_eq.Ghosts E} {ep : partial_ord.Ghosts E} {eh : hash.Ghosts E} where
-  module _ (o : IsTotalOrder ko.cmp) (same_key : (x y : K) → ko.cmp x y ≡ Equal → x ≡ y) (j : IsJoin l.least l.joined) (itself : (x : L) → le.eq x x ≡ true) (same : IsIdentity le.eq) where
     pub at_any : (m : MapOf K L E ko ke kp l le eo ee ep eh) (k : K) (v : L) → m.entries ≡ single_entry le.eq l.least k v → (q : K) → at m q ≡ cond (eq_by_cmp ko.cmp q k) v l.least
     at_any m k v h q = ap (λ es. keyed.at ko.cmp l.least l.joined es q) h ∙ at_alone ko.cmp le.eq l.least l.joined same k v q
 
@@ -131,9 +121,9 @@ module _ {K L E : Type 0} {ko : ord.Ghosts K} {ke : partial_eq.Ghosts K} {kp : p
         by_tie false = j.unit l.least
 
     joins_by : (k : K) (x y : L) (u : Option L) (v : Option (MapOf K L E ko ke kp l le eo ee ep eh)) → l.joined x y ≡ u → joined (holding k x) (holding k y) ≡ v → v ≡ option_map (holding k) u
-    joins_by k x y (Some w) v e f = sym f ∙ joined_by_places o same_key j itself same (holding k x) (holding k y) (holding k w) (both_keys k x y w e (holding k x) (holding k y) (holding k w) refl refl refl)
+    joins_by k x y (Some w) v e f = sym f ∙ joined_by_places (holding k x) (holding k y) (holding k w) (both_keys k x y w e (holding k x) (holding k y) (holding k w) refl refl refl)
     joins_by k x y None None e f = refl
-    joins_by k x y None (Some c) e f = absurd (none-some _ (sym e ∙ (λ i. l.joined (sym (at_key (holding k x) k x refl) i) (sym (at_key (holding k y) k y refl) i)) ∙ joins_places o same_key j itself same (holding k x) (holding k y) c f k))
+    joins_by k x y None (Some c) e f = absurd (none-some _ (sym e ∙ (λ i. l.joined (sym (at_key (holding k x) k x refl) i) (sym (at_key (holding k y) k y refl) i)) ∙ joins_places (holding k x) (holding k y) c f k))
 
     -- the parts at one key within the maps
     pub key_embedded : (k : K) → IsEmbedded l.joined joined (holding k) (λ (m : MapOf K L E ko ke kp l le eo ee ep eh). at m k)
@@ -141,8 +131,8 @@ module _ {K L E : Type 0} {ko : ord.Ghosts K} {ke : partial_eq.Ghosts K} {kp : p
       back = λ v. at_key (holding k v) k v refl;
       joins = λ x y. joins_by k x y (l.joined x y) (joined (holding k x) (holding k y)) refl refl;
       below = λ v s. (
-        λ h. ap (λ x. l.joined x (at s k)) (sym (at_key (holding k v) k v refl)) ∙ joins_places o same_key j itself same (holding k v) s s h k,
-        λ b. joined_by_places o same_key j itself same (holding k v) s s (λ q.
+        λ h. ap (λ x. l.joined x (at s k)) (sym (at_key (holding k v) k v refl)) ∙ joins_places (holding k v) s s h k,
+        λ b. joined_by_places (holding k v) s s (λ q.
             ap (λ x. l.joined x (at s q)) (at_any (holding k v) k v refl q)
             ∙ elim (eq_by_cmp ko.cmp q k) as (λ t. eq_by_cmp ko.cmp q k ≡ t → l.joined (cond t v l.least) (at s q) ≡ Some (at s q)) [
               | true ↦ λ t. subst (λ (z : K). l.joined v (at s z) ≡ Some (at s z)) (sym (same_key q k ((Equal-is (ko.cmp q k)).0 t))) b
@@ -166,7 +156,5 @@ module _ {K L E : Type 0} {ko : ord.Ghosts K} {ke : partial_eq.Ghosts K} {kp : p
         → {Q A W : Type 0} (spot : E → W) (watch : Q → Option W) (answer : Q → L → Option A) → IsWatched eeq l.events_of spot watch answer
         → IsWatched {S = MapOf K L E ko ke kp l le eo ee ep eh} (λ (x y : K × E). keq x.0 y.0 && eeq x.1 y.1) map_events_of (spot_of spot) (watched watch) (answer_of answer)
     map_waits C oc same_event h keq eeq kt et spot watch answer law r w is old new a none some =
-        let v = mapped (at_key_spot r.key) (watch r.read) w is in
-        subst (λ w. BringsAt (λ (x y : K × E). keq x.0 y.0 && eeq x.1 y.1) map_events_of (spot_of spot) old new w) v.2
-        (brings_there (λ (m : MapOf K L E ko ke kp l le eo ee ep eh). at m r.key) (λ y. (r.key, y)) (at_key_spot r.key) (λ m y. map_has o same_key j itself same C oc same_event h keq eeq kt et m r.key y) (λ y. refl) old new v.0
-        (law r.read v.0 v.1 (at old r.key) (at new r.key) a none some))
+        waits_there (λ (m : MapOf K L E ko ke kp l le eo ee ep eh). at m r.key) (λ y. (r.key, y)) (at_key_spot r.key) (λ m y. map_has C oc same_event h keq eeq kt et m r.key y) (λ y. refl) old new
+        (watch r.read) w is (λ v e. law r.read v e (at old r.key) (at new r.key) a none some)

@@ -1,49 +1,37 @@
 -- Reads by numbers of a cell, a set, a counter, and of a part that is one of them: when they are checked, and what they answer.
-use Rattle.std.specs.Prelude.{◌≡◌, ◌↔◌, ℕ, ℤ, pos, negsuc, Bool, true, false, cond, nat_le, List, [], ◌∷◌, Option, Some, None, Contains, find, is_some, refl, option_map}
-use Rattle.std.proofs.Common.{zero, suc, sym, ◌∙◌, ap, subst, inl, ⊎_elim, arith}
+use Rattle.std.specs.Prelude.{◌≡◌, ◌↔◌, ℕ, ℤ, pos, negsuc, Bool, true, false, cond, nat_le, List, [], ◌∷◌, Option, Some, None, Contains, is_some, refl, option_map}
+use Rattle.std.proofs.Common.{sym, ◌∙◌, ap, subst, inl, ⊎_elim}
 use Rattle.std.proofs.Math.Bool.{or-false}
 use Rattle.std.specs.List.{list_all}
+use Rattle.std.proofs.lemmas.List.Sums.{AllPass-from_list_all}
 use Rattle.std.specs.Ordering.{int_eq}
 use Rattle.std.specs.Set.{is_member}
 use Rattle.std.proofs.lemmas.Cmp.{int_cmp_total, int_eq_equiv}
-use Rattle.lvish_lattice.specs.declared.flat.Flat.{Flat}
-use Rattle.lvish_lattice.specs.declared.flat.Flat.TheVariants.{Bottom, Value}
+use Rattle.lvish_compound.specs.Vocabulary.{Flat, Bottom, Value, MaxCounter, Test, Kind, Part, Empty, Set, Max, HIGHEST_LEVEL}
 use Rattle.lvish_lattice.specs.declared.flat.FlatRead.{FlatRead}
 use Rattle.lvish_lattice.specs.declared.flat.FlatRead.TheVariants as flat_read
-use Rattle.lvish_lattice.specs.declared.grow_set.Members.TheVariants as members
-use Rattle.lvish_lattice.specs.declared.max_counter.MaxCounter.{MaxCounter}
-use Rattle.lvish_lattice.specs.Ascending.{and_left, and_right}
 use Rattle.lvish_lattice.specs.Flat as flat
 use Rattle.lvish_lattice.specs.laws.FlatLaws.{flat_checked, flat_answers}
 use Rattle.lvish_lattice.specs.GrowSet as set
-use Rattle.lvish_lattice.specs.Members as members_of
-use Rattle.lvish_lattice.specs.declared.grow_set.Members.{Members}
 use Rattle.lvish_lattice.specs.Lattice.{IsAtOrBelow, Answers, IsChecked, IsAnswered}
-use Rattle.lvish_lattice.specs.Listed.{found, found_one}
+use Rattle.lvish_lattice.specs.Listed.{found, found_one, first_contained, only_contained}
 use Rattle.lvish_lattice.specs.MaxCounter as max
+use Rattle.lvish_lattice.specs.MaxCounter.{level}
 use Rattle.lvish_lattice.specs.laws.MaxCounterLaws.{reaches}
-use Rattle.lvish_lattice.specs.laws.MembersLaws.{sets_checked, sets_answer}
+use Rattle.lvish_lattice.specs.laws.MembersLaws.{never_top, below_has, has_below}
 use Rattle.lvish_lattice.specs.Plain.{int_identical}
-use Rattle.lvish_compound.specs.declared.number_test.Test.{Test}
 use Rattle.lvish_compound.specs.declared.number_test.Test.TheVariants.{Any, In, At}
 use Rattle.lvish_compound.specs.declared.part.Part.TheVariants as part
 use Rattle.lvish_compound.specs.Numbers.{max_of, max_by, Waits, StandsFor, ByNumber, HasOne, is_level, all_pass, are_levels, cell_answer, first_that, is_reached}
 use Rattle.lvish_compound.specs.Held.{HeldState, held}
 use Rattle.lvish_compound.specs.States.{singleton}
-use Rattle.std.proofs.lemmas.Option.{cond_some, same_Some}
-use Rattle.lvish_compound.specs.declared.kind.Kind.{Kind}
+use Rattle.std.proofs.lemmas.Option.{cond_some, none-some, same_Some}
 use Rattle.lvish_compound.specs.declared.kind.Kind.TheVariants as kind
-use Rattle.lvish_compound.specs.declared.part.Part.{Part}
-use Rattle.lvish_compound.specs.declared.part.Part.TheVariants.{Empty, Set, Max}
 use Rattle.lvish_compound.specs.laws.Embedded.{kind_embedded, image_of_one, checked_there, answered_same}
 use Rattle.lvish_compound.specs.laws.PartLaws.{OfCell, OfSet, OfMax, part_one_of}
 use Rattle.lvish_compound.specs.Parts.{of_cell, joined}
 use Rattle.lvish_compound.specs.Places.{IsApart, fits_kind}
 use Rattle.lvish_compound.specs.StateReads.{part_answer}
-use Rattle.lvish_lattice.specs.declared.limits.TheConstants.{HIGHEST_LEVEL}
-
-first_contained : (n : ℤ) → Contains (n ∷ []) n
-first_contained n = (0, omega arith, refl)
 
 abbrev pub cell_at : ℤ → Option (Flat ℤ)
 cell_at n = Some (Value n)
@@ -53,30 +41,19 @@ flat_of Any = flat_read.Any
 flat_of (In xs) = flat_read.In xs
 flat_of (At n) = flat_read.In (n ∷ [])
 
-only_of : (n x : ℤ) → Contains (n ∷ []) x → n ≡ x
-only_of n x (zero, lt, e) = e
-only_of n x (suc i, lt, e) = absurd (omega arith)
-
 to_flat : (t : Test) (s : Flat ℤ) (n : ℤ) → ByNumber t (StandsFor cell_at) s n → flat.Member (flat_of t) s n
 to_flat Any s n m = subst (λ x. flat.Member flat_read.Any x n) (same_Some (Value n) s m.1) refl
 to_flat (In xs) s n m = subst (λ x. flat.Member (flat_read.In xs) x n) (same_Some (Value n) s m.1) (refl, m.0)
-to_flat (At k) s n m = subst (λ x. flat.Member (flat_read.In (k ∷ [])) x n) (same_Some (Value n) s m.1) (refl, subst (λ x. Contains (k ∷ []) x) m.0 (first_contained k))
+to_flat (At k) s n m = subst (λ x. flat.Member (flat_read.In (k ∷ [])) x n) (same_Some (Value n) s m.1) (refl, subst (λ x. Contains (k ∷ []) x) m.0 (first_contained k []))
 
 from_flat : (t : Test) (s : Flat ℤ) (n : ℤ) → flat.Member (flat_of t) s n → ByNumber t (StandsFor cell_at) s n
 from_flat t Bottom n m = absurd m
 from_flat Any (Value x) n m = (tt, ap (λ (v : ℤ). Some (Value v)) (sym m))
 from_flat (In xs) (Value x) n m = (subst (λ v. Contains xs v) m.0 m.1, ap (λ (v : ℤ). Some (Value v)) (sym m.0))
-from_flat (At k) (Value x) n m = (only_of k x m.1 ∙ m.0, ap (λ (v : ℤ). Some (Value v)) (sym m.0))
-
--- two reads with the same members
-checked_alike : {S A : Type 0} {join : S → S → Option S} {M N : S → A → Type 0} → ((s : S) (a : A) → M s a → N s a) → IsChecked join N → IsChecked join M
-checked_alike f h m n a b p q = h m n a b (f m a p) (f n b q)
-
-answered_alike : {S A : Type 0} {join : S → S → Option S} {M N : S → A → Type 0} {answer : S → Option A} → ((s : S) (a : A) → M s a → N s a) → ((s : S) (a : A) → N s a → M s a) → IsAnswered join N answer → IsAnswered join M answer
-answered_alike f g h s a = (λ e. let m = (h s a).0 e in (m.0, g m.0 a m.1, m.2), λ m. (h s a).1 (m.0, f m.0 a m.1, m.2))
+from_flat (At k) (Value x) n m = (only_contained k x m.1 ∙ m.0, ap (λ (v : ℤ). Some (Value v)) (sym m.0))
 
 pub cells_checked : (t : Test) → IsChecked (flat.joined int_eq) (ByNumber t (StandsFor cell_at))
-cells_checked t = checked_alike (to_flat t) (flat_checked int_eq int_identical int_eq_equiv (flat_of t))
+cells_checked t m n a b p q = flat_checked int_eq int_identical int_eq_equiv (flat_of t) m n a b (to_flat t m a p) (to_flat t n b q)
 
 same_answer : (t : Test) (s : Flat ℤ) → flat.answer_of int_eq (flat_of t) s ≡ cell_answer t s
 same_answer t Bottom = refl
@@ -85,8 +62,9 @@ same_answer (In xs) (Value n) = refl
 same_answer (At k) (Value n) = ap (λ b. cond b (Some n) None) (or-false (int_eq n k) ∙ int_eq_equiv.symm n k)
 
 pub cells_answer : (t : Test) → IsAnswered (flat.joined int_eq) (ByNumber t (StandsFor cell_at)) (cell_answer t)
-cells_answer t = subst (IsAnswered (flat.joined int_eq) (ByNumber t (StandsFor cell_at))) (λ i s. same_answer t s i)
-    (answered_alike (to_flat t) (from_flat t) (flat_answers int_eq int_identical int_eq_equiv (flat_of t) (flat_checked int_eq int_identical int_eq_equiv (flat_of t))))
+cells_answer t s a =
+    let law = flat_answers int_eq int_identical int_eq_equiv (flat_of t) (flat_checked int_eq int_identical int_eq_equiv (flat_of t)) s a in
+    (λ e. let m = law.0 (same_answer t s ∙ e) in (m.0, from_flat t m.0 a m.1, m.2), λ m. sym (same_answer t s) ∙ law.1 (m.0, to_flat t m.0 a m.1, m.2))
 
 -- a read by a test that passes exactly where a member is at or below the state
 module _ {S : Type 0} (join : S → S → Option S) (at : ℤ → S → Type 0) (t : Test) (one : HasOne t) (s : S) (passes : ℤ → Bool)
@@ -125,9 +103,7 @@ module _ {S : Type 0} (join : S → S → Option S) (at : ℤ → S → Type 0) 
   checked_by_one (At k) a b listed = (λ h x y m n v w. inl (sym v.0 ∙ w.0), λ h. tt)
 
 pub all_of : (test : ℤ → Bool) (xs : List ℤ) (n : ℤ) → list_all test xs ≡ true → Contains xs n → test n ≡ true
-all_of test [] n h c = absurd (omega (arith, c.1))
-all_of test (x ∷ xs) n h (zero, lt, e) = ap test (sym e) ∙ and_left (test x) (list_all test xs) h
-all_of test (x ∷ xs) n h (suc i, lt, e) = all_of test xs n (and_right (test x) (list_all test xs) h) (i, omega arith, e)
+all_of test xs n h c = ap test (sym c.2) ∙ AllPass-from_list_all test xs h c.0 n c.1
 
 -- a number that is waited for passes where all of them pass
 pub all_waited : (test : ℤ → Bool) (t : Test) → HasOne t → all_pass test t ≡ true → (n : ℤ) → Waits t n → test n ≡ true
@@ -138,38 +114,20 @@ all_waited test (At k) one h n w = ap test (sym w) ∙ h
 abbrev pub set_at : ℤ → Option (HeldState part.Set)
 set_at n = Some (singleton n)
 
-abbrev SetMember : Members ℤ → HeldState part.Set → ℤ → Type 0
-SetMember r s n = members_of.Member r s n
-
 sets_below : (s : HeldState part.Set) (n : ℤ) (m : HeldState part.Set) → set_at n ≡ Some m → (is_member int_eq (set.items_of s) n ≡ true) ↔ IsAtOrBelow set.joined m s
-sets_below s n m e = (forth, back)
-  where
-    checked : IsChecked set.joined (SetMember (members.In (n ∷ [])))
-    checked = (sets_checked int_cmp_total (members.In (n ∷ []))).0 (λ x y c d. sym (only_of n x c) ∙ only_of n y d)
-
-    law : (find (is_member int_eq (set.items_of s)) (n ∷ []) ≡ Some n) ↔ Answers set.joined (SetMember (members.In (n ∷ []))) s n
-    law = sets_answer int_cmp_total int_eq (λ x y. refl) int_identical (members.In (n ∷ [])) checked s n
-
-    forth : is_member int_eq (set.items_of s) n ≡ true → IsAtOrBelow set.joined m s
-    forth h =
-        let a : Answers set.joined (SetMember (members.In (n ∷ []))) s n = law.0 (ap (λ b. cond b (Some n) None) h) in
-        subst (λ x. IsAtOrBelow set.joined x s) (set.same_set a.0 (singleton n) a.1.1 ∙ same_Some _ _ e) a.2
-
-    back : IsAtOrBelow set.joined m s → is_member int_eq (set.items_of s) n ≡ true
-    back h = (cond_some (is_member int_eq (set.items_of s) n) n n (law.1 (m, (first_contained n, ap set.items_of (sym (same_Some _ _ e))), h))).0
-
-pub sets_join : (a b : HeldState part.Set) → set.joined a b ≡ None → ⊥
-sets_join a b h = cc (sym (set.joined-union int_cmp_total a b) ∙ h)
+sets_below s n m e =
+    let is : set.items_of m ≡ n ∷ [] = ap set.items_of (sym (same_Some _ _ e)) in
+    (below_has int_cmp_total int_eq (λ x y. refl) int_identical m s n is, has_below int_cmp_total int_eq (λ x y. refl) int_identical m s n is)
 
 pub sets_one : (t : Test) → HasOne t ↔ IsChecked set.joined (ByNumber t (StandsFor set_at))
-sets_one t = checked_by_one set.joined (StandsFor set_at) (λ _. Unit {0}) (λ n _. (singleton n, refl)) (λ m n _ _. sets_join (singleton m) (singleton n)) t tt tt (λ _ _ _ _. tt)
+sets_one t = checked_by_one set.joined (StandsFor set_at) (λ _. Unit {0}) (λ n _. (singleton n, refl)) (λ m n _ _. never_top int_cmp_total (singleton m) (singleton n)) t tt tt (λ _ _ _ _. tt)
 
 pub sets_answers : (t : Test) → IsChecked set.joined (ByNumber t (StandsFor set_at)) → IsAnswered set.joined (ByNumber t (StandsFor set_at)) (λ s. first_that (is_member int_eq (set.items_of s)) t)
 sets_answers t checked s n =
     first_answers set.joined (StandsFor set_at) t ((sets_one t).1 checked) s (is_member int_eq (set.items_of s)) (λ n w h. (singleton n, refl, (sets_below s n (singleton n) refl).0 h)) (λ n m e. (sets_below s n m e).1) n
 
-number_by : (n : ℕ) (b : Bool) (e : nat_le n HIGHEST_LEVEL ≡ b) (c : MaxCounter) → max_by n b e ≡ Some c → c.value ≡ n
-number_by n true e c h = sym (ap (λ (x : MaxCounter). x.value) (same_Some _ _ h))
+number_by : (n : ℕ) (b : Bool) (e : nat_le n HIGHEST_LEVEL ≡ b) (c : MaxCounter) → max_by n b e ≡ Some c → level c ≡ n
+number_by n true e c h = sym (ap level (same_Some _ _ h))
 number_by n false e c h = absurd cc
 
 -- the counter made from a number holds that number
@@ -179,7 +137,7 @@ number_of_max (negsuc n) c h = absurd cc
 
 maxes_below : (s : MaxCounter) (n : ℤ) (m : MaxCounter) → max_of n ≡ Some m → (is_reached (max.number_of s) n ≡ true) ↔ IsAtOrBelow max.joined m s
 maxes_below s n m e =
-    let same : is_reached (max.number_of s) n ≡ nat_le m.value s.value = ap (is_reached (max.number_of s)) (sym (number_of_max n m e)) in (
+    let same : is_reached (max.number_of s) n ≡ nat_le (level m) (level s) = ap (is_reached (max.number_of s)) (sym (number_of_max n m e)) in (
       (λ h. (reaches m s).1 (sym same ∙ h)),
       λ h. same ∙ (reaches m s).0 h,
     )
@@ -194,11 +152,8 @@ IsLevel n = is_level n ≡ true
 level_of : (n : ℤ) → IsLevel n → (c : MaxCounter) × (max_of n ≡ Some c)
 level_of n h = is_there (max_of n) h
 
-counters_join : (a b : MaxCounter) → max.joined a b ≡ None → ⊥
-counters_join a b h = cc
-
 pub maxes_one : (t : Test) → are_levels t ≡ true → HasOne t ↔ IsChecked max.joined (ByNumber t (StandsFor max_of))
-maxes_one t levels = checked_by_one max.joined (StandsFor max_of) IsLevel level_of (λ m n h k. counters_join (level_of m h).0 (level_of n k).0) t refl refl (λ xs e n c. all_of is_level xs n (ap are_levels (sym e) ∙ levels) c)
+maxes_one t levels = checked_by_one max.joined (StandsFor max_of) IsLevel level_of (λ m n h k e. none-some _ (sym e)) t refl refl (λ xs e n c. all_of is_level xs n (ap are_levels (sym e) ∙ levels) c)
 
 pub maxes_answers : (t : Test) → are_levels t ≡ true → IsChecked max.joined (ByNumber t (StandsFor max_of)) → IsAnswered max.joined (ByNumber t (StandsFor max_of)) (λ c. first_that (is_reached (max.number_of c)) t)
 maxes_answers t levels checked c n =

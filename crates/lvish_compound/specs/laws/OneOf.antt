@@ -1,6 +1,5 @@
 -- One of several lattices, or nothing: two states above bottom that are of different ones join to top.
-use Rattle.std.specs.Prelude.{◌≡◌, ◌⊎◌, Option, Some, None, option_map}
-use Rattle.std.proofs.Common.{sym, ◌∙◌, ap, subst, inl, inr, ⊎_elim}
+use Rattle.std.proofs.Common.{◌≡◌, ◌⊎◌, Option, Some, None, option_map, sym, ◌∙◌, ap, subst, inl, inr, ⊎_elim}
 use Rattle.std.proofs.lemmas.Option.{none-some, same_Some}
 use Rattle.lvish_lattice.specs.Lattice.{IsJoin, IsAtOrBelow}
 use Rattle.lvish_compound.specs.laws.Pointwise.{least_below, joins_below, IsPointwise, back}

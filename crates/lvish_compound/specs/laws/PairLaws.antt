@@ -2,12 +2,8 @@
 use Rattle.std.specs.Prelude.{◌≡◌, Bool, true, false, ◌&&◌, List, Option, Some, None, option_and_then, option_map, refl, cond, not, ◌||◌, [], ◌∷◌, map, filter}
 use Rattle.std.proofs.Common.{sym, ◌∙◌, ap}
 use Rattle.std.proofs.lemmas.Bool.{and_parts}
-use Rattle.std.specs.declared.cmp.Ordering.{Ordering}
-use Rattle.std.specs.declared.cmp.Ordering.TheVariants.{Less}
+use Rattle.lvish_compound.specs.Vocabulary.{Ordering, Less, Pair, SideOf, One, Two}
 use Rattle.lvish_lattice.specs.Lattice.{IsIdentity, IsJoin, HasEvents}
-use Rattle.lvish_compound.specs.declared.pair.Pair.{Pair}
-use Rattle.lvish_compound.specs.declared.side_of.SideOf.{SideOf}
-use Rattle.lvish_compound.specs.declared.side_of.SideOf.TheVariants.{One, Two}
 use Rattle.lvish_compound.specs.Pair.{both, joined, events_of, of_one, of_two, sides}
 use Rattle.std.specs.Set.{is_member, IsUnion}
 use Rattle.std.specs.List.{AllByRecursion}

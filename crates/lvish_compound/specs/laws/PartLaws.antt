@@ -1,29 +1,19 @@
 -- Parts are a lattice: each is a cell, a set or a counter.
-use Rattle.std.specs.Prelude.{◌≡◌, ◌⊎◌, ℤ, Bool, true, false, Option, None, option_map, refl}
-use Rattle.std.proofs.Common.{sym, ap, inl, inr}
+use Rattle.std.proofs.Common.{◌≡◌, ◌⊎◌, ℤ, Bool, true, false, Option, None, option_map, refl, ap, inl, inr}
 use Rattle.std.proofs.lemmas.Cmp.{int_cmp_total, int_eq_equiv, nat_eq_equiv}
 use Rattle.std.specs.Cmp.{IsEquivalence}
 use Rattle.std.specs.Ordering.{int_eq, int_cmp}
-use Rattle.std.specs.declared.cmp.Ordering.{Ordering}
-use Rattle.std.specs.declared.cmp.Ordering.TheVariants.{Less, Equal}
+use Rattle.lvish_compound.specs.Vocabulary.{Ordering, Less, Equal, Flat, Bottom, Value, MaxCounter, Pair, Part, Empty, Cell, Set, Max, SideOf, One, Two}
 use Rattle.lvish_lattice.specs.Ascending.{ties_are_same}
 use Rattle.lvish_lattice.specs.Lattice.{IsIdentity, IsJoin, HasEvents}
 use Rattle.lvish_lattice.specs.Plain.{int_identical}
-use Rattle.lvish_lattice.specs.declared.flat.Flat.{Flat}
-use Rattle.lvish_lattice.specs.declared.flat.Flat.TheVariants.{Bottom, Value}
-use Rattle.lvish_lattice.specs.declared.max_counter.MaxCounter.{MaxCounter}
 use Rattle.lvish_lattice.specs.Flat as flat
 use Rattle.lvish_lattice.specs.laws.FlatLaws.{flat_is_join, flat_has_events}
 use Rattle.lvish_lattice.specs.GrowSet as set
 use Rattle.lvish_lattice.specs.MaxCounter as max
 use Rattle.lvish_lattice.specs.laws.MaxCounterLaws.{counters_are_join, counters_have_events, counters_identical}
-use Rattle.lvish_compound.specs.declared.pair.Pair.{Pair}
-use Rattle.lvish_compound.specs.declared.part.Part.{Part}
-use Rattle.lvish_compound.specs.declared.part.Part.TheVariants.{Empty, Cell, Set, Max}
-use Rattle.lvish_compound.specs.declared.side_of.SideOf.{SideOf}
-use Rattle.lvish_compound.specs.declared.side_of.SideOf.TheVariants.{One, Two}
 use Rattle.lvish_compound.specs.Above.{same_above}
-use Rattle.lvish_compound.specs.Held.{HeldState, held, is_bottom, bottom_of, held_by, held_above, held_bottom}
+use Rattle.lvish_compound.specs.Held.{HeldState, held, bottom_of, held_above, held_bottom, test_of, held_agrees}
 use Rattle.lvish_compound.specs.laws.Identity.{equiv_by_identity}
 use Rattle.lvish_compound.specs.Pair as pair
 use Rattle.lvish_compound.specs.laws.PairLaws.{both_from, pair_has_events}
@@ -42,7 +32,7 @@ itself : (s : Part) → alike s s ≡ true
 itself Empty = refl
 itself (Cell n) = int_eq_equiv.refl n
 itself (Set x) = (set.alike_equiv int_eq_equiv).refl x.state
-itself (Max x) = nat_eq_equiv.refl x.state.value
+itself (Max x) = nat_eq_equiv.refl (max.level x.state)
 
 pub alike_equiv : IsEquivalence alike
 alike_equiv = equiv_by_identity alike alike_identical itself
@@ -56,11 +46,11 @@ ties = ties_are_same int_cmp int_identical (λ x y. refl)
 pub sets : IsJoin (bottom_of Set) set.joined
 sets = set.set_is_join int_cmp_total ties
 
-pub same_set : (y : HeldState Set) → is_bottom Set y ≡ true → y ≡ bottom_of Set
-same_set y e = set.alike_identical int_identical y (bottom_of Set) e
+pub sets_identical : IsIdentity (test_of Set)
+sets_identical = set.alike_identical int_identical
 
-pub same_max : (z : MaxCounter) → is_bottom Max z ≡ true → z ≡ bottom_of Max
-same_max z e = counters_identical _ (λ a b. refl) z (bottom_of Max) e
+pub maxes_identical : IsIdentity (test_of Max)
+maxes_identical = counters_identical _ (λ a b. refl)
 
 pub data PartKind : Type 0 where
   OfCell OfSet OfMax : PartKind
@@ -117,8 +107,8 @@ whole (Max x) = held_above Max Empty x
 pub inside : (k : PartKind) (x : Inner k) → part k (of k x) ≡ x
 inside OfCell Bottom = refl
 inside OfCell (Value n) = refl
-inside OfSet y = held_by Set Empty (λ s. set_in s ≡ y) y (λ e. sym (same_set y e)) (λ x e. e)
-inside OfMax z = held_by Max Empty (λ s. max_in s ≡ z) z (λ e. sym (same_max z e)) (λ x e. e)
+inside OfSet y = held_agrees Set sets_identical Empty set_in (λ x. x) refl (λ x. refl) y
+inside OfMax z = held_agrees Max maxes_identical Empty max_in (λ x. x) refl (λ x. refl) z
 
 outside : (s : Part) (k : PartKind) → (kind s ≡ k → ⊥) → part k s ≡ least k
 outside (Cell n) OfCell h = absurd (h refl)

@@ -1,15 +1,12 @@
 -- Pairs of parts that are not both empty.
-use Rattle.std.specs.Prelude.{◌≡◌, Bool, true, false, ◌&&◌, Some, None, unwrap_or, Result, IfOk, IfErr, refl}
-use Rattle.std.proofs.Common.{sym, ◌∙◌, ap, true≢false}
+use Rattle.std.proofs.Common.{◌≡◌, Bool, true, false, ◌&&◌, Some, None, unwrap_or, Result, IfOk, IfErr, refl, sym, ◌∙◌, ap, true≢false}
 use mathlib.Core.HLevel.{Σ_prop_path}
 use Rattle.std.proofs.Math.Bool.{Bool-set}
 use Rattle.std.proofs.lemmas.Bool.{and_parts}
 use Rattle.std.specs.Cmp.{IsEquivalence}
 use Rattle.lvish_lattice.specs.Lattice.{IsIdentity, IsJoin}
 use Rattle.lvish_lattice.specs.Ascending.{and_both}
-use Rattle.lvish_compound.specs.declared.pair.Pair.{Pair}
-use Rattle.lvish_compound.specs.declared.part.Part.{Part}
-use Rattle.lvish_compound.specs.declared.part.Part.TheVariants.{Empty}
+use Rattle.lvish_compound.specs.Vocabulary.{Pair, Part, Empty}
 use Rattle.lvish_compound.specs.declared.sides.Sides.{Sides}
 use Rattle.lvish_compound.specs.laws.AboveLaws.{merged_above}
 use Rattle.lvish_compound.specs.laws.Identity.{equiv_by_identity}

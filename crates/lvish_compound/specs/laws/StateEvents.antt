@@ -1,22 +1,16 @@
 -- The events of a script's variables: each state is made of them.
-use Rattle.std.specs.Prelude.{◌≡◌, ℤ, pos, Bool, true, ◌&&◌, List, map, Option, refl}
-use Rattle.std.proofs.Common.{sym, ◌∙◌, ap, subst}
+use Rattle.std.proofs.Common.{◌≡◌, ℤ, pos, Bool, true, ◌&&◌, List, map, Option, refl, sym, ◌∙◌, ap, subst}
 use Rattle.std.proofs.lemmas.Cmp.{int_cmp_total, int_eq_equiv}
 use Rattle.std.specs.List.Sorted.{IsStrictlySortedBy}
 use Rattle.std.specs.Ordering.{int_eq, int_cmp, ordering_then}
-use Rattle.std.specs.declared.cmp.Ordering.{Ordering}
+use Rattle.lvish_compound.specs.Vocabulary.{Ordering, Event, Pair, Empty, SideOf, One, Two}
 use Rattle.lvish_lattice.specs.Ascending.{and_both}
 use Rattle.lvish_lattice.specs.laws.FlatLaws.{flat_has_events}
 use Rattle.lvish_lattice.specs.Lattice.{IsIdentity, HasEvents}
 use Rattle.lvish_lattice.specs.Plain.{int_identical, pairs_identical}
-use Rattle.lvish_compound.specs.declared.any.Any.{Any}
-use Rattle.lvish_compound.specs.declared.any.Any.TheVariants.{Part, Map, Sides, Tally}
-use Rattle.lvish_compound.specs.declared.event.Event.{Event}
-use Rattle.lvish_compound.specs.declared.pair.Pair.{Pair}
-use Rattle.lvish_compound.specs.declared.part.Part.TheVariants.{Empty}
 use Rattle.lvish_compound.specs.declared.tally.Tally as tallies
 use Rattle.lvish_compound.specs.EventNames.{PartEvent, part_event, entry_event, tally_event, side_event, event_order}
-use Rattle.lvish_compound.specs.laws.EventLaws.{RawEvent, WholeEvent, whole_name, whole_apart, sides_eq, sides_cmp, parts_cmp, names_of_ones, names_of_twos, names_of_threes, names_of_first, names_of_last, rises_by, parts_keep, entries_keep, tallies_keep, sides_keep, renamed}
+use Rattle.lvish_compound.specs.laws.EventLaws.{RawEvent, WholeEvent, whole_name, whole_apart, sides_eq, sides_cmp, parts_cmp, name_of, names_of_ones, names_of_twos, rises_by, parts_keep, entries_keep, tallies_keep, sides_keep, renamed}
 use Rattle.lvish_compound.specs.laws.KindLaws.{events_identical, kind_itself, kinds_rank}
 use Rattle.lvish_compound.specs.Held.{bottom_of}
 use Rattle.lvish_compound.specs.Kinds.{same_kind, kind_cmp}
@@ -26,15 +20,13 @@ use Rattle.lvish_compound.specs.Pair as pair
 use Rattle.lvish_compound.specs.laws.PairLaws.{both_from, pair_has_events, sides_identical}
 use Rattle.lvish_compound.specs.Parts as parts
 use Rattle.lvish_compound.specs.laws.PartLaws as part_laws
-use Rattle.lvish_compound.specs.declared.side_of.SideOf.{SideOf}
-use Rattle.lvish_compound.specs.declared.side_of.SideOf.TheVariants.{One, Two}
 use Rattle.lvish_compound.specs.Keyed.{by_both}
 use Rattle.lvish_compound.specs.Sides.{none as no_pair}
-use Rattle.lvish_compound.specs.States.{nothing, joined, events_of}
+use Rattle.lvish_compound.specs.States.{Part, Map, Sides, Tally, Any, nothing, joined, events_of}
 use Rattle.lvish_compound.specs.Tally as tally
 use Rattle.lvish_compound.specs.laws.TallyLaws.{tally_has_events}
 use Rattle.lvish_compound.specs.laws.Pointwise.{viewed_has_events}
-use Rattle.lvish_compound.specs.laws.StateLaws.{value_itself, same_value, OfPart, OfMap, OfSides, OfTally, any_pointwise, Three, three_in, state_kinds, same_view}
+use Rattle.lvish_compound.specs.laws.StateLaws.{value_itself, same_value, OfPart, OfMap, OfSides, OfTally, any_pointwise, Late, Three, three_in, state_kinds, same_view}
 
 -- tests and orders of events before they are named
 abbrev pub part_eq : PartEvent → PartEvent → Bool
@@ -49,7 +41,7 @@ side_eq = sides_eq part_eq part_eq
 abbrev side_cmp : SideOf PartEvent PartEvent → SideOf PartEvent PartEvent → Ordering
 side_cmp = sides_cmp parts_cmp parts_cmp
 
-abbrev late_eq : SideOf (ℤ × ℤ) (SideOf PartEvent PartEvent) → SideOf (ℤ × ℤ) (SideOf PartEvent PartEvent) → Bool
+abbrev pub late_eq : SideOf (ℤ × ℤ) (SideOf PartEvent PartEvent) → SideOf (ℤ × ℤ) (SideOf PartEvent PartEvent) → Bool
 late_eq = sides_eq entry_eq side_eq
 
 abbrev late_cmp : SideOf (ℤ × ℤ) (SideOf PartEvent PartEvent) → SideOf (ℤ × ℤ) (SideOf PartEvent PartEvent) → Ordering
@@ -102,9 +94,12 @@ maps_have = map_laws.map_has_events int_cmp_total part_laws.ties part_laws.cells
 pairs_have : HasEvents no_pair parts.pairs_joined side_eq side_cmp (pair.events_of parts.events_of parts.events_of)
 pairs_have = pair_has_events parts_have parts_have side_eq (λ x z. refl) (λ y w. refl) (λ x y. refl) (λ x y. refl) side_cmp (λ x z. refl) (λ y w. refl) (λ x y. refl)
 
--- the events of the first three kinds
+-- the events of a map and of two parts, and those of the first three kinds
+abbrev pub late_events : Late → List (SideOf (ℤ × ℤ) (SideOf PartEvent PartEvent))
+late_events = pair.events_of map_of.map_events_of (pair.events_of parts.events_of parts.events_of)
+
 abbrev pub raw_events : Three → List RawEvent
-raw_events = pair.events_of parts.events_of (pair.events_of map_of.map_events_of (pair.events_of parts.events_of parts.events_of))
+raw_events = pair.events_of parts.events_of late_events
 
 abbrev join_three : Three → Three → Option Three
 join_three = pair.joined parts.joined (pair.joined map_of.joined parts.pairs_joined)
@@ -127,11 +122,14 @@ wholes_have : HasEvents nothing joined whole_eq whole_cmp whole_of
 wholes_have = viewed_has_events kinds_have refl (λ a b c e. let f = any_pointwise.forth a b c e in both_from _ _ _ (both_from _ _ _ (f OfPart) (both_from _ _ _ (f OfMap) (f OfSides))) (f OfTally)) same_view whole_of (λ s. refl)
 
 -- the events of each kind have the names of that kind
+abbrev late_name : SideOf (ℤ × ℤ) (SideOf PartEvent PartEvent) → Event
+late_name e = name_of (Two e)
+
 pub names_there : (s : Any) → events_of s ≡ map whole_name (whole_of s)
-names_there (Part s) = names_of_ones (parts.events_of s) ∙ names_of_first (raw_events (three_in (Part s)))
-names_there (Map x) = names_of_twos (map_of.map_events_of x.state) ∙ names_of_first (raw_events (three_in (Map x)))
-names_there (Sides z) = names_of_threes (pair.events_of parts.events_of parts.events_of z.pair) ∙ names_of_first (raw_events (three_in (Sides z)))
-names_there (Tally x) = names_of_last (tally.events_of x.state)
+names_there (Part s) = names_of_ones name_of (parts.events_of s) ∙ names_of_ones whole_name (raw_events (three_in (Part s)))
+names_there (Map x) = names_of_ones late_name (map_of.map_events_of x.state) ∙ names_of_twos name_of (late_events (three_in (Map x)).two) ∙ names_of_ones whole_name (raw_events (three_in (Map x)))
+names_there (Sides z) = names_of_twos late_name (pair.events_of parts.events_of parts.events_of z.pair) ∙ names_of_twos name_of (late_events (three_in (Sides z)).two) ∙ names_of_ones whole_name (raw_events (three_in (Sides z)))
+names_there (Tally x) = names_of_twos whole_name (tally.events_of x.state)
 
 names_rise : (s : Any) → IsStrictlySortedBy event_order (events_of s)
 names_rise (Part s) = rises_by parts_cmp event_order (part_event (pos 0)) (parts_keep (pos 0)) (parts.events_of s) (parts_have.ascending s)

@@ -1,25 +1,18 @@
 -- The states of a script's variables are a lattice: each is a part, a map, two parts side by side or a tally.
-use Rattle.std.specs.Prelude.{◌≡◌, ◌⊎◌, ℤ, Bool, true, false, ◌&&◌, List, [], ◌∷◌, Option, Some, None, option_map, refl}
-use Rattle.std.proofs.Common.{sym, ap, inl, inr, subst, ⊎_elim}
+use Rattle.std.proofs.Common.{◌≡◌, ◌⊎◌, ℤ, Bool, true, false, ◌&&◌, Option, Some, None, option_map, refl, sym, ap, inl, inr, subst, ⊎_elim}
 use Rattle.std.proofs.lemmas.Cmp.{int_cmp_total, int_eq_equiv}
 use Rattle.std.specs.Cmp.{IsEquivalence}
-use Rattle.std.specs.Cmp.Lexicographic.{pointwise}
 use Rattle.std.specs.Ordering.{int_eq}
 use Rattle.lvish_lattice.specs.Ascending.{and_both}
-use Rattle.lvish_lattice.specs.declared.flat.Flat.{Flat}
-use Rattle.lvish_lattice.specs.declared.flat.Flat.TheVariants.{Bottom, Value}
+use Rattle.lvish_compound.specs.Vocabulary.{Flat, Bottom, Value, Pair, Empty}
 use Rattle.lvish_lattice.specs.laws.FlatLaws.{flat_identical}
 use Rattle.lvish_lattice.specs.Lattice.{IsIdentity, IsJoin}
 use Rattle.lvish_lattice.specs.Plain.{int_identical, pairs_identical}
-use Rattle.lvish_compound.specs.declared.any.Any.{Any}
-use Rattle.lvish_compound.specs.declared.any.Any.TheVariants.{Part, Map, Sides, Tally}
-use Rattle.lvish_compound.specs.declared.pair.Pair.{Pair}
 use Rattle.lvish_compound.specs.declared.part.Part as part
-use Rattle.lvish_compound.specs.declared.part.Part.TheVariants.{Empty}
 use Rattle.lvish_compound.specs.declared.sides.Sides as sides
 use Rattle.lvish_compound.specs.declared.tally.Tally as tallies
 use Rattle.lvish_compound.specs.Above.{same_above}
-use Rattle.lvish_compound.specs.Held.{HeldState, is_bottom, test_of, bottom_of, held_by, held_above, held_bottom}
+use Rattle.lvish_compound.specs.Held.{HeldState, test_of, bottom_of, held_agrees, held_above, held_bottom}
 use Rattle.lvish_compound.specs.MapOf as map_of
 use Rattle.lvish_compound.specs.laws.MapLaws as map_laws
 use Rattle.lvish_compound.specs.laws.Identity.{equiv_by_identity}
@@ -28,7 +21,7 @@ use Rattle.lvish_compound.specs.laws.PartLaws as part_laws
 use Rattle.lvish_compound.specs.laws.SidesLaws.{above_is, empty_is_none, same_none, pairs_are_join}
 use Rattle.lvish_compound.specs.Sides.{none as no_pair}
 use Rattle.lvish_compound.specs.laws.SidesLaws as two_laws
-use Rattle.lvish_compound.specs.States.{nothing, of_part, of_map, from_sides, of_pair, of_tally, unless_part, joined, alike, part_in, map_in, sides_in, tally_in}
+use Rattle.lvish_compound.specs.States.{Part, Map, Sides, Tally, Any, nothing, of_part, of_map, from_sides, of_pair, of_tally, unless_part, joined, alike, part_in, map_in, sides_in, tally_in}
 use Rattle.lvish_compound.specs.Tally as tally
 use Rattle.lvish_compound.specs.laws.TallyLaws as tally_laws
 use Rattle.lvish_compound.specs.laws.OneOf.{IsOneOf, one_of_pointwise}
@@ -40,10 +33,6 @@ value_test x y = map_of.part_test (bottom_of Map) x y
 abbrev entry_test : ℤ × Flat ℤ → ℤ × Flat ℤ → Bool
 entry_test p q = int_eq p.0 q.0 && value_test p.1 q.1
 
-no_entries : {A : Type 0} (eq : A → A → Bool) (xs : List A) → pointwise eq xs [] ≡ true → xs ≡ []
-no_entries eq [] e = refl
-no_entries eq (x ∷ xs) e = absurd cc
-
 pub same_value : IsIdentity value_test
 same_value = flat_identical int_eq int_identical value_test (λ y. refl) (λ x. refl) (λ x y. refl)
 
@@ -54,8 +43,8 @@ value_itself (Value n) = int_eq_equiv.refl n
 same_entry : IsIdentity entry_test
 same_entry = pairs_identical int_eq value_test int_identical same_value entry_test (λ p q. refl)
 
-pub same_map : (m : HeldState Map) → is_bottom Map m ≡ true → m ≡ bottom_of Map
-same_map m e = map_of.same_map m (bottom_of Map) (no_entries _ (map_of.entries_of m) e)
+pub maps_identical : IsIdentity (test_of Map)
+maps_identical = map_laws.alike_identical same_entry
 
 map_itself : (x : HeldState Map) → test_of Map x x ≡ true
 map_itself x = (map_laws.alike_equiv (equiv_by_identity entry_test same_entry (λ p. and_both (int_eq_equiv.refl p.0) (value_itself p.1)))).refl x
@@ -91,9 +80,6 @@ pair_by P p f g = elim (parts.no_sides p) as (λ t. parts.no_sides p ≡ t → P
   | true ↦ λ e. subst P (sym (of_no_sides p e)) (f e)
   | false ↦ λ e. let z : sides.Sides = record { pair = p; rises = e } in subst P (sym (of_sides_above z)) (g z refl)
 ] refl
-
-pub same_empty_tally : (t : tallies.Tally) → is_bottom Tally t ≡ true → t ≡ bottom_of Tally
-same_empty_tally t e = tally_laws.alike_identical t (bottom_of Tally) e
 
 pub data StateKind : Type 0 where
   OfPart OfMap OfSides OfTally : StateKind
@@ -156,9 +142,9 @@ whole (Tally x) = held_above Tally nothing x
 
 pub inside : (k : StateKind) (x : Inner k) → held_in k (of k x) ≡ x
 inside OfPart s = refl
-inside OfMap m = held_by Map nothing (λ s. map_in s ≡ m) m (λ e. sym (same_map m e)) (λ x e. e)
+inside OfMap m = held_agrees Map maps_identical nothing map_in (λ x. x) refl (λ x. refl) m
 inside OfSides p = pair_by (λ s. sides_in s ≡ p) p (λ e. sym (same_none p e)) (λ z e. e)
-inside OfTally t = held_by Tally nothing (λ s. tally_in s ≡ t) t (λ e. sym (same_empty_tally t e)) (λ x e. e)
+inside OfTally t = held_agrees Tally tally_laws.alike_identical nothing tally_in (λ x. x) refl (λ x. refl) t
 
 outside : (s : Any) (k : StateKind) → (kind s ≡ k → ⊥) → held_in k s ≡ least k
 outside (Part s) OfPart h = absurd (h refl)
@@ -211,9 +197,12 @@ any_pointwise = one_of_pointwise any_one_of
 pub any_is_join : IsJoin nothing joined
 any_is_join = pointwise_is_join any_pointwise
 
--- a part, a map and two parts
+-- a map and two parts, and a part beside them
+abbrev pub Late : Type 0
+Late = Pair (HeldState Map) (Pair part.Part part.Part)
+
 abbrev pub Three : Type 0
-Three = Pair part.Part (Pair (HeldState Map) (Pair part.Part part.Part))
+Three = Pair part.Part Late
 
 -- each of the first kinds of a state, bottom where it is another
 abbrev pub three_in : Any → Three

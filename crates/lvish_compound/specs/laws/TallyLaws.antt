@@ -4,30 +4,30 @@ use Rattle.std.proofs.Common.{sym, ◌∙◌, ap, subst, arith}
 use Rattle.std.proofs.Math.Bridge.{le_prop}
 use Rattle.std.proofs.lemmas.Option.{same_Some}
 use mathlib.Core.HLevel.{Σ_prop_path, ×_prop}
-use borrow.Author.Tests.{leb-true, leb-false, le-leb}
+use borrow.Author.Tests.{leb-false, le-leb}
 use Rattle.std.proofs.Math.Nat.{ℕ_set}
 use Rattle.std.proofs.lemmas.Cmp.{int_cmp_total, int_eq_equiv, nat_eq_equiv}
 use Rattle.std.specs.Cmp.{IsEquivalence}
 use Rattle.std.specs.Ordering.{int_cmp, int_eq}
-use Rattle.std.specs.declared.cmp.Ordering.TheVariants.{Equal}
-use Rattle.lvish_lattice.specs.Ascending.{and_both, ties_are_same}
+use Rattle.lvish_lattice.specs.Ascending.{and_both}
 use Rattle.lvish_lattice.specs.Lattice.{IsIdentity, IsJoin, IsAtOrBelow, HasEvents}
+use Rattle.lvish_lattice.specs.Listed.{unless_some}
 use Rattle.lvish_lattice.specs.Top.{IsTopWhere}
 use Rattle.lvish_lattice.specs.MaxCounter as max
+use Rattle.lvish_lattice.specs.MaxCounter.{level}
 use Rattle.std.specs.Set.{is_member}
-use Rattle.lvish_lattice.specs.laws.MaxCounterLaws.{counters_are_join, counters_have_events, counters_identical, reaches}
+use Rattle.lvish_lattice.specs.laws.MaxCounterLaws.{counters_are_join, counters_have_events, counters_identical, greater, reaches}
 use Rattle.lvish_lattice.specs.Plain.{int_identical, pairs_identical}
-use Rattle.lvish_lattice.specs.declared.max_counter.MaxCounter.{MaxCounter}
-use Rattle.lvish_compound.specs.declared.tally.Tally.{Tally}
-use Rattle.lvish_compound.specs.laws.AmountLaws.{join_total, up_to, up_to_total, up_to_rises, up_to_above, up_to_within, keys_total, keys_within, events_count, greater}
-use Rattle.lvish_compound.specs.Amounts.{level, level_at, total_of, gain}
+use Rattle.lvish_compound.specs.Vocabulary.{MaxCounter, HIGHEST_TOTAL}
+use Rattle.lvish_compound.specs.laws.AmountLaws.{join_total, up_to, up_to_total, up_to_rises, up_to_above, up_to_within, keys_total, keys_within, events_count}
+use Rattle.lvish_compound.specs.Amounts.{level_at, total_of, gain}
 use Rattle.lvish_compound.specs.Keyed.{key, by_both}
 use Rattle.lvish_compound.specs.laws.Identity.{equiv_by_identity}
 use Rattle.lvish_compound.specs.MapOf as map_of
+use Rattle.lvish_compound.specs.laws.PartLaws.{ties}
 use Rattle.lvish_compound.specs.laws.MapLaws as map_laws
-use Rattle.lvish_compound.specs.Tally.{Amounts, amounts_of, amount, total, tally_by, tally_of, empty, joined, events_of, amount_test, alike, greater_level, IsPastTotal}
+use Rattle.lvish_compound.specs.Tally.{Tally, Amounts, amounts_of, amount, total, tally_by, tally_of, empty, joined, events_of, amount_test, alike, greater_level, IsPastTotal}
 use Rattle.lvish_compound.specs.laws.Pointwise.{bound, joins_below, IsPointwise, back, pointwise_is_join, viewed_has_events}
-use Rattle.lvish_compound.specs.declared.limits.TheConstants.{HIGHEST_TOTAL}
 
 pub same_tally : (s t : Tally) → s.amounts ≡ t.amounts → s ≡ t
 same_tally s t h =
@@ -35,14 +35,11 @@ same_tally s t h =
     let pairs : ◌≡◌ {A = (p : Amounts × ℕ) × ((p.1 ≡ total_of p.0.entries) × (p.1 ≤ HIGHEST_TOTAL))} ((s.amounts, s.total), (s.counted, s.bounded)) ((t.amounts, t.total), (t.counted, t.bounded)) = Σ_prop_path (λ p. ×_prop (ℕ_set _ _) le_prop) (λ i. (h i, totals i)) in
     λ i. record { amounts = (pairs i).0.0; total = (pairs i).0.1; counted = (pairs i).1.0; bounded = (pairs i).1.1 }
 
-ties : (x y : ℤ) → int_cmp x y ≡ Equal → x ≡ y
-ties = ties_are_same int_cmp int_identical (λ x y. refl)
-
 pub same_amount : IsIdentity amount_test
 same_amount = counters_identical amount_test (λ a b. refl)
 
 pub amount_itself : (c : MaxCounter) → amount_test c c ≡ true
-amount_itself c = nat_eq_equiv.refl c.value
+amount_itself c = nat_eq_equiv.refl (level c)
 
 same_entry : IsIdentity (λ (p q : ℤ × MaxCounter). int_eq p.0 q.0 && amount_test p.1 q.1)
 same_entry = pairs_identical int_eq amount_test int_identical same_amount (λ (p q : ℤ × MaxCounter). int_eq p.0 q.0 && amount_test p.1 q.1) (λ p q. refl)
@@ -81,14 +78,6 @@ made_from m false h t e = absurd cc
 -- a map whose total is within the bound is that of a tally
 pub made_there : (m : Amounts) → total_of m.entries ≤ HIGHEST_TOTAL → (t : Tally) × (tally_of m ≡ Some t) × (t.amounts ≡ m)
 made_there m h = let t : Tally = record { amounts = m; total = total_of m.entries; counted = refl; bounded = h } in (t, made_is m t refl, refl)
-
-too_much : (m : Amounts) (b : Bool) (h : nat_le (total_of m.entries) HIGHEST_TOTAL ≡ b) → HIGHEST_TOTAL < total_of m.entries → tally_by m b h ≡ None
-too_much m true h l = let le = leb-true (total_of m.entries) HIGHEST_TOTAL h in absurd (omega (arith, le, l))
-too_much m false h l = refl
-
--- a map whose total is past the bound is that of no tally
-pub past_bound : (m : Amounts) → HIGHEST_TOTAL < total_of m.entries → tally_of m ≡ None
-past_bound m l = too_much m (nat_le (total_of m.entries) HIGHEST_TOTAL) refl l
 
 pub joined_amounts : (s t u : Tally) → joined s t ≡ Some u → map_of.joined s.amounts t.amounts ≡ Some u.amounts
 joined_amounts s t u e = let m = bound tally_of (map_of.joined s.amounts t.amounts) u e in m.1 ∙ ap Some (sym (made_from m.0 (nat_le (total_of m.0.entries) HIGHEST_TOTAL) refl u m.2))
@@ -159,10 +148,10 @@ top_is_past s t h =
     (map key c.0.entries, c.0.ascending, omega (arith, past, sum))
 
 past_is_top : (s t : Tally) → IsPastTotal s t → joined s t ≡ None
-past_is_top s t (ks, rise, past) =
-    let c : (c : Amounts) × (map_of.joined s.amounts t.amounts ≡ Some c) = amounts_join s.amounts t.amounts in
-    let sum : sum_by (greater_level s t) ks ≡ sum_by (level_at c.0.entries) ks = ap (λ (f : ℤ → ℕ). sum_by f ks) (λ i q. sym (greater_at s t c.0 c.1 q) i) in
-    ap (option_and_then tally_of) c.1 ∙ past_bound c.0 (omega (arith, past, sum, keys_within c.0.entries ks rise))
+past_is_top s t (ks, rise, past) = unless_some (joined s t) (λ u e.
+    let c = joined_amounts s t u e in
+    let sum : sum_by (greater_level s t) ks ≡ sum_by (level_at u.amounts.entries) ks = ap (λ (f : ℤ → ℕ). sum_by f ks) (λ i q. sym (greater_at s t u.amounts c q) i) in
+    omega (arith, past, sum, keys_within u.amounts.entries ks rise, u.counted, u.bounded))
 
 -- a join is top exactly where the greater amounts add up to more than 10,000
 pub tallies_top : IsTopWhere joined IsPastTotal

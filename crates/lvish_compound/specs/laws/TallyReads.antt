@@ -1,6 +1,5 @@
 -- Reads of a tally: of the amount of a key, and of the total.
-use Rattle.std.specs.Prelude.{◌≡◌, ◌↔◌, ℤ, pos, negsuc, true, cond, nat_le, [], ◌∷◌, None, refl}
-use Rattle.std.proofs.Common.{sym, ◌∙◌, ap, subst, arith, lit≤}
+use Rattle.std.proofs.Common.{◌≡◌, ◌↔◌, ℤ, pos, negsuc, true, cond, nat_le, [], ◌∷◌, None, refl, sym, ◌∙◌, ap, subst, arith, lit≤}
 use Rattle.std.proofs.lemmas.Option.{none-some}
 use Rattle.std.specs.Ordering.{int_cmp}
 use Rattle.std.proofs.lemmas.Cmp.{int_cmp_total}
@@ -8,12 +7,10 @@ use borrow.Author.Tests.{leb-true, le-leb}
 use Rattle.lvish_lattice.specs.Ascending.{rises_by_test}
 use Rattle.lvish_lattice.specs.Lattice.{IsAtOrBelow, IsChecked, IsAnswered}
 use Rattle.lvish_lattice.specs.MaxCounter as max
-use Rattle.lvish_lattice.specs.MaxCounter.{number_of}
+use Rattle.lvish_lattice.specs.MaxCounter.{level, number_of, counter_of}
 use Rattle.lvish_lattice.specs.laws.MaxCounterLaws.{counters_are_join}
-use Rattle.lvish_lattice.specs.declared.max_counter.MaxCounter.{MaxCounter}
-use Rattle.lvish_compound.specs.declared.number_test.Test.{Test}
+use Rattle.lvish_compound.specs.Vocabulary.{MaxCounter, Test, HIGHEST_LEVEL, HIGHEST_TOTAL}
 use Rattle.lvish_compound.specs.declared.place.Place.TheVariants as place
-use Rattle.lvish_compound.specs.declared.tally.Tally.{Tally}
 use Rattle.lvish_compound.specs.Numbers.{max_of, HasOne, StandsFor, ByNumber, first_that, is_reached, is_total, are_levels, are_totals}
 use Rattle.lvish_compound.specs.laws.Embedded.{IsEmbedded, IsImage, number_image, image_of_one, composed, kind_embedded, checked_there, answered_same}
 use Rattle.lvish_compound.specs.MapOf as map_of
@@ -25,10 +22,8 @@ use Rattle.lvish_compound.specs.laws.StateLaws.{OfTally, any_one_of}
 use Rattle.lvish_compound.specs.StateReads.{MemberAt, answer_at}
 use Rattle.lvish_compound.specs.States.{of_tally, amount, joined, tally_in}
 use Rattle.lvish_compound.specs.Tally as tally
-use Rattle.lvish_compound.specs.Tally.{Amounts, single, total}
+use Rattle.lvish_compound.specs.Tally.{Tally, Amounts, single, total}
 use Rattle.lvish_compound.specs.laws.TallyLaws.{same_amount, amount_itself, joined_tally, amounts_below, tally_is_join, total_grows, total_reached}
-use Rattle.lvish_lattice.specs.declared.limits.TheConstants.{HIGHEST_LEVEL}
-use Rattle.lvish_compound.specs.declared.limits.TheConstants.{HIGHEST_TOTAL}
 
 -- the map of one key and its amount
 abbrev one_key : ℤ → MaxCounter → Amounts
@@ -46,7 +41,7 @@ amounts_embedded k = record {
 }
   where
     greatest : MaxCounter → MaxCounter → MaxCounter
-    greatest a b = cond (nat_le a.value b.value) b a
+    greatest a b = cond (nat_le (level a) (level b)) b a
 
 -- tallies within states
 tallies_embedded : IsEmbedded tally.joined joined of_tally tally_in
@@ -64,7 +59,7 @@ amount_answers k t h = answered_same (composed (amounts_embedded k) tallies_embe
 
 -- a tally with the greatest total
 thousand : MaxCounter
-thousand = record { value = HIGHEST_LEVEL; bounded = lit≤ tt }
+thousand = counter_of HIGHEST_LEVEL (lit≤ tt)
 
 full : Tally
 unfolding thousand

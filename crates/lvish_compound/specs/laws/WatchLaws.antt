@@ -1,6 +1,5 @@
 -- Where reads of a script's variables wait.
-use Rattle.std.specs.Prelude.{◌≡◌, ℤ, pos, Bool, true, false, cond, nat_eq, ◌||◌, Some, None, option_map, refl}
-use Rattle.std.proofs.Common.{sym, ◌∙◌, ap, subst}
+use Rattle.std.proofs.Common.{◌≡◌, ℤ, pos, Bool, true, false, cond, nat_eq, ◌||◌, Some, None, option_map, refl, sym, ◌∙◌, ap, subst}
 use Rattle.std.proofs.lemmas.Option.{cond_some, none-some, same_Some}
 use Rattle.std.proofs.lemmas.Cmp.{int_cmp_total, int_eq_equiv}
 use Rattle.std.specs.Set.{is_member}
@@ -8,27 +7,16 @@ use Rattle.std.specs.Ordering.{int_eq, int_cmp}
 use Rattle.lvish_lattice.specs.Lattice.{BringsAt, IsWatched}
 use Rattle.lvish_lattice.specs.Listed.{one_is_each, found, missed, mapped}
 use Rattle.lvish_lattice.specs.Plain.{int_identical}
-use Rattle.lvish_lattice.specs.declared.flat.Flat.{Flat}
-use Rattle.lvish_lattice.specs.declared.flat.Flat.TheVariants.{Bottom, Value}
-use Rattle.lvish_lattice.specs.declared.max_counter.MaxCounter.{MaxCounter}
+use Rattle.lvish_compound.specs.Vocabulary.{Flat, Bottom, Value, MaxCounter, Event, Kind, Test, Part, Cell, Set, Max, Place, SideOf, One, Two}
 use Rattle.lvish_lattice.specs.Flat as flat
 use Rattle.lvish_lattice.specs.laws.FlatLaws.{flat_has_events}
 use Rattle.lvish_lattice.specs.GrowSet as set
 use Rattle.lvish_lattice.specs.MaxCounter as max
 use Rattle.lvish_lattice.specs.MaxCounter.{number_of}
 use Rattle.lvish_lattice.specs.laws.MaxCounterLaws.{level_is_there}
-use Rattle.lvish_compound.specs.declared.any.Any.{Any}
-use Rattle.lvish_compound.specs.declared.event.Event.{Event}
-use Rattle.lvish_compound.specs.declared.kind.Kind.{Kind}
 use Rattle.lvish_compound.specs.declared.kind.Kind.TheVariants as kind
-use Rattle.lvish_compound.specs.declared.number_test.Test.{Test}
 use Rattle.lvish_compound.specs.declared.number_test.Test.TheVariants as test
-use Rattle.lvish_compound.specs.declared.part.Part.{Part}
-use Rattle.lvish_compound.specs.declared.part.Part.TheVariants.{Cell, Set, Max}
-use Rattle.lvish_compound.specs.declared.place.Place.{Place}
 use Rattle.lvish_compound.specs.declared.place.Place.TheVariants as place
-use Rattle.lvish_compound.specs.declared.side_of.SideOf.{SideOf}
-use Rattle.lvish_compound.specs.declared.side_of.SideOf.TheVariants.{One, Two}
 use Rattle.lvish_compound.specs.Held.{HeldState}
 use Rattle.lvish_compound.specs.AnyReads.{answer_of}
 use Rattle.lvish_compound.specs.EventNames.{PartEvent, part_event}
@@ -41,14 +29,14 @@ use Rattle.lvish_compound.specs.laws.PartLaws as part_laws
 use Rattle.lvish_compound.specs.Parts as parts
 use Rattle.lvish_compound.specs.Parts.{cell_in, set_in, max_in}
 use Rattle.lvish_compound.specs.laws.PairLaws.{has_one, has_two}
-use Rattle.lvish_compound.specs.laws.StateEvents.{TestsNames, part_eq, entry_eq, side_eq, raw_eq, whole_eq, raw_events, whole_events, whole_exact, names_there}
+use Rattle.lvish_compound.specs.laws.StateEvents.{TestsNames, part_eq, entry_eq, side_eq, late_eq, raw_eq, whole_eq, late_events, raw_events, whole_events, whole_exact, names_there}
 use Rattle.lvish_compound.specs.laws.StateLaws.{three_in, state_kinds, value_itself, same_value}
 use Rattle.lvish_compound.specs.StateReads.{part_answer, side_in, answer_at}
-use Rattle.lvish_compound.specs.States.{events_of, part_in, map_in, sides_in, tally_in}
+use Rattle.lvish_compound.specs.States.{Any, events_of, part_in, map_in, sides_in, tally_in}
 use Rattle.lvish_compound.specs.Tally as tally
 use Rattle.lvish_compound.specs.laws.TallyLaws.{amount_has}
 use Rattle.lvish_compound.specs.AnyWatch.{spot_by, spot_of, one_tested, number_by, at_spot, watched_at, watched}
-use Rattle.lvish_compound.specs.laws.Embedded.{brings_there}
+use Rattle.lvish_compound.specs.laws.Embedded.{brings_there, waits_there}
 
 -- a cell
 cell_waits : (t : Test) (old new : Flat ℤ) (a : ℤ) → cell_answer t old ≡ None → cell_answer t new ≡ Some a → BringsAt int_eq flat.events_of (spot_by kind.Cell) old new (pos 0)
@@ -134,13 +122,10 @@ module _ (en : Event → Event → Bool) (by : TestsNames en) where
   has_amount : (s : Any) (k n : ℤ) → is_member en (events_of s) (whole_name (Two (k, n))) ≡ is_member int_eq (max.events_of (tally.amount (tally_in s) k)) n
   has_amount s k n = has_whole s (Two (k, n)) ∙ has_two raw_eq entry_eq whole_eq (λ x z. refl) (λ y w. refl) (λ x y. refl) (λ x y. refl) (raw_events (three_in s)) (tally.events_of (tally_in s)) (k, n) ∙ amount_has (tally_in s) k n
 
-  abbrev late_eq : SideOf (ℤ × ℤ) (SideOf PartEvent PartEvent) → SideOf (ℤ × ℤ) (SideOf PartEvent PartEvent) → Bool
-  late_eq = sides_eq entry_eq side_eq
-
   has_part : (s : Any) (e : PartEvent) → is_member en (events_of s) (name_of (One e)) ≡ is_member part_eq (parts.events_of (part_in s)) e
   has_part s e = has_raw s (One e) ∙ has_one part_eq late_eq raw_eq (λ x z. refl) (λ y w. refl) (λ x y. refl) (λ x y. refl) (parts.events_of (part_in s)) _ e
 
-  has_late : (s : Any) (e : SideOf (ℤ × ℤ) (SideOf PartEvent PartEvent)) → is_member en (events_of s) (name_of (Two e)) ≡ is_member late_eq (pair.events_of map_of.map_events_of (pair.events_of parts.events_of parts.events_of) (three_in s).two) e
+  has_late : (s : Any) (e : SideOf (ℤ × ℤ) (SideOf PartEvent PartEvent)) → is_member en (events_of s) (name_of (Two e)) ≡ is_member late_eq (late_events (three_in s).two) e
   has_late s e = has_raw s (Two e) ∙ has_two part_eq late_eq raw_eq (λ x z. refl) (λ y w. refl) (λ x y. refl) (λ x y. refl) (parts.events_of (part_in s)) _ e
 
   has_entry : (s : Any) (k n : ℤ) → is_member en (events_of s) (name_of (Two (One (k, n)))) ≡ is_member int_eq (flat.events_of (map_of.at (map_in s) k)) n
@@ -182,9 +167,8 @@ module _ (en : Event → Event → Bool) (by : TestsNames en) where
       subst (Brings old new) (same_Some (at_spot k kind.Map (pos 0)) w is)
       (brings_there (λ s. map_of.at (map_in s) k) (λ n. name_of (Two (One (k, n)))) (at_spot k kind.Map) (λ s n. has_entry s k n) (λ n. refl) old new (pos 0) (cell_waits t (map_of.at (map_in old) k) (map_of.at (map_in new) k) a none some))
   waits_at (place.Amount k) t w is old new a none some =
-      let v = mapped (at_spot k kind.Tally) (number_by kind.Tally t) w is in
-      subst (Brings old new) v.2
-      (brings_there (λ s. tally.amount (tally_in s) k) (λ n. whole_name (Two (k, n))) (at_spot k kind.Tally) (λ s n. has_amount s k n) (λ n. refl) old new v.0 (max_waits t v.0 v.1 (tally.amount (tally_in old) k) (tally.amount (tally_in new) k) a none some))
+      waits_there (λ s. tally.amount (tally_in s) k) (λ n. whole_name (Two (k, n))) (at_spot k kind.Tally) (λ s n. has_amount s k n) (λ n. refl) old new
+      (number_by kind.Tally t) w is (λ v e. max_waits t v e (tally.amount (tally_in old) k) (tally.amount (tally_in new) k) a none some)
   waits_at place.Total t w is old new a none some = absurd cc
   waits_at (place.Side i l) t w is old new a none some = side_waits (nat_eq i 1) l t w is old new a none some
 

@@ -16,26 +16,26 @@ use Rattle.lvish_lattice.specs.declared.max_counter.MaxCounter.{MaxCounter}
 use Rattle.lvish_lattice.specs.declared.max_counter.Levels.{Levels}
 use Rattle.lvish_lattice.specs.Lattice.{IsIdentity, IsJoin, IsAtOrBelow, HasEvents, fresh_of, IsChecked, IsAnswered, IsWatched}
 use Rattle.lvish_lattice.specs.Listed.{found, found_one, mapped, unmapped, some_is_not_none, one_of, one_is_each, missed}
-use Rattle.lvish_lattice.specs.MaxCounter.{number_of, zero as none, joined, events_of, listed, Member, answer_of, spot_of, watched}
+use Rattle.lvish_lattice.specs.MaxCounter.{level, number_of, zero as none, joined, events_of, listed, Member, answer_of, spot_of, watched}
 use Rattle.lvish_lattice.specs.declared.limits.TheConstants.{HIGHEST_LEVEL}
 
 -- two counters of the same number are the same
-pub same_counter : (a b : MaxCounter) → a.value ≡ b.value → a ≡ b
+pub same_counter : (a b : MaxCounter) → level a ≡ level b → a ≡ b
 same_counter a b h =
     let pairs : ◌≡◌ {A = (n : ℕ) × (n ≤ HIGHEST_LEVEL)} (a.value, a.bounded) (b.value, b.bounded) = Σ_prop_path (λ n. le_prop) h in
     λ i. record { value = (pairs i).0; bounded = (pairs i).1 }
 
-pub counters_identical : (test : MaxCounter → MaxCounter → Bool) → ((a b : MaxCounter) → test a b ≡ nat_eq a.value b.value) → IsIdentity test
-counters_identical test by_value a b e = same_counter a b (eqb-true a.value b.value (sym (by_value a b) ∙ e))
+pub counters_identical : (test : MaxCounter → MaxCounter → Bool) → ((a b : MaxCounter) → test a b ≡ nat_eq (level a) (level b)) → IsIdentity test
+counters_identical test by_value a b e = same_counter a b (eqb-true (level a) (level b) (sym (by_value a b) ∙ e))
 
 most : MaxCounter → MaxCounter → MaxCounter
-most a b = cond (nat_le a.value b.value) b a
+most a b = cond (nat_le (level a) (level b)) b a
 
-value_of_most : (a b : MaxCounter) → (most a b).value ≡ max a.value b.value
+value_of_most : (a b : MaxCounter) → level (most a b) ≡ max (level a) (level b)
 unfolding most
-value_of_most a b = elim (nat_le a.value b.value) as (λ t. nat_le a.value b.value ≡ t → (cond t b a).value ≡ max a.value b.value) [
-  | true ↦ λ t. let le = leb-true a.value b.value t in omega arith
-  | false ↦ λ t. let lt = leb-false a.value b.value t in omega arith
+value_of_most a b = elim (nat_le (level a) (level b)) as (λ t. nat_le (level a) (level b) ≡ t → level (cond t b a) ≡ max (level a) (level b)) [
+  | true ↦ λ t. let le = leb-true (level a) (level b) t in omega arith
+  | false ↦ λ t. let lt = leb-false (level a) (level b) t in omega arith
 ] refl
 
 pub counters_are_join : IsJoin none joined
@@ -80,21 +80,22 @@ among_either : (q : ℤ) (m n w : ℕ) → w ≡ max m n → is_among 1 w q ≡ 
 among_either (pos k) m n w h = grind (arith, nat_tests)
 among_either (negsuc k) m n w h = refl
 
-joined_value : (a b c : MaxCounter) → joined a b ≡ Some c → c.value ≡ max a.value b.value
+-- a join has the greater number
+pub greater : (a b c : MaxCounter) → joined a b ≡ Some c → level c ≡ max (level a) (level b)
 unfolding most
-joined_value a b c e = let s : most a b ≡ c = cc in sym (ap (λ (x : MaxCounter). x.value) s) ∙ value_of_most a b
+greater a b c e = let s : most a b ≡ c = cc in sym (ap level s) ∙ value_of_most a b
 
 unites : (a b c : MaxCounter) → joined a b ≡ Some c → IsUnion int_eq (events_of a) (events_of b) (events_of c)
 unites a b c e q =
-    has_level 1 c.value q ∙ among_either q a.value b.value c.value (joined_value a b c e)
-    ∙ sym (ap (λ t. t || is_member int_eq (events_of b) q) (has_level 1 a.value q) ∙ ap (λ t. is_among 1 a.value q || t) (has_level 1 b.value q))
+    has_level 1 (level c) q ∙ among_either q (level a) (level b) (level c) (greater a b c e)
+    ∙ sym (ap (λ t. t || is_member int_eq (events_of b) q) (has_level 1 (level a) q) ∙ ap (λ t. is_among 1 (level a) q || t) (has_level 1 (level b) q))
 
 pub counters_have_events : HasEvents none joined int_eq int_cmp events_of
 counters_have_events = record {
   none = refl;
-  ascending = λ a. levels_rise 1 a.value;
+  ascending = λ a. levels_rise 1 (level a);
   union = unites;
-  determine = λ a b e. same_counter a b (sym (length-map-range_with_len pos 1 a.value) ∙ ap length e ∙ length-map-range_with_len pos 1 b.value);
+  determine = λ a b e. same_counter a b (sym (length-map-range_with_len pos 1 (level a)) ∙ ap length e ∙ length-map-range_with_len pos 1 (level b));
 }
 
 levels_split : (low m n t s : ℕ) → t ≡ m + n → s ≡ low + m → levels low t ≡ levels low m ++ levels s n
@@ -127,14 +128,14 @@ module _ (old : ℕ) where
       ∙ all_fresh (old + 1) (put - old) (omega arith)
 
 -- a put brings the levels above the old number
-pub counters_fresh : (a b : MaxCounter) → fresh_of joined int_eq events_of a b ≡ map pos (range_with_len (a.value + 1) (b.value - a.value))
+pub counters_fresh : (a b : MaxCounter) → fresh_of joined int_eq events_of a b ≡ map pos (range_with_len (level a + 1) (level b - level a))
 unfolding most
-counters_fresh a b = ap (λ n. filter (λ e. not (is_member int_eq (events_of a) e)) (levels 1 n)) (value_of_most a b) ∙ fresh_levels a.value b.value
+counters_fresh a b = ap (λ n. filter (λ e. not (is_member int_eq (events_of a) e)) (levels 1 n)) (value_of_most a b) ∙ fresh_levels (level a) (level b)
 
-pub reaches : (m s : MaxCounter) → IsAtOrBelow joined m s ↔ (nat_le m.value s.value ≡ true)
+pub reaches : (m s : MaxCounter) → IsAtOrBelow joined m s ↔ (nat_le (level m) (level s) ≡ true)
 unfolding most
 reaches m s = (
-  (λ h. let e : most m s ≡ s = cc in le-leb m.value s.value (omega (arith, value_of_most m s, ap (λ (x : MaxCounter). x.value) e))),
+  (λ h. let e : most m s ≡ s = cc in le-leb (level m) (level s) (omega (arith, value_of_most m s, ap level e))),
   λ h. ap (λ t. Some (cond t s m)) h,
 )
 
@@ -151,20 +152,20 @@ counters_checked r = ((λ one m n a b s t. inl (sym s.1 ∙ ap number_of (one m 
 pub counters_answer : (r : Levels) → IsChecked joined (Member r) → IsAnswered joined (Member r) (answer_of r)
 counters_answer r checked s a = (
   (λ h.
-      let m = mapped number_of (find (λ level. nat_le level.value s.value) (listed r)) a h in
-      let f = found (λ level. nat_le level.value s.value) (listed r) m.0 m.1 in
+      let m = mapped number_of (find (λ l. nat_le (level l) (level s)) (listed r)) a h in
+      let f = found (λ l. nat_le (level l) (level s)) (listed r) m.0 m.1 in
       (m.0, (f.0, m.2), (reaches m.0 s).1 f.1)),
-  λ m. ap (option_map number_of) (found_one (λ level. nat_le level.value s.value) (listed r) m.0 m.1.0 (λ y c. checked_is_one r checked y m.0 c m.1.0) ((reaches m.0 s).0 m.2)) ∙ ap (λ (n : ℤ). Some n) m.1.1,
+  λ m. ap (option_map number_of) (found_one (λ l. nat_le (level l) (level s)) (listed r) m.0 m.1.0 (λ y c. checked_is_one r checked y m.0 c m.1.0) ((reaches m.0 s).0 m.2)) ∙ ap (λ (n : ℤ). Some n) m.1.1,
 )
 
 -- a level that is reached in one state and not in another is an event of the one and not of the other
 pub level_is_there : (old new : MaxCounter) (n : ℤ) → int_le n (number_of new) ≡ true → int_le n (number_of old) ≡ false → (is_member int_eq (events_of new) n ≡ true) × (is_member int_eq (events_of old) n ≡ false)
-level_is_there old new (pos k) there missing = (has_level 1 new.value (pos k) ∙ among, has_level 1 old.value (pos k) ∙ beyond)
+level_is_there old new (pos k) there missing = (has_level 1 (level new) (pos k) ∙ among, has_level 1 (level old) (pos k) ∙ beyond)
   where
-    among : is_among 1 new.value (pos k) ≡ true
+    among : is_among 1 (level new) (pos k) ≡ true
     among = grind (arith, nat_tests)
 
-    beyond : is_among 1 old.value (pos k) ≡ false
+    beyond : is_among 1 (level old) (pos k) ≡ false
     beyond = grind (arith, nat_tests)
 level_is_there old new (negsuc k) there missing = absurd cc
 
@@ -172,13 +173,13 @@ pub counters_wait : (eq : MaxCounter → MaxCounter → Bool) → IsIdentity eq 
 counters_wait eq same r w is old new a none some =
     let h = mapped number_of (one_of eq (listed r)) w is in
     let one = one_is_each eq same (listed r) h.0 h.1 in
-    let m = mapped number_of (find (λ level. nat_le level.value new.value) (listed r)) a some in
-    let f = found (λ level. nat_le level.value new.value) (listed r) m.0 m.1 in
-    let got : nat_le h.0.value new.value ≡ true = ap (λ (x : MaxCounter). nat_le x.value new.value) (one.1 m.0 f.0) ∙ f.1 in
-    let late : nat_le h.0.value old.value ≡ false = missed (λ level. nat_le level.value old.value) (listed r) h.0 (unmapped number_of _ none) one.0 in
+    let m = mapped number_of (find (λ l. nat_le (level l) (level new)) (listed r)) a some in
+    let f = found (λ l. nat_le (level l) (level new)) (listed r) m.0 m.1 in
+    let got : nat_le (level h.0) (level new) ≡ true = ap (λ x. nat_le (level x) (level new)) (one.1 m.0 f.0) ∙ f.1 in
+    let late : nat_le (level h.0) (level old) ≡ false = missed (λ l. nat_le (level l) (level old)) (listed r) h.0 (unmapped number_of _ none) one.0 in
     record {
-      event = pos h.0.value;
-      there = has_level 1 new.value (pos h.0.value) ∙ grind (arith, nat_tests);
-      missing = has_level 1 old.value (pos h.0.value) ∙ grind (arith, nat_tests);
+      event = pos (level h.0);
+      there = has_level 1 (level new) (pos (level h.0)) ∙ grind (arith, nat_tests);
+      missing = has_level 1 (level old) (pos (level h.0)) ∙ grind (arith, nat_tests);
       at = h.2;
     }

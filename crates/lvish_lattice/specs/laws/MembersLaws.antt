@@ -1,6 +1,5 @@
 -- Reads of a set by a list of elements: when they are checked, and what they answer.
-use Rattle.std.specs.Prelude.{◌≡◌, ◌↔◌, Bool, true, [], ◌∷◌, None, All, Contains, refl}
-use Rattle.std.proofs.Common.{sym, ◌∙◌, ap, subst, inl, ⊎_elim, arith}
+use Rattle.std.proofs.Common.{◌≡◌, ◌↔◌, Bool, true, [], ◌∷◌, None, All, Contains, refl, sym, ◌∙◌, ap, subst, inl, ⊎_elim, arith}
 use Rattle.std.specs.Cmp.{IsTotalOrder}
 use Rattle.std.specs.Set.{is_member}
 use Rattle.std.specs.Ordering.{is_eq}
@@ -12,15 +11,15 @@ use Rattle.lvish_lattice.specs.declared.grow_set.GrowSet.{GrowSet}
 use Rattle.lvish_lattice.specs.declared.grow_set.Members.{Members}
 use Rattle.lvish_lattice.specs.Lattice.{IsIdentity, IsAtOrBelow, IsChecked, IsAnswered, IsWatched}
 use Rattle.lvish_lattice.specs.Ascending.{ties_are_same, one_rises, within_by}
-use Rattle.lvish_lattice.specs.GrowSet.{joined, joined-union, below_from, items_of}
+use Rattle.lvish_lattice.specs.GrowSet.{joined, joined-union, below_from, items_of, set_with}
 use Rattle.lvish_lattice.specs.Listed.{found, found_one, some_is_not_none, one_is_each, missed}
 use Rattle.lvish_lattice.specs.Members.{listed, Member, answer_of, spot_of, watched}
 
 module _ {V : Type 0} {o : ord.Ghosts V} {e : partial_eq.Ghosts V} {p : partial_ord.Ghosts V} (total : IsTotalOrder o.cmp) where
   abbrev single : V → GrowSet V o e p
-  single x = record { items = x ∷ []; ascending = one_rises o.cmp x }
+  single x = set_with (x ∷ []) (one_rises o.cmp x)
 
-  never_top : (a b : GrowSet V o e p) → joined a b ≡ None → ⊥
+  pub never_top : (a b : GrowSet V o e p) → joined a b ≡ None → ⊥
   never_top a b h = some_is_not_none (joined a b) _ (joined-union total a b) h
 
   -- a read is checked exactly where any two listed elements are the same
@@ -34,13 +33,14 @@ module _ {V : Type 0} {o : ord.Ghosts V} {e : partial_eq.Ghosts V} {p : partial_
   sets_checked r = (one_is_checked r, checked_is_one r)
 
   module _ (eq : V → V → Bool) (ties : (x y : V) → eq x y ≡ is_eq (o.cmp x y)) (same : IsIdentity eq) where
-    has_below : (m s : GrowSet V o e p) (a : V) → m.items ≡ a ∷ [] → IsAtOrBelow joined m s → is_member eq s.items a ≡ true
+    -- a set of one element is at or below those that have it
+    pub has_below : (m s : GrowSet V o e p) (a : V) → items_of m ≡ a ∷ [] → IsAtOrBelow joined m s → is_member eq (items_of s) a ≡ true
     has_below m s a is below =
         let all : All (λ x. is_member eq s.items x ≡ true) m.items = (within_by total (ties_are_same o.cmp same ties) eq ties m.items s.items m.ascending s.ascending).1 ((below_from total m s).1 below) in
         let one : All (λ x. is_member eq s.items x ≡ true) (a ∷ []) = subst (All (λ x. is_member eq s.items x ≡ true)) is all in
         one 0 a (omega arith)
 
-    below_has : (m s : GrowSet V o e p) (a : V) → m.items ≡ a ∷ [] → is_member eq s.items a ≡ true → IsAtOrBelow joined m s
+    pub below_has : (m s : GrowSet V o e p) (a : V) → items_of m ≡ a ∷ [] → is_member eq (items_of s) a ≡ true → IsAtOrBelow joined m s
     below_has m s a is h =
         let one : All (λ x. is_member eq s.items x ≡ true) (a ∷ []) = All-cons (λ x. is_member eq s.items x ≡ true) a [] h (All-nil (λ x. is_member eq s.items x ≡ true)) in
         let all : All (λ x. is_member eq s.items x ≡ true) m.items = subst (All (λ x. is_member eq s.items x ≡ true)) (sym is) one in

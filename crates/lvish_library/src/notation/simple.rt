@@ -40,16 +40,18 @@ fn values<V: RowValue>(alloc: Global, text: &str) -> Result<Vec<V>, RowFault> {
     Ok(values)
 }
 
-/// The values with commas between them.
-fn write_values<V: RowValue>(values: &[V], out: &mut String) -> Result<(), AllocError> {
-    if values.is_empty() {
-        out.push('_')?;
-    }
-    for (place, value) in values.iter().enumerate() {
-        if place > 0 {
+/// The elements of a set with commas between them, `_` where there are none.
+fn write_elements<V: RowValue>(set: &GrowSet<V>, out: &mut String) -> Result<(), AllocError> {
+    let mut is_first = true;
+    for element in set.items() {
+        if !is_first {
             out.push(',')?;
         }
-        value.write_value(out)?;
+        element.write_value(out)?;
+        is_first = false;
+    }
+    if is_first {
+        out.push('_')?;
     }
     Ok(())
 }
@@ -59,7 +61,7 @@ pub fn elements<V: RowValue>(alloc: Global, text: &str) -> Result<String, RowFau
     let values = values::<V>(alloc, text)?;
     let set = GrowSet::of(alloc, values.as_slice())?;
     let mut told = String::new(alloc);
-    write_values(set.items(), &mut told)?;
+    write_elements(&set, &mut told)?;
     Ok(told)
 }
 
@@ -110,7 +112,7 @@ impl<V: RowValue + Hash> Notation for GrowSet<V> {
     }
 
     fn write_state(&self, out: &mut String) -> Result<(), AllocError> {
-        write_values(self.items(), out)
+        write_elements(self, out)
     }
 
     fn write_event(event: &V, out: &mut String) -> Result<(), AllocError> {

@@ -46,11 +46,20 @@ fn grows<L: Lattice>(
     Ok(joins_at_last(rt, alloc, state, put, before)? && has_events(alloc, state, after)?)
 }
 
+/// Whether a set grows by one element, by several at once, and by one more.
 fn set_grows(rt: &impl Abort, alloc: Global) -> Result<bool, AllocError> {
-    let mut state = GrowSet::of(alloc, &[1, 3])?;
-    let put = GrowSet::of(alloc, &[0, 2, 4, 5, 6, 7])?;
-    let after = [0, 1, 2, 3, 4, 5, 6, 7];
-    grows(rt, alloc, &mut state, &put, &[1, 3], &after)
+    let mut set = GrowSet::of(alloc, &[1])?;
+    let first = GrowSet::of(alloc, &[3])?;
+    let others = GrowSet::of(alloc, &[0, 2, 4, 5, 7])?;
+    let last = GrowSet::of(alloc, &[6])?;
+    let both = [1, 3];
+    let more = [0, 1, 2, 3, 4, 5, 7];
+    let all = [0, 1, 2, 3, 4, 5, 6, 7];
+    Ok(
+        grows(rt, alloc, &mut set, &first, &[1], &both)?
+            && grows(rt, alloc, &mut set, &others, &both, &more)?
+            && grows(rt, alloc, &mut set, &last, &more, &all)?,
+    )
 }
 
 #[test]

@@ -83,7 +83,10 @@ fn content_text(alloc: Global, content: &Any) -> Result<String, AllocError> {
     match content {
         Any::Part(Part::Empty) => String::from_str(alloc, "empty"),
         Any::Part(Part::Cell(number)) => number.to_string(alloc),
-        Any::Part(Part::Set(set)) => format!(in alloc; "{:?}", set.state().items()),
+        Any::Part(Part::Set(set)) => {
+            let elements = set.state().items().copied().collect::<Vec<i64>>(alloc)?;
+            format!(in alloc; "{elements:?}")
+        }
         _ => format!(in alloc; "{content:?}"),
     }
 }

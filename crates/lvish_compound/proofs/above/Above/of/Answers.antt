@@ -1,5 +1,4 @@
-use Rattle.std.specs.Prelude.{refl}
-use Rattle.std.proofs.Common.{sym}
+use Rattle.std.proofs.Common.{refl, sym}
 use Rattle.lvish_compound.specs.Above.{above_is}
 use Rattle.lvish_compound.proofs.above.Above.of.Goals as goal
 

@@ -1,5 +1,4 @@
-use Rattle.std.specs.Prelude.{Some}
-use Rattle.std.proofs.Common.{◌∙◌, sym, ap}
+use Rattle.std.proofs.Common.{Some, ◌∙◌, sym, ap}
 use Rattle.std.proofs.lemmas.Int.{to_z-of_z}
 use mir.Syntax.{w64}
 use Rattle.lvish_compound.specs.declared.any.Any as any

@@ -1,5 +1,4 @@
-use Rattle.std.specs.Prelude.{Some}
-use Rattle.std.proofs.Common.{◌∙◌, sym, ap}
+use Rattle.std.proofs.Common.{Some, ◌∙◌, sym, ap}
 use Rattle.lvish_compound.specs.declared.any.Any as any
 use Rattle.lvish_compound.proofs.Values.{first_side, second_side}
 use Rattle.lvish_compound.proofs.any.Any.side.Goals as goal

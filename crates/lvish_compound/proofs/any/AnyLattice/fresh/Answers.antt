@@ -1,5 +1,4 @@
-use Rattle.std.specs.Prelude.{refl}
-use Rattle.std.proofs.Common.{◌∙◌}
+use Rattle.std.proofs.Common.{refl, ◌∙◌}
 use Rattle.std.proofs.lemmas.Result.{IfOk-weaker}
 use Rattle.lvish_compound.specs.laws.StateEvents.{by_name}
 use Rattle.lvish_compound.proofs.StateCalls.{parts_fresh_by, maps_fresh, pairs_fresh_by, tallies_fresh, part_to, other_to_part}

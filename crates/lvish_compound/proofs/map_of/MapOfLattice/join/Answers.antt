@@ -17,9 +17,4 @@ invariant_of-result g c =
     }
 
 pub returns-in-Some : goal.returns-in-Some
-returns-in-Some g c =
-    let R = g.K.Ord.cmp in
-    let l = g.L.Lattice in
-    let a = c.args.self.now in
-    let b = c.args.other.now in
-    sym (joined_some a b _ (sym c.in_ok-entries.ensures ∙ c.in-Some.is))
+returns-in-Some g c = sym (joined_some c.args.self.now c.args.other.now _ (sym c.in_ok-entries.ensures ∙ c.in-Some.is))

@@ -1,5 +1,4 @@
-use Rattle.std.specs.Prelude.{◌≡◌, refl, is_some, not, true}
-use Rattle.std.proofs.Common.{◌∙◌, sym, ap}
+use Rattle.std.proofs.Common.{◌≡◌, refl, is_some, not, true, ◌∙◌, sym, ap}
 use Rattle.lvish_compound.specs.Pair.{joined}
 use Rattle.std.proofs.lemmas.Result.{IfOk-weaker}
 use Rattle.lvish_compound.proofs.PairFresh.{one_rises, two_rises, both_rise, top_brings_nothing}

@@ -1,5 +1,4 @@
-use Rattle.std.specs.Prelude.{refl}
-use Rattle.std.proofs.Common.{sym}
+use Rattle.std.proofs.Common.{refl, sym}
 use Rattle.lvish_compound.specs.laws.SidesLaws.{above_is}
 use Rattle.lvish_compound.proofs.sides.Sides.of.Goals as goal
 

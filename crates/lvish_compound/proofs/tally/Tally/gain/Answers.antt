@@ -1,7 +1,8 @@
 use Rattle.std.proofs.Common.{◌≡◌, arith, rules, ap, ◌∙◌, ◌-◌}
 use Rattle.std.specs.Map.Iter.{deref_pair}
 use Rattle.std.proofs.lemmas.Map.Iter.{rest_more, rest_all}
-use Rattle.lvish_compound.specs.Amounts.{level, gains}
+use Rattle.lvish_lattice.specs.MaxCounter.{level}
+use Rattle.lvish_compound.specs.Amounts.{gains}
 use Rattle.lvish_compound.specs.laws.AmountLaws.{gain_within}
 use Rattle.lvish_compound.specs.Tally.{entries_of, amount}
 use Rattle.lvish_compound.proofs.Tallies.{gained_more, gained_within, gained_all}

@@ -1,0 +1,257 @@
+ghost use Rattle.std.specs.Prelude.{◌≡◌, ◌↔◌, not, IfOk, IfErr, IsTrue, Contains, MatchOption, [], ◌∷◌, true, filter, length, ⊤};
+ghost use Rattle.std.specs.BTreeSet.{IsFromIterResult};
+ghost use Rattle.std.specs.Cmp.Lexicographic.{pointwise};
+ghost use Rattle.std.specs.Set.{sorted_merge, is_member};
+ghost use Rattle.std.specs.List.Sorted.{IsStrictlySortedBy};
+ghost use Rattle.lvish_lattice.specs.Elements.{few, elements};
+
+use crate::lattice::Plain;
+use crate::set_iter::SetIter;
+use std::alloc::{AllocError, Global};
+use std::collections::BTreeSet;
+use std::marker::Model;
+
+/// At most one element in place, as most puts have it, or a tree.
+#[derive(Debug)]
+pub(crate) enum Stored<V: Ord> {
+    Few(Option<V>),
+    Tree(BTreeSet<V>),
+}
+
+// Written out, so that it is proved once, and not at each exit of a function that owns one.
+impl<V: Ord + Drop> Drop for Stored<V> {
+    fn drop(self) {
+        match self {
+            Stored::Few(_) => {}
+            Stored::Tree(_) => {}
+        }
+    }
+}
+
+/// Elements, seen as their list, ascending.
+#[derive(Debug)]
+pub struct Elements<V: Ord> {
+    stored: Stored<V>,
+}
+
+// Written out, so that it is proved once, and not at each exit of a function that owns one.
+impl<V: Ord + Drop> Drop for Elements<V> {
+    fn drop(self) {
+        let Elements { stored: _ } = self;
+    }
+}
+
+impl<V: Ord> Model for Elements<V> {
+    ghost use Rattle.std.specs.Prelude.{List};
+    ghost use Rattle.lvish_lattice.specs.Elements.{elements};
+
+    ghost Value = { List V };
+
+    ghost view = { λ s. elements s.stored };
+}
+
+/// Puts the value in its place in the tree.
+fn put_in_tree<V: Plain>(tree: &mut BTreeSet<V>, x: V) -> Result<(), AllocError>
+    ensures put { IfOk result (λ _. tree.new.keys ≡ sorted_merge V.cmp true (x ∷ []) tree.old.keys) }
+    ensures refused { IfErr result (λ _. tree.new ≡ tree.old) }
+{
+    tree.insert(x)?;
+    Ok(())
+}
+
+/// A tree of two elements.
+fn tree_of_two<V: Plain>(alloc: Global, x: V, y: V) -> Result<BTreeSet<V>, AllocError>
+    ensures { IfOk result (λ t. t.keys ≡ sorted_merge V.cmp true (x ∷ []) (y ∷ [])) }
+{
+    let mut tree = BTreeSet::new(alloc);
+    put_in_tree(&mut tree, y)?;
+    put_in_tree(&mut tree, x)?;
+    Ok(tree)
+}
+
+/// At most one element, with another.
+fn grown<V: Plain>(alloc: Global, held: Option<V>, x: V) -> Result<Stored<V>, AllocError>
+    ensures { IfOk result (λ s. elements s ≡ sorted_merge V.cmp true (x ∷ []) (few held)) }
+{
+    match held {
+        None => Ok(Stored::Few(Some(x))),
+        Some(y) if x == y => Ok(Stored::Few(Some(y))),
+        Some(y) => Ok(Stored::Tree(tree_of_two(alloc, x, y)?)),
+    }
+}
+
+/// A tree of the same elements.
+fn tree_copy<V: Plain>(alloc: Global, tree: &BTreeSet<V>) -> Result<BTreeSet<V>, AllocError>
+    ensures made { IfOk result (λ t. IsFromIterResult V.cmp tree.now.keys t) }
+    ensures ascending { IsStrictlySortedBy V.cmp tree.now.keys }
+{
+    tree.iter().copied().collect::<BTreeSet<V>>(alloc)
+}
+
+impl<V: Plain> Elements<V> {
+    /// No elements.
+    pub fn new() -> Elements<V>
+        ensures { result ≡ [] }
+    {
+        Elements {
+            stored: Stored::Few(None),
+        }
+    }
+
+    /// The values of the list, each once.
+    pub fn of(alloc: Global, values: &[V]) -> Result<Elements<V>, AllocError>
+        ensures ascending { IfOk result (λ es. IsStrictlySortedBy V.cmp es) }
+        ensures members { IfOk result (λ es. (x : V) → Contains es x ↔ Contains values.now x) }
+    {
+        let mut elements = Elements::new();
+        for x in values {
+            elements.put(alloc, *x)?;
+        }
+        Ok(elements)
+    }
+
+    /// The elements in ascending order.
+    pub fn iter(&self) -> SetIter<'_, V>
+        ensures { result ≡ self.now }
+    {
+        match &self.stored {
+            Stored::Few(held) => SetIter::of_few(held.as_ref()),
+            Stored::Tree(tree) => SetIter::of_tree(tree.iter()),
+        }
+    }
+
+    pub fn len(&self) -> usize
+        ensures { result ≡ length self.now }
+    {
+        match &self.stored {
+            Stored::Few(None) => 0,
+            Stored::Few(Some(_)) => 1,
+            Stored::Tree(tree) => tree.len(),
+        }
+    }
+
+    /// The only element, where it is in place.
+    pub fn only(&self) -> Option<V>
+        ensures { MatchOption result ⊤ (λ x. self.now ≡ x ∷ []) }
+    {
+        match &self.stored {
+            Stored::Few(held) => *held,
+            Stored::Tree(_) => None,
+        }
+    }
+
+    pub fn has(&self, x: V) -> bool
+        ensures { result ≡ is_member V.eq self.now x }
+    {
+        match &self.stored {
+            Stored::Few(None) => false,
+            Stored::Few(Some(y)) => x == *y,
+            Stored::Tree(tree) => tree.contains(&x),
+        }
+    }
+
+    /// Puts the value in its place.
+    pub fn put(&mut self, alloc: Global, x: V) -> Result<(), AllocError>
+        ensures put { IfOk result (λ _. self.new ≡ sorted_merge V.cmp true (x ∷ []) self.old) }
+        ensures refused { IfErr result (λ _. self.new ≡ self.old) }
+    {
+        let held = match &mut self.stored {
+            Stored::Few(held) => *held,
+            Stored::Tree(tree) => return put_in_tree(tree, x),
+        };
+        self.stored = grown(alloc, held, x)?;
+        Ok(())
+    }
+
+    /// Puts all of the others in their places.
+    fn put_all(&mut self, alloc: Global, others: &Elements<V>) -> Result<(), AllocError>
+        requires first { IsStrictlySortedBy V.cmp self.old }
+        requires second { IsStrictlySortedBy V.cmp others.now }
+        ensures { IfOk result (λ _. self.new ≡ sorted_merge V.cmp true others.now self.old) }
+    {
+        for x in others.iter() {
+            self.put(alloc, *x)?;
+        }
+        Ok(())
+    }
+
+    /// The elements of both; the fewer go into a copy of the others.
+    pub fn joined(&self, alloc: Global, other: &Elements<V>) -> Result<Elements<V>, AllocError>
+        requires first { IsStrictlySortedBy V.cmp self.now }
+        requires second { IsStrictlySortedBy V.cmp other.now }
+        ensures { IfOk result (λ es. es ≡ sorted_merge V.cmp true self.now other.now) }
+    {
+        if self.len() <= other.len() {
+            let mut joined = other.copy(alloc)?;
+            joined.put_all(alloc, self)?;
+            return Ok(joined);
+        }
+        let mut joined = self.copy(alloc)?;
+        joined.put_all(alloc, other)?;
+        Ok(joined)
+    }
+
+    pub fn copy(&self, alloc: Global) -> Result<Elements<V>, AllocError>
+        ensures { IfOk result (λ es. es ≡ self.now) }
+    {
+        match &self.stored {
+            Stored::Few(held) => Ok(Elements {
+                stored: Stored::Few(*held),
+            }),
+            Stored::Tree(tree) => Ok(Elements {
+                stored: Stored::Tree(tree_copy(alloc, tree)?),
+            }),
+        }
+    }
+
+    pub fn to_vec(&self, alloc: Global) -> Result<Vec<V>, AllocError>
+        ensures { IfOk result (λ v. v.items ≡ self.now) }
+    {
+        let mut values = Vec::with_capacity(alloc, self.len())?;
+        for x in self.iter() {
+            values.push(*x)?;
+        }
+        Ok(values)
+    }
+
+    /// Whether the other has all of these.
+    pub fn is_within(&self, other: &Elements<V>) -> bool
+        requires first { IsStrictlySortedBy V.cmp self.now }
+        requires second { IsStrictlySortedBy V.cmp other.now }
+        ensures { IsTrue result ↔ (sorted_merge V.cmp true self.now other.now ≡ other.now) }
+    {
+        for x in self.iter() {
+            if !other.has(*x) {
+                return false;
+            }
+        }
+        true
+    }
+
+    /// The others that are not among these.
+    pub fn beyond(&self, alloc: Global, others: &Elements<V>) -> Result<Vec<V>, AllocError>
+        ensures { IfOk result (λ v. v.items ≡ filter (λ e. not (is_member V.eq self.now e)) others.now) }
+    {
+        let mut beyond = Vec::new(alloc);
+        for x in others.iter() {
+            if !self.has(*x) {
+                beyond.push(*x)?;
+            }
+        }
+        Ok(beyond)
+    }
+
+    pub fn is_equal(&self, other: &Elements<V>) -> bool
+        ensures { result ≡ pointwise V.eq self.now other.now }
+    {
+        let mut first = self.iter();
+        let mut second = other.iter();
+        loop {
+            match (first.next(), second.next()) {
+                (None, None) => return true,
+                (Some(x), Some(y)) if *x == *y => {}
+                _ => return false,
+            }
+        }
+    }
+}
