@@ -5,8 +5,7 @@ use Rattle.std.specs.Option.{option_map_or, option_or}
 use Rattle.std.proofs.lemmas.Option.{slice_get_past}
 use Rattle.std.proofs.lemmas.List.{take_more}
 use Rattle.std.proofs.lemmas.Bool.{cases_lt}
-use Rattle.lvish_checks.specs.declared.line.Line.{Line}
-use Rattle.lvish_checks.specs.declared.open_blocks.Opener.{Opener}
+use Rattle.lvish_checks.specs.Vocabulary.{Line, Opener}
 use Rattle.lvish_checks.specs.Checks.{on_line, IsLowest, IsFirstOn, open_after, open_step, locals_after, locals_step}
 
 pub open_after-push : (opened : List Opener) (ls : List Line) (l : Line) → open_after opened (ls ++ l ∷ []) ≡ open_step (open_after opened ls) l

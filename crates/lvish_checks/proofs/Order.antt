@@ -4,11 +4,8 @@ use Rattle.std.specs.Prelude.{nat_lt}
 use Rattle.std.specs.List.{AllByRecursion}
 use Rattle.std.proofs.lemmas.List.{append-nil}
 use Rattle.std.specs.Option.{option_map}
-use Rattle.lvish_checks.specs.declared.fault.Fault.TheVariants.{TooLong, NotAscii, BadLine, BadNumber, DoubleName, UnknownName, WrongKind, WrongCount, OpenBlock, Compatible, NoMain, TooMany}
-use Rattle.lvish_syntax.specs.Words.{Word}
+use Rattle.lvish_checks.specs.Vocabulary.{TooLong, NotAscii, BadLine, BadNumber, DoubleName, UnknownName, WrongKind, WrongCount, OpenBlock, Compatible, NoMain, TooMany, Word, Line, Fault}
 use Rattle.lvish_syntax.specs.declared.limits.TheConstants.{MOST_BYTES}
-use Rattle.lvish_checks.specs.declared.line.Line.{Line}
-use Rattle.lvish_checks.specs.declared.fault.Fault.{Fault}
 use Rattle.lvish_checks.specs.Checks.{Parts, Passes, checks, fails, on_whole, IsLowest, IsFirstOn, IsFirstFault, IsAccepted, IsVerdict}
 
 pub whole_passes : (b : Bool) → b ≡ false → (l : ℕ) → on_whole b l ≡ false

@@ -7,15 +7,11 @@ use Rattle.std.specs.List.{list_any, list_all, flat_map}
 use Rattle.std.proofs.lemmas.List.{append-nil, map-append}
 use Rattle.std.proofs.lemmas.List.Elements.{filter-append}
 use Rattle.std.proofs.lemmas.List.Folds.{list_all-append, list_all-map}
-use Rattle.lvish_syntax.specs.Words.{Word}
+use Rattle.lvish_script.specs.Vocabulary.{Word, Declaration, Procedure, Block, Line}
 use Rattle.lvish_syntax.specs.Nested.{statements, nested, row_nested, all_nested}
-use Rattle.lvish_syntax.specs.declared.declaration.Declaration.{Declaration}
-use Rattle.lvish_syntax.specs.declared.procedure.Procedure.{Procedure}
-use Rattle.lvish_syntax.specs.declared.statement.Block.{Block}
 use Rattle.lvish_syntax.specs.declared.statement.Statement.{Statement, Do, If', IfElse', While', Row_of-Statement, end_of-Statement, more_of-Statement}
 use Rattle.lvish_syntax.specs.declared.statement.Statement.TheOpen as o
 use Rattle.lvish_syntax.specs.declared.statement.Statement.TheViews.{out-Statement, outs-Do, outs-If', outs-IfElse', outs-While'}
-use Rattle.lvish_checks.specs.declared.line.Line.{Line}
 use Rattle.lvish_checks.specs.declared.line.Line.TheVariants as line
 use Rattle.lvish_checks.specs.Checks.{is_procedure, binds, binds_until_procedure, locals_after, parameters_of}
 use Rattle.lvish_script.specs.Spells.{statement_lines, row_lines, body_lines, procedure_lines, script_lines}

@@ -10,17 +10,11 @@ use Rattle.std.proofs.lemmas.List.{append-nil}
 use Rattle.std.proofs.lemmas.List.Folds.{list_any-append}
 use Rattle.std.proofs.lemmas.List.Sums.{sum_by-append}
 use Rattle.std.proofs.lemmas.Grind.{flat_map-append}
-use Rattle.lvish_syntax.specs.Words.{Word}
+use Rattle.lvish_script.specs.Vocabulary.{Word, Declaration, Variable, Pool, Procedure, Line, Blank, Bad, Versioned as Version, Declare, Proc, End, InProcedure}
 use Rattle.lvish_syntax.specs.Name.{has_name, has_repeat}
 use Rattle.lvish_syntax.specs.Nested.{statements}
 use Rattle.lvish_syntax.specs.Sound.{variable_name, variable_names, pool_name, pool_names, procedure_names, takes, is_pool_known, follow_variables}
-use Rattle.lvish_syntax.specs.declared.declaration.Declaration.{Declaration}
-use Rattle.lvish_syntax.specs.declared.declaration.Declaration.TheVariants.{Variable, Pool}
-use Rattle.lvish_syntax.specs.declared.procedure.Procedure.{Procedure}
-use Rattle.lvish_checks.specs.declared.line.Line.{Line}
-use Rattle.lvish_checks.specs.declared.line.Line.TheVariants.{Blank, Bad, Version, Declare, Proc, End}
 use Rattle.lvish_checks.specs.Checks.{declared_by, declarations, has_procedure, is_nil, is_main, is_variable, is_pool, is_procedure, declares_procedure, declares_again, is_past_limit, open_after}
-use Rattle.lvish_checks.specs.declared.open_blocks.Opener.TheVariants.{Procedure as InProcedure}
 use Rattle.lvish_script.specs.Spells.{body_lines, procedure_lines, script_lines}
 use Rattle.lvish_checks.proofs.Cuts.{differ_by_cut}
 use Rattle.lvish_script.proofs.Cleaned.{count_cons}

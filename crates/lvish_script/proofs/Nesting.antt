@@ -7,14 +7,9 @@ use Rattle.std.proofs.lemmas.Bool.{not-false}
 use Rattle.std.proofs.lemmas.List.{take_more}
 use Rattle.std.proofs.lemmas.List.Elements.{filter-append}
 use Rattle.std.proofs.lemmas.List.Folds.{list_any-append}
-use Rattle.lvish_syntax.specs.declared.procedure.Procedure.{Procedure}
-use Rattle.lvish_checks.specs.declared.line.Line.{Line}
-use Rattle.lvish_checks.specs.declared.line.Line.TheVariants.{Blank, Bad, Version, Declare}
-use Rattle.lvish_checks.specs.declared.fault.Fault.TheVariants.{BadLine, OpenBlock}
+use Rattle.lvish_script.specs.Vocabulary.{Procedure, Line, Blank, Bad, Versioned as Version, Declare, BadLine, OpenBlock, Opener, InProcedure}
 use Rattle.lvish_script.specs.declared.nest.OpenProcedure.{OpenProcedure}
 use Rattle.lvish_checks.specs.Checks.{on_line, line_fails, open_after, open_step, is_nil, is_procedure, is_misplaced, is_out_of_place}
-use Rattle.lvish_checks.specs.declared.open_blocks.Opener.{Opener}
-use Rattle.lvish_checks.specs.declared.open_blocks.Opener.TheVariants.{Procedure as InProcedure}
 use Rattle.lvish_script.specs.Spells.{says_something}
 use Rattle.lvish_script.specs.Nested.{TakesLine, HasNone, opener, openers, what_is_said}
 use Rattle.lvish_checks.proofs.Cuts.{left_fails, right_fails}

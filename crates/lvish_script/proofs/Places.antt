@@ -8,14 +8,10 @@ use Rattle.std.proofs.lemmas.Bool.Decides.{nat_tests}
 use Rattle.std.proofs.lemmas.List.Folds.{list_any-append, list_all-append}
 use Rattle.std.proofs.lemmas.List.{append-nil, map-append}
 use Rattle.std.proofs.lemmas.Grind.{flat_map-append}
-use Rattle.lvish_syntax.specs.Words.{Word}
+use Rattle.lvish_script.specs.Vocabulary.{Word, Declaration, Procedure, Line, Declare, Proc, End}
 use Rattle.lvish_syntax.specs.Name.{has_name, has_repeat}
 use Rattle.lvish_syntax.specs.Nested.{statements}
 use Rattle.lvish_syntax.specs.Sound.{is_pool_known, follow_variables}
-use Rattle.lvish_syntax.specs.declared.declaration.Declaration.{Declaration}
-use Rattle.lvish_syntax.specs.declared.procedure.Procedure.{Procedure}
-use Rattle.lvish_checks.specs.declared.line.Line.{Line}
-use Rattle.lvish_checks.specs.declared.line.Line.TheVariants.{Declare, Proc, End}
 use Rattle.lvish_script.specs.Spells.{body_lines, procedure_lines, script_lines}
 use Rattle.lvish_script.proofs.Declaring.{heads}
 use Rattle.lvish_checks.proofs.Cuts.{left_fails, right_fails}

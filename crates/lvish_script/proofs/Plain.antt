@@ -13,8 +13,7 @@ use Rattle.std.proofs.lemmas.List.Sums.{take_while-cons}
 use Rattle.std.proofs.lemmas.List.Splits.{slice_split-cons_yes, slice_split-cons_no}
 use Rattle.lvish_syntax.specs.Words.{Word, is_name, is_name_byte, is_letter, is_digit, is_reserved}
 use Rattle.lvish_syntax.specs.Written.{is_within, is_term_written}
-use Rattle.lvish_syntax.specs.declared.term.Term.{Term}
-use Rattle.lvish_syntax.specs.declared.term.Term.TheVariants.{Local, Number}
+use Rattle.lvish_script.specs.Vocabulary.{Term, Local, Number}
 use Rattle.lvish_checks.specs.Text.{is_separator, is_comment, is_foreign, words_of}
 use Rattle.lvish_checks.specs.Form.{is_number_word, is_numeral, value_of_number, number_word, term_of, is_bad_number, all_of}
 use Rattle.lvish_checks.specs.Spelling.{term_word}

@@ -12,20 +12,7 @@ use Rattle.std.proofs.lemmas.Bool.Decides.{nat_tests}
 use Rattle.std.specs.Fmt.{signed_decimal}
 use Rattle.lvish_syntax.specs.Words.{Word, is_name}
 use Rattle.lvish_syntax.specs.Written.{is_within, is_term_written, is_value_written, is_threshold_written, are_members_written, is_command_written}
-use Rattle.lvish_syntax.specs.declared.kind.SimpleKind.{SimpleKind}
-use Rattle.lvish_syntax.specs.declared.kind.SimpleKind.TheVariants.{Cell, Set, Max}
-use Rattle.lvish_syntax.specs.declared.kind.VariableKind.TheVariants.{Simple, Map, Pair, Tally}
-use Rattle.lvish_syntax.specs.declared.operator.Operator.{Operator}
-use Rattle.lvish_syntax.specs.declared.operator.Operator.TheVariants.{Add, Subtract, Multiply, Divide, Remainder, Less, Equal}
-use Rattle.lvish_syntax.specs.declared.term.Term.{Term}
-use Rattle.lvish_syntax.specs.declared.let_value.LetValue.{LetValue}
-use Rattle.lvish_syntax.specs.declared.let_value.LetValue.TheVariants.{Same, Combined}
-use Rattle.lvish_syntax.specs.declared.threshold.Threshold.{Threshold}
-use Rattle.lvish_syntax.specs.declared.threshold.Threshold.TheVariants.{Any, In, Has, Least, Total}
-use Rattle.lvish_syntax.specs.declared.declaration.Declaration.TheVariants.{Variable, Pool}
-use Rattle.lvish_syntax.specs.declared.command.Command.{Command}
-use Rattle.lvish_syntax.specs.declared.command.Command.TheVariants.{Let, Put, PutAt, Get, GetAt, Fork, Call, Handle, Freeze, FreezeEach}
-use Rattle.lvish_checks.specs.declared.line.Line.{Line}
+use Rattle.lvish_script.specs.Vocabulary.{SimpleKind, Cell, Set, Max, Simple, Map, Pair, Tally, Operator, Add, Subtract, Multiply, Divide, Remainder, Less, Equal, Term, LetValue, Same, Combined, Threshold, Any, In, Has, Least, Total, Variable, Pool, Command, Let, Put, PutAt, Get, GetAt, Fork, Call, Handle, Freeze, FreezeEach, Line}
 use Rattle.lvish_checks.specs.declared.line.Line.TheVariants as line
 use Rattle.lvish_checks.specs.Form.{term_of, number_word, only, operator_of, value_of, threshold_of, get_of, freeze_each, freeze_after, freeze_of, simple_kind, variable_line, pair_line, pool_line, proc_line, let_line, put_line, get_line, run_line, handle_line, freeze_line, block_line, bare_line, version_line, line_of}
 use Rattle.lvish_checks.specs.Spelling.{term_word, kind_word, operator_word, value_words, threshold_words, pool_words, command_words, line_words}
