@@ -52,7 +52,7 @@ parameters_push q [] x = refl
 parameters_push q (Proc n xs ∷ before) x = or_later (bytes_eq n q) xs _ _ _ (parameters_push q before x)
 parameters_push q (l ∷ before) x = parameters_push q before x
 
-or_nothing : {V : Type 0} (o : Option V) → option_or o None ≡ o
+pub or_nothing : {V : Type 0} (o : Option V) → option_or o None ≡ o
 or_nothing None = refl
 or_nothing (Some v) = refl
 

@@ -111,7 +111,7 @@ put_spelled k h (v ∷ ws) = or_bad_if (k ∷ v ∷ ws) (is_name v) _ (λ e. don
 abbrev IsThreshold : List Word → Threshold → Type 0
 IsThreshold ws r = Part is_threshold_written threshold_words ws r
 
-not_nil : (n : ℕ) → (suc n == 0) ≡ false
+pub not_nil : (n : ℕ) → (suc n == 0) ≡ false
 not_nil n = grind (arith, nat_tests)
 
 any_means : (k : Word) → Means k (codes "any") → (ws : List Word) → Each (IsThreshold (k ∷ ws)) (if length ws == 0 then Some Any else None)
