@@ -19,8 +19,8 @@ use Rattle.lvish_checks.specs.Form.{is_number_word, is_numeral, value_of_number,
 use Rattle.lvish_checks.specs.Spelling.{term_word}
 use Rattle.lvish_script.specs.Canonical.{spaced, words_joined}
 use Rattle.lvish_checks.proofs.Cuts.{left_fails, right_fails, left_holds, right_holds}
-use Rattle.lvish_checks.proofs.Numbers.{own}
-use Rattle.lvish_checks.proofs.Decimals.{some_length, below, above, decimal_numeral, number_back, number_is_word}
+use Rattle.lvish_checks.proofs.Numbers.{own, length_some}
+use Rattle.lvish_checks.proofs.Decimals.{below, above, decimal_numeral, number_back, number_is_word}
 
 -- a byte of a word
 abbrev pub is_plain_byte : ℕ → Bool
@@ -163,7 +163,7 @@ split_words w (v ∷ ws) e =
 kept_words : (ws : List Word) → list_all is_plain ws ≡ true → filter (λ w. not (length w == 0)) ws ≡ ws
 kept_words [] e = refl
 kept_words ([] ∷ ws) e = absurd cc
-kept_words ((b ∷ w) ∷ ws) e = keep (not (length (b ∷ w) == 0)) (some_length (b ∷ w) (omega arith)) ∙ ap (λ t. (b ∷ w) ∷ t) (kept_words ws (right_holds (is_plain (b ∷ w)) _ e))
+kept_words ((b ∷ w) ∷ ws) e = keep (not (length (b ∷ w) == 0)) (length_some (length (b ∷ w)) (omega arith)) ∙ ap (λ t. (b ∷ w) ∷ t) (kept_words ws (right_holds (is_plain (b ∷ w)) _ e))
   where
     keep : (t : Bool) → t ≡ true → cond t ((b ∷ w) ∷ filter (λ w. not (length w == 0)) ws) (filter (λ w. not (length w == 0)) ws) ≡ (b ∷ w) ∷ filter (λ w. not (length w == 0)) ws
     keep true f = refl

@@ -1,5 +1,5 @@
 -- What the words of a line that is written say: the line.
-use Rattle.std.proofs.Common.{◌≡◌, ℕ, suc, Bool, true, false, cond, ◌&&◌, List, [], ◌∷◌, ◌++◌, length, map, drop, Option, Some, None, refl, sym, ap, ◌∙◌, arith}
+use Rattle.std.proofs.Common.{◌≡◌, Bool, true, false, cond, ◌&&◌, List, [], ◌∷◌, ◌++◌, length, map, drop, Option, Some, None, refl, sym, ap, ◌∙◌}
 use Rattle.std.specs.Prelude.{codes, ◌==◌, take_while, ℤ, if◌then◌else◌}
 use Rattle.std.specs.Option.{option_map}
 use Rattle.std.specs.List.{list_all}
@@ -8,7 +8,6 @@ use Rattle.std.proofs.lemmas.Slice.Eq.{bytes_eq-Decides}
 use Rattle.std.proofs.Math.Seq.{drop-append_seam}
 use Rattle.std.proofs.lemmas.List.{append-nil}
 use Rattle.std.proofs.lemmas.List.Sums.{take_while-cons}
-use Rattle.std.proofs.lemmas.Bool.Decides.{nat_tests}
 use Rattle.std.specs.Fmt.{signed_decimal}
 use Rattle.lvish_syntax.specs.Words.{Word, is_name}
 use Rattle.lvish_syntax.specs.Written.{is_within, is_term_written, is_value_written, is_threshold_written, are_members_written, is_command_written}
@@ -17,6 +16,7 @@ use Rattle.lvish_checks.specs.declared.line.Line.TheVariants as line
 use Rattle.lvish_checks.specs.Form.{term_of, number_word, only, operator_of, value_of, threshold_of, get_of, freeze_each, freeze_after, freeze_of, simple_kind, variable_line, pair_line, pool_line, proc_line, let_line, put_line, get_line, run_line, handle_line, freeze_line, block_line, bare_line, version_line, line_of}
 use Rattle.lvish_checks.specs.Spelling.{term_word, kind_word, operator_word, value_words, threshold_words, pool_words, command_words, line_words}
 use Rattle.lvish_checks.proofs.Meanings.{is_line_written}
+use Rattle.lvish_checks.proofs.Spelled.{not_nil}
 use Rattle.lvish_script.proofs.Plain.{term_back, word_back, all_back}
 use Rattle.lvish_checks.proofs.Cuts.{left_holds, right_holds}
 
@@ -39,9 +39,6 @@ operator_back Equal = refl
 value_back : (v : LetValue) → is_value_written v ≡ true → value_of (value_words v) ≡ Some v
 value_back (Same t) e = rw (term_back t e) refl
 value_back (Combined a o b) e = rw (term_back a (left_holds (is_term_written a) _ e), operator_back o, term_back b (right_holds (is_term_written a) _ e)) refl
-
-not_nil : (n : ℕ) → (suc n == 0) ≡ false
-not_nil n = grind (arith, nat_tests)
 
 members_back : (zs : List ℤ) → are_members_written zs ≡ true → threshold_of (codes "in" ∷ map signed_decimal zs) ≡ Some (In zs)
 members_back [] e = absurd cc
