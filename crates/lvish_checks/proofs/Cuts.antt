@@ -1,6 +1,7 @@
 -- Lists by their cuts: what holds of each item and the items before it.
-use Rattle.std.proofs.Common.{◌≡◌, ℕ, zero, suc, ◌<◌, ◌≤◌, Bool, true, false, ◌||◌, ◌&&◌, List, [], ◌∷◌, ◌++◌, length, map, refl, sym, ap, arith}
+use Rattle.std.proofs.Common.{◌≡◌, ℕ, zero, suc, ◌<◌, ◌≤◌, Bool, true, false, ◌||◌, ◌&&◌, List, [], ◌∷◌, ◌++◌, length, map, refl, ap, ◌∙◌, arith}
 use Rattle.std.proofs.lemmas.Bool.{and_from, or_from}
+use Rattle.std.proofs.lemmas.Cmp.{nat_list_eq_equiv}
 use Rattle.std.specs.List.{list_any, list_all}
 use Rattle.std.specs.Str.{bytes_eq}
 use Rattle.std.proofs.lemmas.Slice.Eq.{bytes_eq-Decides}
@@ -28,13 +29,6 @@ right_holds false b e = absurd cc
 pub same_name : (x : Word) → bytes_eq x x ≡ true
 same_name x = (bytes_eq-Decides x x).1 refl
 
-differs : (x y : Word) (b : Bool) → bytes_eq x y ≡ b → bytes_eq y x ≡ false → bytes_eq x y ≡ false
-differs x y true k e =
-    let p : x ≡ y = (bytes_eq-Decides x y).0 k in
-    let q : bytes_eq y x ≡ true = (bytes_eq-Decides y x).1 (sym p) in
-    absurd cc
-differs x y false k e = k
-
 -- ---- every cut
 
 pub all_by_cut : {X : Type 0} (p : X → Bool) (xs : List X) → ((b : List X) (x : X) (a : List X) → xs ≡ b ++ x ∷ a → p x ≡ true) → list_all p xs ≡ true
@@ -56,7 +50,7 @@ few_by_cut (suc n) (x ∷ xs) h =
 module _ {X : Type 0} (name : X → Word) where
   apart : (x : X) (xs : List X) → ((b : List X) (y : X) (a : List X) → xs ≡ b ++ y ∷ a → bytes_eq (name x) (name y) ≡ false) → has_name (name x) (map name xs) ≡ false
   apart x [] h = refl
-  apart x (y ∷ xs) h = or_from (bytes_eq (name y) (name x)) _ (differs (name y) (name x) _ refl (h [] y xs refl)) (apart x xs (λ b z a e. h (y ∷ b) z a (ap (λ t. y ∷ t) e)))
+  apart x (y ∷ xs) h = or_from (bytes_eq (name y) (name x)) _ (nat_list_eq_equiv.symm (name y) (name x) ∙ h [] y xs refl) (apart x xs (λ b z a e. h (y ∷ b) z a (ap (λ t. y ∷ t) e)))
 
   -- the names differ, where none is among those before it
   pub differ_by_cut : (xs : List X) → ((b : List X) (x : X) (a : List X) → xs ≡ b ++ x ∷ a → has_name (name x) (map name b) ≡ false) → has_repeat (map name xs) ≡ false

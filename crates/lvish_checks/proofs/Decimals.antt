@@ -12,12 +12,8 @@ use Rattle.lvish_syntax.specs.Words.{Word, is_digit}
 use Rattle.lvish_syntax.specs.Written.{is_within}
 use Rattle.lvish_checks.specs.Form.{is_number_word, is_numeral, number_spelled}
 use Rattle.lvish_checks.proofs.Cuts.{right_holds}
-use Rattle.lvish_checks.proofs.Numbers.{own}
+use Rattle.lvish_checks.proofs.Numbers.{own, length_some}
 use Rattle.lvish_checks.proofs.Values.{Each, each_if}
-
-pub some_length : (ds : List ℕ) → 0 < length ds → not (length ds == 0) ≡ true
-some_length [] h = absurd (omega arith)
-some_length (d ∷ ds) h = grind (arith, nat_tests)
 
 pub below : (n : ℕ) → nat_lt n (2 ^ 63) ≡ true → n < 2 ^ 64
 below n e = grind (arith, nat_tests)
@@ -29,7 +25,7 @@ up_to : (n : ℕ) → nat_lt n (2 ^ 63) ≡ true → nat_le (suc n) (2 ^ 63) ≡
 up_to n e = grind (arith, nat_tests)
 
 pub decimal_numeral : (n : ℕ) → n < 2 ^ 64 → is_numeral (decimal n) ≡ true
-decimal_numeral n h = and_from (not (length (decimal n) == 0)) _ (some_length (decimal n) (decimal_is_IsNumeral n h).0.0) (digits_decimal own n h)
+decimal_numeral n h = and_from (not (length (decimal n) == 0)) _ (length_some (length (decimal n)) (decimal_is_IsNumeral n h).0.0) (digits_decimal own n h)
 
 decimal_value : (n : ℕ) → n < 2 ^ 64 → digits_value 10 (decimal n) ≡ n
 decimal_value n h = digits_value-decimal own n h
@@ -67,7 +63,7 @@ number_back (negsuc n) e =
 
 pub number_is_word : (z : ℤ) → is_within z ≡ true → is_number_word (signed_decimal z) ≡ true
 number_is_word (pos n) e = digits_word (decimal n) (decimal_numeral n (below n e))
-number_is_word (negsuc n) e = some_length (decimal (suc n)) (decimal_is_IsNumeral (suc n) (above n e)).0.0
+number_is_word (negsuc n) e = length_some (length (decimal (suc n))) (decimal_is_IsNumeral (suc n) (above n e)).0.0
 
 -- ---- numbers within 64 bits
 

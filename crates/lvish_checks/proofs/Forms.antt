@@ -7,8 +7,7 @@ use Rattle.std.proofs.lemmas.List.{length-map, take-map}
 use Rattle.std.proofs.lemmas.List.Folds.{length-prefix_len}
 use Rattle.lvish_syntax.specs.Words.{Word, is_name}
 use Rattle.lvish_checks.specs.Form.{freeze_each, freeze_after}
-use Rattle.lvish_checks.specs.declared.line.Line.{Line}
-use Rattle.lvish_checks.specs.declared.line.Line.TheVariants.{Bad}
+use Rattle.lvish_checks.specs.Vocabulary.{Line, Bad}
 use Rattle.std.proofs.lemmas.Bool.Decides.{nat_tests}
 
 -- ---- the words at the front that pass a test

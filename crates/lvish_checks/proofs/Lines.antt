@@ -5,8 +5,7 @@ use Rattle.std.specs.Option.{option_map_or, option_or}
 use Rattle.std.proofs.lemmas.Option.{slice_get_past}
 use Rattle.std.proofs.lemmas.List.{take_more}
 use Rattle.std.proofs.lemmas.Bool.{cases_lt}
-use Rattle.lvish_checks.specs.declared.line.Line.{Line}
-use Rattle.lvish_checks.specs.declared.open_blocks.Opener.{Opener}
+use Rattle.lvish_checks.specs.Vocabulary.{Line, Opener}
 use Rattle.lvish_checks.specs.Checks.{on_line, IsLowest, IsFirstOn, open_after, open_step, locals_after, locals_step}
 
 pub open_after-push : (opened : List Opener) (ls : List Line) (l : Line) → open_after opened (ls ++ l ∷ []) ≡ open_step (open_after opened ls) l
@@ -66,19 +65,22 @@ at_map f test [] k d lt = absurd (omega arith)
 at_map f test (y ∷ xs) zero d lt = refl
 at_map f test (y ∷ xs) (suc k) d lt = at_map f test xs k d (omega arith)
 
+pub at_place : {X : Type 0} (test : X → Bool) (xs : List X) (k : ℕ) (d : X) → k < length xs → option_map_or test (slice_get xs k) false ≡ test (get_or xs k d)
+at_place test [] k d lt = absurd (omega arith)
+at_place test (y ∷ xs) zero d lt = refl
+at_place test (y ∷ xs) (suc k) d lt = at_place test xs k d (omega arith)
+
+pub at_item : {X : Type 0} (test : X → Bool) (xs : List X) (k : ℕ) (x : X) → k < length xs → x ≡ get_or xs k x → option_map_or test (slice_get xs k) false ≡ test x
+at_item test xs k x lt e = at_place test xs k x lt ∙ ap test (sym e)
+
 -- ---- a step of a loop over the lines, at the line x with place k
 
 module _ {X : Type 0} (test : ℕ → X → Bool) (xs : List X) (k : ℕ) (x : X) (lt : k < length xs) (e : x ≡ get_or xs k x) where
-  test_at : {Y : Type 0} (t : Y → Bool) (ys : List Y) (j : ℕ) (y : Y) → j < length ys → y ≡ get_or ys j y → option_map_or t (slice_get ys j) false ≡ t y
-  test_at t [] j y below same = absurd (omega arith)
-  test_at t (z ∷ ys) zero y below same = ap t (sym same)
-  test_at t (z ∷ ys) (suc j) y below same = test_at t ys j y (omega arith) same
-
   pub passed_on : ((m : ℕ) → m ≤ k → on_line test xs m ≡ false) → test k x ≡ false → (m : ℕ) → m ≤ k + 1 → on_line test xs m ≡ false
-  passed_on before here = passes_more test xs k before (test_at (test k) xs k x lt e ∙ here)
+  passed_on before here = passes_more test xs k before (at_item (test k) xs k x lt e ∙ here)
 
   pub fails_at : ((m : ℕ) → m ≤ k → on_line test xs m ≡ false) → test k x ≡ true → IsLowest (on_line test xs) (k + 1)
-  fails_at before here = lowest_here test xs k before (test_at (test k) xs k x lt e ∙ here)
+  fails_at before here = lowest_here test xs k before (at_item (test k) xs k x lt e ∙ here)
 
 -- the lines up to and with x
 pub taken_with : {X : Type 0} (xs : List X) (k : ℕ) (x : X) → k < length xs → x ≡ get_or xs k x → take (k + 1) xs ≡ take k xs ++ x ∷ []

@@ -7,12 +7,8 @@ use Rattle.std.specs.Fmt.{signed_decimal}
 use Rattle.std.proofs.lemmas.Bool.{and_from}
 use Rattle.std.proofs.lemmas.Slice.Eq.{bytes_eq-Decides}
 use Rattle.lvish_syntax.specs.Words.{Word, is_name}
-use Rattle.lvish_syntax.specs.declared.kind.SimpleKind.{SimpleKind}
-use Rattle.lvish_syntax.specs.declared.operator.Operator.{Operator}
-use Rattle.lvish_syntax.specs.declared.term.Term.{Term}
+use Rattle.lvish_checks.specs.Vocabulary.{SimpleKind, Operator, Term, Line, Bad, Declare, Proc, Do, If, While}
 use Rattle.lvish_syntax.specs.Written.{is_within, is_term_written, is_command_written, is_declaration_written}
-use Rattle.lvish_checks.specs.declared.line.Line.{Line}
-use Rattle.lvish_checks.specs.declared.line.Line.TheVariants.{Bad, Declare, Proc, Do, If, While}
 use Rattle.lvish_checks.specs.Form.{is_number_word, number_spelled, is_bad_number, value_of_number, number_word, term_of, all_of, only, simple_kind, operator_of, or_bad}
 use Rattle.lvish_checks.specs.Spelling.{term_word, kind_word, operator_word, line_words, AgreesWith, Agree}
 use Rattle.lvish_checks.proofs.Cuts.{left_fails, right_fails}

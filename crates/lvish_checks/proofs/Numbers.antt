@@ -28,7 +28,7 @@ some_length : (n : ℕ) → not (n == 0) ≡ true → 0 < n
 some_length zero e = absurd cc
 some_length (suc n) e = omega arith
 
-length_some : (n : ℕ) → 0 < n → not (n == 0) ≡ true
+pub length_some : (n : ℕ) → 0 < n → not (n == 0) ≡ true
 length_some zero h = absurd (omega arith)
 length_some (suc n) h = grind (arith, nat_tests)
 

@@ -10,17 +10,11 @@ use Rattle.std.proofs.Math.Bool.{or-true, or-false}
 use Rattle.std.proofs.lemmas.List.Folds.{list_any-append}
 use Rattle.std.proofs.lemmas.List.Sums.{sum_by-append}
 use Rattle.std.proofs.lemmas.Grind.{flat_map-append}
-use Rattle.lvish_syntax.specs.Words.{Word}
-use Rattle.lvish_syntax.specs.declared.kind.VariableKind.{VariableKind}
-use Rattle.lvish_syntax.specs.declared.declaration.Declaration.{Declaration}
-use Rattle.lvish_syntax.specs.declared.declaration.Declaration.TheVariants.{Variable, Pool}
+use Rattle.lvish_checks.specs.Vocabulary.{Word, VariableKind, Declaration, Variable, Pool, Line, Proc, OpenBlock}
 use Rattle.lvish_syntax.specs.Name.{has_name, has_repeat}
 use Rattle.lvish_syntax.specs.Sound.{kind_of, variable_of}
 use Rattle.lvish_checks.specs.Table.{value_at}
-use Rattle.lvish_checks.specs.declared.line.Line.{Line}
-use Rattle.lvish_checks.specs.declared.line.Line.TheVariants.{Proc}
 use Rattle.lvish_checks.specs.Checks.{declared_by, declarations, parameters_of, is_procedure, binds, binds_until_procedure, locals_step, locals_after, locals_at, is_misplaced, is_nil, open_after, open_step, line_fails}
-use Rattle.lvish_checks.specs.declared.fault.Fault.TheVariants.{OpenBlock}
 use Rattle.std.proofs.lemmas.Bool.{eqb-true, or_from}
 use Rattle.lvish_checks.specs.Known.{AreArities, AreKinds, AreOfPools, HaveSameNames}
 use Rattle.lvish_checks.proofs.Seen.{bytes_eq_flip}
@@ -58,7 +52,7 @@ parameters_push q [] x = refl
 parameters_push q (Proc n xs ∷ before) x = or_later (bytes_eq n q) xs _ _ _ (parameters_push q before x)
 parameters_push q (l ∷ before) x = parameters_push q before x
 
-or_nothing : {V : Type 0} (o : Option V) → option_or o None ≡ o
+pub or_nothing : {V : Type 0} (o : Option V) → option_or o None ≡ o
 or_nothing None = refl
 or_nothing (Some v) = refl
 

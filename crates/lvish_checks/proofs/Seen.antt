@@ -5,18 +5,13 @@ use Rattle.std.specs.List.{list_any}
 use Rattle.std.specs.Str.{bytes_eq}
 use Rattle.std.proofs.lemmas.List.{map-append}
 use Rattle.std.proofs.lemmas.List.Folds.{list_any-append}
+use Rattle.std.proofs.lemmas.Cmp.{nat_list_eq_equiv}
 use Rattle.std.proofs.lemmas.Slice.Eq.{bytes_eq-Decides}
 use Rattle.lvish_syntax.specs.Words.{Word}
 use Rattle.lvish_syntax.specs.Name.{has_name}
 
-equal_flip : (x y : Word) (a b : Bool) → bytes_eq x y ≡ a → bytes_eq y x ≡ b → a ≡ b
-equal_flip x y true true e f = refl
-equal_flip x y false false e f = refl
-equal_flip x y true false e f = let q : bytes_eq y x ≡ true = (bytes_eq-Decides y x).1 (sym ((bytes_eq-Decides x y).0 e)) in absurd cc
-equal_flip x y false true e f = let q : bytes_eq x y ≡ true = (bytes_eq-Decides x y).1 (sym ((bytes_eq-Decides y x).0 f)) in absurd cc
-
 pub bytes_eq_flip : (x y : Word) → bytes_eq x y ≡ bytes_eq y x
-bytes_eq_flip x y = equal_flip x y _ _ refl refl
+bytes_eq_flip x y = nat_list_eq_equiv.symm x y
 
 -- a look-up in a set finds the names that are in it
 pub found_by_name : (q : Word) (ks : List (Bor (List ℕ))) → list_any (λ k. bytes_eq q k.now) ks ≡ has_name q (map (λ k. k.now) ks)

@@ -12,20 +12,9 @@ use Rattle.std.proofs.lemmas.List.Folds.{length-prefix_len}
 use Rattle.std.proofs.lemmas.List.Sums.{take_while-cons}
 use Rattle.std.proofs.lemmas.Slice.Eq.{bytes_eq-Decides}
 use Rattle.lvish_syntax.specs.Words.{Word, is_name}
-use Rattle.lvish_syntax.specs.declared.kind.SimpleKind.TheVariants.{Cell, Set, Max}
-use Rattle.lvish_syntax.specs.declared.kind.VariableKind.{VariableKind}
-use Rattle.lvish_syntax.specs.declared.kind.VariableKind.TheVariants.{Simple, Map, Pair, Tally}
-use Rattle.lvish_syntax.specs.declared.term.Term.{Term}
-use Rattle.lvish_syntax.specs.declared.let_value.LetValue.{LetValue}
-use Rattle.lvish_syntax.specs.declared.let_value.LetValue.TheVariants.{Same, Combined}
-use Rattle.lvish_syntax.specs.declared.threshold.Threshold.{Threshold}
-use Rattle.lvish_syntax.specs.declared.threshold.Threshold.TheVariants.{Any, In, Has, Least, Total}
-use Rattle.lvish_syntax.specs.declared.declaration.Declaration.TheVariants.{Variable}
-use Rattle.lvish_syntax.specs.declared.command.Command.{Command}
+use Rattle.lvish_checks.specs.Vocabulary.{Cell, Set, Max, VariableKind, Simple, Map, Pair, Tally, Term, LetValue, Same, Combined, Threshold, Any, In, Has, Least, Total, Variable, Command, Line, Bad, Versioned as Version, Declare, Do, If, While, Else, End}
 use Rattle.lvish_syntax.specs.Written.{is_within, is_term_written, is_value_written, is_threshold_written, are_members_written, is_command_written}
 use Rattle.lvish_syntax.specs.declared.command.Command.TheVariants as command
-use Rattle.lvish_checks.specs.declared.line.Line.{Line}
-use Rattle.lvish_checks.specs.declared.line.Line.TheVariants.{Bad, Version, Declare, Do, If, While, Else, End}
 use Rattle.lvish_checks.specs.Form.{is_bad_number, number_word, term_of, terms_of, numbers_of, only, simple_kind, operator_of, or_bad, variable_line, pair_kind, pair_line, pool_line, proc_line, value_of, let_line, put_of, put_line, threshold_after, threshold_of, get_at, get_of, get_line, run_line, handle_line, freeze_each, freeze_after, freeze_of, freeze_line, block_line, bare_line, version_line, declaration_form, command_form, block_form, begins_declaration, begins_command, line_of}
 use Rattle.lvish_checks.specs.Spelling.{term_word, value_words, threshold_words, pool_words, command_words, declaration_words, line_words, Agree}
 use Rattle.lvish_checks.proofs.Cuts.{left_holds, right_holds}
@@ -122,7 +111,7 @@ put_spelled k h (v ∷ ws) = or_bad_if (k ∷ v ∷ ws) (is_name v) _ (λ e. don
 abbrev IsThreshold : List Word → Threshold → Type 0
 IsThreshold ws r = Part is_threshold_written threshold_words ws r
 
-not_nil : (n : ℕ) → (suc n == 0) ≡ false
+pub not_nil : (n : ℕ) → (suc n == 0) ≡ false
 not_nil n = grind (arith, nat_tests)
 
 any_means : (k : Word) → Means k (codes "any") → (ws : List Word) → Each (IsThreshold (k ∷ ws)) (if length ws == 0 then Some Any else None)

@@ -1,7 +1,6 @@
 -- The version of lines, by the first of them with words.
 use Rattle.std.proofs.Common.{◌≡◌, true, false, List, [], ◌∷◌, refl}
-use Rattle.lvish_checks.specs.declared.line.Line.{Line}
-use Rattle.lvish_checks.specs.declared.line.Line.TheVariants.{Blank}
+use Rattle.lvish_checks.specs.Vocabulary.{Line, Blank}
 use Rattle.lvish_checks.specs.Checks.{is_told, version_of}
 
 pub version_told : (x : Line) (ls : List Line) → is_told x ≡ true → version_of (x ∷ ls) ≡ version_of (x ∷ [])

@@ -3,27 +3,14 @@ use Rattle.std.specs.Prelude.{◌≡◌, ℕ, zero, suc, ◌<◌, Bool, true, fa
 use Rattle.std.specs.Option.{option_map, option_map_or}
 use Rattle.std.specs.List.{list_any, list_all, flat_map, AllByRecursion}
 use Rattle.std.specs.Str.{bytes_eq}
-use Rattle.lvish_syntax.specs.Words.{Word}
+use Rattle.lvish_checks.specs.Vocabulary.{Word, Version, One, Two, Declaration, Variable, Pool, Command, Let, Put, PutAt, Get, GetAt, Fork, Call, Handle, Freeze, FreezeEach, Line, Blank, Bad, Declare, Proc, Do, If, While, Else, End, Opener, InProcedure, InIf, InElse, InWhile, Fault, TooLong, NotAscii, BadLine, BadNumber, DoubleName, UnknownName, WrongKind, WrongCount, OpenBlock, Compatible, NoMain, TooMany, ScriptFault}
 use Rattle.lvish_syntax.specs.declared.limits.TheConstants.{MOST_BYTES, MOST}
 use Rattle.lvish_syntax.specs.Name.{has_name, has_repeat, is_known}
 use Rattle.lvish_syntax.specs.Sound.{variable_names, pool_names, command_binds, is_put_sound, is_get_of_kind, is_get_apart, is_pool_of, is_value_known, is_threshold_known}
 use Rattle.lvish_syntax.specs.Version.{is_name_in, is_term_in, is_command_in, is_declaration_in}
-use Rattle.lvish_syntax.specs.declared.version.Version.{Version}
-use Rattle.lvish_syntax.specs.declared.version.Version.TheVariants.{One, Two}
-use Rattle.lvish_syntax.specs.declared.declaration.Declaration.{Declaration}
-use Rattle.lvish_syntax.specs.declared.declaration.Declaration.TheVariants.{Variable, Pool}
-use Rattle.lvish_syntax.specs.declared.command.Command.{Command}
-use Rattle.lvish_syntax.specs.declared.command.Command.TheVariants.{Let, Put, PutAt, Get, GetAt, Fork, Call, Handle, Freeze, FreezeEach}
 use Rattle.lvish_checks.specs.Text.{lines_of, words_of, is_foreign}
 use Rattle.lvish_checks.specs.Form.{line_of, is_bad_number}
-use Rattle.lvish_checks.specs.declared.line.Line.{Line}
-use Rattle.lvish_checks.specs.declared.line.Line.TheVariants.{Blank, Bad, Declare, Proc, Do, If, While, Else, End}
 use Rattle.lvish_checks.specs.declared.line.Line.TheVariants as line
-use Rattle.lvish_checks.specs.declared.open_blocks.Opener.{Opener}
-use Rattle.lvish_checks.specs.declared.open_blocks.Opener.TheVariants.{Procedure as InProcedure, If as InIf, Else as InElse, While as InWhile}
-use Rattle.lvish_checks.specs.declared.fault.Fault.{Fault}
-use Rattle.lvish_checks.specs.declared.fault.Fault.TheVariants.{TooLong, NotAscii, BadLine, BadNumber, DoubleName, UnknownName, WrongKind, WrongCount, OpenBlock, Compatible, NoMain, TooMany}
-use Rattle.lvish_checks.specs.declared.script_fault.ScriptFault.{ScriptFault}
 
 -- ---- what lines declare
 

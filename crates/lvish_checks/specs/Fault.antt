@@ -1,7 +1,6 @@
 -- The numbers and names of the faults.
 use Rattle.std.specs.Prelude.{ℕ, List, codes}
-use Rattle.lvish_checks.specs.declared.fault.Fault.{Fault}
-use Rattle.lvish_checks.specs.declared.fault.Fault.TheVariants.{TooLong, NotAscii, BadLine, BadNumber, DoubleName, UnknownName, WrongKind, WrongCount, OpenBlock, Compatible, NoMain, TooMany, Memory}
+use Rattle.lvish_checks.specs.Vocabulary.{Fault, TooLong, NotAscii, BadLine, BadNumber, DoubleName, UnknownName, WrongKind, WrongCount, OpenBlock, Compatible, NoMain, TooMany, Memory}
 
 -- the number of a fault: the place of its check, and Memory after them
 abbrev pub fault_number : Fault → ℕ

@@ -6,23 +6,8 @@ use Rattle.std.specs.Str.{bytes_eq, all_ascii_digits}
 use Rattle.std.specs.Str.Parse.{digits_value}
 use lib.IntN.{neg_ℤ}
 use Rattle.lvish_syntax.specs.Words.{Word, is_digit, is_name}
-use Rattle.lvish_syntax.specs.declared.kind.SimpleKind.{SimpleKind}
-use Rattle.lvish_syntax.specs.declared.kind.SimpleKind.TheVariants.{Cell, Set, Max}
-use Rattle.lvish_syntax.specs.declared.kind.VariableKind.{VariableKind}
-use Rattle.lvish_syntax.specs.declared.kind.VariableKind.TheVariants.{Simple, Map, Pair, Tally}
-use Rattle.lvish_syntax.specs.declared.operator.Operator.{Operator}
-use Rattle.lvish_syntax.specs.declared.operator.Operator.TheVariants.{Add, Subtract, Multiply, Divide, Remainder, Less, Equal}
-use Rattle.lvish_syntax.specs.declared.term.Term.{Term}
-use Rattle.lvish_syntax.specs.declared.term.Term.TheVariants.{Local, Number}
-use Rattle.lvish_syntax.specs.declared.let_value.LetValue.{LetValue}
-use Rattle.lvish_syntax.specs.declared.let_value.LetValue.TheVariants.{Same, Combined}
-use Rattle.lvish_syntax.specs.declared.threshold.Threshold.{Threshold}
-use Rattle.lvish_syntax.specs.declared.threshold.Threshold.TheVariants.{Any, In, Has, Least, Total}
-use Rattle.lvish_syntax.specs.declared.declaration.Declaration.TheVariants.{Variable, Pool}
-use Rattle.lvish_syntax.specs.declared.command.Command.{Command}
+use Rattle.lvish_checks.specs.Vocabulary.{SimpleKind, Cell, Set, Max, VariableKind, Simple, Map, Pair, Tally, Operator, Add, Subtract, Multiply, Divide, Remainder, Less, Equal, Term, Local, Number, LetValue, Same, Combined, Threshold, Any, In, Has, Least, Total, Variable, Pool, Command, Line, Blank, Bad, Versioned as Version, Declare, Proc, Do, If, While, Else, End}
 use Rattle.lvish_syntax.specs.declared.command.Command.TheVariants as command
-use Rattle.lvish_checks.specs.declared.line.Line.{Line}
-use Rattle.lvish_checks.specs.declared.line.Line.TheVariants.{Blank, Bad, Version, Declare, Proc, Do, If, While, Else, End}
 
 -- ---- numbers and terms
 

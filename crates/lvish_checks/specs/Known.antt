@@ -2,13 +2,10 @@
 use Rattle.std.specs.Prelude.{◌≡◌, ℕ, List, length}
 use Rattle.std.specs.Borrow.{Bor}
 use Rattle.std.specs.Option.{option_map}
-use Rattle.lvish_syntax.specs.Words.{Word}
+use Rattle.lvish_checks.specs.Vocabulary.{Word, VariableKind, Declaration, Line}
 use Rattle.lvish_syntax.specs.Name.{has_name}
 use Rattle.lvish_syntax.specs.Sound.{kind_of, variable_of}
-use Rattle.lvish_syntax.specs.declared.kind.VariableKind.{VariableKind}
-use Rattle.lvish_syntax.specs.declared.declaration.Declaration.{Declaration}
 use Rattle.lvish_checks.specs.Table.{value_at}
-use Rattle.lvish_checks.specs.declared.line.Line.{Line}
 use Rattle.lvish_checks.specs.Checks.{has_variable, has_pool, has_procedure, parameters_of}
 
 -- both have the same names

@@ -1,3 +1,4 @@
+pub mod Vocabulary
 pub mod Text
 pub mod Fault
 pub mod Table

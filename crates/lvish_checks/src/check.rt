@@ -16,7 +16,7 @@ pub use bad_line::first_bad_line;
 pub use bad_number::first_bad_number;
 pub use compatible::first_compatible;
 pub use double_name::first_double_name;
-pub use no_main::has_main;
+pub use no_main::first_no_main;
 pub use not_ascii::first_not_ascii;
 pub use open_block::first_open_block;
 pub use too_many::first_too_many;

@@ -36,6 +36,6 @@ pub use form::line_of;
 pub use laws::a_form_has_its_words_alone;
 pub use line::Line;
 pub use script_fault::ScriptFault;
-pub use text::{lines_of, words_of};
+pub use text::{lines_of, put_words, words_of};
 pub use verdict::first_fault;
 pub use version::version_of;

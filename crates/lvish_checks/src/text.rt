@@ -1,4 +1,4 @@
-ghost use Rattle.std.specs.Prelude.{◌≡◌, ◌==◌, IfOk, map};
+ghost use Rattle.std.specs.Prelude.{◌≡◌, ◌==◌, IfOk, OnOk, map};
 ghost use Rattle.std.specs.List.{slice_split};
 ghost use Rattle.lvish_checks.specs.Text.{lines_of, words_of, is_separator, is_comment, without_last_feed};
 
@@ -19,14 +19,25 @@ fn is_comment(word: &[u8]) -> bool
     }
 }
 
+/// Puts the words of a line in place of other words, so that the lines of a text share their room.
+pub fn put_words<'a>(words: &mut Vec<&'a [u8]>, line: &'a [u8]) -> Result<(), AllocError>
+    ensures { OnOk result (map (λ w. w.now) words.new.items ≡ words_of line.now) }
+{
+    words.clear();
+    words.extend(
+        line.split(|b| is_separator(*b))
+            .filter(|w| !w.is_empty())
+            .take_while(|w| !is_comment(w)),
+    )
+}
+
 /// The words of a line.
 pub fn words_of(alloc: Global, line: &[u8]) -> Result<Vec<&[u8]>, AllocError>
     ensures { IfOk result (λ v. map (λ w. w.now) v.items ≡ words_of line.now) }
 {
-    line.split(|b| is_separator(*b))
-        .filter(|w| !w.is_empty())
-        .take_while(|w| !is_comment(w))
-        .collect(alloc)
+    let mut words = Vec::new(alloc);
+    put_words(&mut words, line)?;
+    Ok(words)
 }
 
 /// A text without its last line feed, if it ends in one.

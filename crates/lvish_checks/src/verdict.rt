@@ -1,13 +1,12 @@
-ghost use Rattle.std.specs.Prelude.{◌≡◌, ℕ, List, length, map, nat_lt, false, Some, IfOk};
+ghost use Rattle.std.specs.Prelude.{◌≡◌, ℕ, List, length, map, nat_lt, false, IfOk};
 ghost use Rattle.std.specs.List.{list_any};
-ghost use Rattle.std.specs.Option.{option_map};
 ghost use Rattle.lvish_syntax.specs.Words.{Word};
 ghost use Rattle.lvish_checks.specs.Form.{is_bad_number};
-ghost use Rattle.lvish_checks.specs.Checks.{on_line, IsFirstOn, IsVerdict};
+ghost use Rattle.lvish_checks.specs.Checks.{fails, on_line, IsFirstOn, IsVerdict};
 
 use crate::check::{
-    first_bad_line, first_compatible, first_double_name, first_not_ascii, first_open_block,
-    first_too_many, first_unknown_name, first_wrong_count, first_wrong_kind, has_main,
+    first_bad_line, first_compatible, first_double_name, first_no_main, first_not_ascii,
+    first_open_block, first_too_many, first_unknown_name, first_wrong_count, first_wrong_kind,
 };
 use crate::fault::Fault;
 use crate::line::Line;
@@ -15,16 +14,45 @@ use crate::script_fault::ScriptFault;
 use lvish_syntax::MOST_BYTES;
 use std::alloc::{AllocError, Global};
 
-fn at(fault: Fault, line: usize) -> Option<ScriptFault>
-    ensures { result ≡ Some (record { fault = fault; line = line }) }
-{
-    Some(ScriptFault { fault, line })
-}
+/// The checks of a text that isn't too long, in their order.
+const CHECKS: [Fault; 11] = [
+    Fault::NotAscii,
+    Fault::BadLine,
+    Fault::BadNumber,
+    Fault::DoubleName,
+    Fault::UnknownName,
+    Fault::WrongKind,
+    Fault::WrongCount,
+    Fault::OpenBlock,
+    Fault::Compatible,
+    Fault::NoMain,
+    Fault::TooMany,
+];
 
-fn at_first(fault: Fault, line: Option<usize>) -> Option<ScriptFault>
-    ensures { result ≡ option_map (λ l. record { fault = fault; line = l }) line }
+/// The lowest line on which a check fails of a text that isn't too long, if there is one.
+fn first_line(
+    alloc: Global,
+    fault: Fault,
+    lines: &[&[u8]],
+    bad_number: Option<usize>,
+    said: &[Line],
+) -> Result<Option<usize>, AllocError>
+    ensures { (bytes : List ℕ) (words : List (List Word)) → nat_lt MOST_BYTES (length bytes) ≡ false → IsFirstOn (on_line (λ k ws. list_any is_bad_number ws) words) bad_number → IfOk result (λ found. IsFirstOn (fails fault (record { bytes = bytes; lines = map (λ w. w.now) lines.now; words = words; said = said.now })) found) }
 {
-    at(fault, line?)
+    match fault {
+        Fault::NotAscii => Ok(first_not_ascii(lines)),
+        Fault::BadLine => Ok(first_bad_line(said)),
+        Fault::BadNumber => Ok(bad_number),
+        Fault::DoubleName => first_double_name(alloc, said),
+        Fault::UnknownName => first_unknown_name(alloc, said),
+        Fault::WrongKind => first_wrong_kind(alloc, said),
+        Fault::WrongCount => first_wrong_count(alloc, said),
+        Fault::OpenBlock => first_open_block(alloc, said),
+        Fault::Compatible => first_compatible(alloc, said),
+        Fault::NoMain => Ok(first_no_main(said)),
+        Fault::TooMany => first_too_many(alloc, said),
+        Fault::TooLong | Fault::Memory => Ok(None),
+    }
 }
 
 /// The first check that fails of a text that isn't too long, and the lowest line on which it does.
@@ -37,36 +65,13 @@ pub fn first_fault(
 ) -> Result<Option<ScriptFault>, AllocError>
     ensures { IfOk result (λ found. (bytes : List ℕ) (words : List (List Word)) → nat_lt MOST_BYTES (length bytes) ≡ false → IsFirstOn (on_line (λ k ws. list_any is_bad_number ws) words) bad_number → IsVerdict (record { bytes = bytes; lines = map (λ w. w.now) lines.now; words = words; said = said.now }) found) }
 {
-    if let Some(line) = first_not_ascii(lines) {
-        return Ok(at(Fault::NotAscii, line));
+    for fault in CHECKS.as_slice() {
+        if let Some(line) = first_line(alloc, *fault, lines, bad_number, said)? {
+            return Ok(Some(ScriptFault {
+                fault: *fault,
+                line,
+            }));
+        }
     }
-    if let Some(line) = first_bad_line(said) {
-        return Ok(at(Fault::BadLine, line));
-    }
-    if let Some(line) = bad_number {
-        return Ok(at(Fault::BadNumber, line));
-    }
-    if let Some(line) = first_double_name(alloc, said)? {
-        return Ok(at(Fault::DoubleName, line));
-    }
-    if let Some(line) = first_unknown_name(alloc, said)? {
-        return Ok(at(Fault::UnknownName, line));
-    }
-    if let Some(line) = first_wrong_kind(alloc, said)? {
-        return Ok(at(Fault::WrongKind, line));
-    }
-    if let Some(line) = first_wrong_count(alloc, said)? {
-        return Ok(at(Fault::WrongCount, line));
-    }
-    if let Some(line) = first_open_block(alloc, said)? {
-        return Ok(at(Fault::OpenBlock, line));
-    }
-    if let Some(line) = first_compatible(alloc, said)? {
-        return Ok(at(Fault::Compatible, line));
-    }
-    if !has_main(said) {
-        return Ok(at(Fault::NoMain, 0));
-    }
-    let line = first_too_many(alloc, said)?;
-    Ok(at_first(Fault::TooMany, line))
+    Ok(None)
 }

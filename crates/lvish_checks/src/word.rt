@@ -1,11 +1,8 @@
-ghost use Rattle.std.specs.Prelude.{◌≡◌};
-ghost use Rattle.std.specs.List.{list_all};
+ghost use Rattle.std.specs.Prelude.{◌≡◌, ◌==◌, codes};
+ghost use Rattle.std.specs.List.{list_all, list_any, slice_split};
 ghost use Rattle.std.specs.Str.{bytes_eq};
 ghost use Rattle.lvish_syntax.specs.Words.{is_digit, is_letter, is_name_byte, begins_name, is_reserved, is_name};
 ghost use Rattle.lvish_checks.specs.Form.{is_number_word, number_spelled, value_of_number, is_bad_number};
-
-const RESERVED: &[u8] =
-    b"cell set max map pair pool proc end let put get any in has least fork call handle freeze after each if else while";
 
 /// Whether a word is this text.
 pub fn is(word: &[u8], text: &[u8]) -> bool
@@ -47,10 +44,64 @@ fn has_name_bytes(word: &[u8]) -> bool
     word.iter().all(|b| is_name_byte(*b))
 }
 
+fn is_reserved_of_2(word: &[u8]) -> bool
+    ensures { result ≡ list_any (λ r. bytes_eq r word.now) (slice_split (λ b. b == 32) (codes "in if")) }
+{
+    is(b"in", word) || is(b"if", word)
+}
+
+fn is_reserved_of_3(word: &[u8]) -> bool
+    ensures { result ≡ list_any (λ r. bytes_eq r word.now) (slice_split (λ b. b == 32) (codes "set max map end let put get any has")) }
+{
+    is(b"set", word)
+        || is(b"max", word)
+        || is(b"map", word)
+        || is(b"end", word)
+        || is(b"let", word)
+        || is(b"put", word)
+        || is(b"get", word)
+        || is(b"any", word)
+        || is(b"has", word)
+}
+
+fn is_reserved_of_4(word: &[u8]) -> bool
+    ensures { result ≡ list_any (λ r. bytes_eq r word.now) (slice_split (λ b. b == 32) (codes "cell pair pool proc fork call each else")) }
+{
+    is(b"cell", word)
+        || is(b"pair", word)
+        || is(b"pool", word)
+        || is(b"proc", word)
+        || is(b"fork", word)
+        || is(b"call", word)
+        || is(b"each", word)
+        || is(b"else", word)
+}
+
+fn is_reserved_of_5(word: &[u8]) -> bool
+    ensures { result ≡ list_any (λ r. bytes_eq r word.now) (slice_split (λ b. b == 32) (codes "least after while")) }
+{
+    is(b"least", word) || is(b"after", word) || is(b"while", word)
+}
+
+fn is_reserved_of_6(word: &[u8]) -> bool
+    ensures { result ≡ list_any (λ r. bytes_eq r word.now) (slice_split (λ b. b == 32) (codes "handle freeze")) }
+{
+    is(b"handle", word) || is(b"freeze", word)
+}
+
+/// Whether a word is reserved: it is compared with those of its length alone, since each name of a
+/// script comes here.
 fn is_reserved(word: &[u8]) -> bool
     ensures { result ≡ is_reserved word.now }
 {
-    RESERVED.split(|b| *b == b' ').any(|r| r == word)
+    match word.len() {
+        2 => is_reserved_of_2(word),
+        3 => is_reserved_of_3(word),
+        4 => is_reserved_of_4(word),
+        5 => is_reserved_of_5(word),
+        6 => is_reserved_of_6(word),
+        _ => false,
+    }
 }
 
 /// Whether a word is a name.

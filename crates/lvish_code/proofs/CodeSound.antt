@@ -10,15 +10,13 @@ use Rattle.std.proofs.lemmas.List.Folds.{list_all-append}
 use Rattle.std.proofs.lemmas.Option.{slice_get-map, slice_get_within}
 use Rattle.std.proofs.lemmas.Bool.{and_parts, and_from, lt-ltb}
 use Rattle.std.proofs.lemmas.Bool.Decides.{Decides-eqb}
-use Rattle.lvish_syntax.specs.Words.{Word}
 use Rattle.lvish_syntax.specs.Name.{has_name, has_repeat, is_known}
 use Rattle.lvish_syntax.specs.Nested.{statements, nested, row_nested, all_nested}
 use Rattle.lvish_syntax.specs.Sound.{variable_names, pool_names, procedure_names, kind_of, variable_of, locals_of, takes, side_kind, kind_at, is_of_kind, is_apart, is_total_threshold, is_read_of, kind_there, is_put_sound, is_get_sound, is_threshold_known, is_value_known, is_pool_of, is_pool_known, is_command_sound, is_own_sound, is_procedure_sound}
-use Rattle.lvish_code.specs.Vocabulary.{SimpleKind, Cell, Set, Max, VariableKind, Simple, Map, Pair, Tally, Term, LetValue, Threshold, Declaration, Command, Procedure, Script, Statement, out-Statement, Target, First, Second, Wanted, Instruction, BackUnlessZero, GoOn, Return, Routine}
+use Rattle.lvish_code.specs.Vocabulary.{Word, Variable, Pool, SimpleKind, Cell, Set, Max, VariableKind, Simple, Map, Pair, Tally, Term, LetValue, Threshold, Declaration, Command, Procedure, Script, Statement, out-Statement, Target, First, Second, Wanted, Instruction, BackUnlessZero, GoOn, Return, Routine}
 use Rattle.lvish_syntax.specs.declared.term.Term.TheVariants.{Local, Number}
 use Rattle.lvish_syntax.specs.declared.let_value.LetValue.TheVariants.{Same, Combined}
 use Rattle.lvish_syntax.specs.declared.threshold.Threshold.TheVariants.{Any, In, Has, Least, Total}
-use Rattle.lvish_syntax.specs.declared.declaration.Declaration.TheVariants.{Variable, Pool}
 use Rattle.lvish_syntax.specs.declared.command.Command.TheVariants as c
 use Rattle.lvish_syntax.specs.declared.statement.Statement.{Do, If', IfElse', While', Row_of-Statement, end_of-Statement, more_of-Statement}
 use Rattle.lvish_syntax.specs.declared.statement.Statement.TheViews.{outs-Do, outs-If', outs-IfElse', outs-While'}

@@ -2,20 +2,14 @@
 use Rattle.std.specs.Prelude.{◌≡◌, ℕ, ◌+◌, codes, pos, List, [], ◌∷◌, ◌++◌, length, map, Option, Some, None, if◌then◌else◌}
 use Rattle.std.specs.List.{flat_map, slice_get}
 use Rattle.std.specs.Ordering.{int_eq}
-use Rattle.lvish_syntax.specs.Words.{Word}
 use Rattle.lvish_syntax.specs.Nested.{statements, nested}
 use Rattle.lvish_syntax.specs.Sound.{variable_names, pool_names, procedure_names, own_binds, locals_of}
-use Rattle.lvish_code.specs.Vocabulary.{SimpleKind, Cell, VariableKind, Simple, Map, Pair, Tally, Term, LetValue, Threshold, Declaration, Command, Statement, out-Statement, Procedure, Script, Operand, Expression, Target, First, Second, Wanted, Put, Get, Fork, Handle, Freeze, Instruction, Ask, Let, Call, SkipIfZero, BackUnlessZero, GoOn, Return, Routine}
+use Rattle.lvish_code.specs.Vocabulary.{Word, Variable, Pool, Local, Number, Same, Combined, Whole, Entry, Side, Amount, Total, Any, In, At, SimpleKind, Cell, VariableKind, Simple, Map, Pair, Tally, Term, LetValue, Threshold, Declaration, Command, Statement, out-Statement, Procedure, Script, Operand, Expression, Target, First, Second, Wanted, Put, Get, Fork, Handle, Freeze, Instruction, Ask, Let, Call, SkipIfZero, BackUnlessZero, GoOn, Return, Routine}
 use Rattle.lvish_syntax.specs.declared.term.Term.TheVariants as t
 use Rattle.lvish_syntax.specs.declared.let_value.LetValue.TheVariants as v
 use Rattle.lvish_syntax.specs.declared.threshold.Threshold.TheVariants as r
-use Rattle.lvish_syntax.specs.declared.declaration.Declaration.TheVariants.{Variable, Pool}
 use Rattle.lvish_syntax.specs.declared.command.Command.TheVariants as c
 use Rattle.lvish_syntax.specs.declared.statement.Statement.{Do, If', IfElse', While', Row_of-Statement, end_of-Statement, more_of-Statement}
-use Rattle.lvish_code.specs.declared.operand.Operand.TheVariants.{Local, Number}
-use Rattle.lvish_code.specs.declared.expression.Expression.TheVariants.{Same, Combined}
-use Rattle.lvish_code.specs.declared.target.Target.TheVariants.{Whole, Entry, Side, Amount, Total}
-use Rattle.lvish_code.specs.declared.wanted.Wanted.TheVariants.{Any, In, At}
 use Rattle.lvish_code.specs.Flat.{Code}
 use Rattle.lvish_code.specs.Numbering.{name_number, each_once}
 

@@ -2,11 +2,7 @@
 use Rattle.std.specs.Prelude.{◌≡◌, ℕ, ◌+◌, ◌<◌, ◌≤◌, ℤ, Bool, true, false, ◌&&◌, ◌==◌, nat_lt, nat_le, List, length, Option, Some, None, is_some}
 use Rattle.std.specs.List.{slice_get, list_all}
 use Rattle.lvish_syntax.specs.Sound.{is_level, are_one}
-use Rattle.lvish_code.specs.Vocabulary.{SimpleKind, Cell, Set, Max, VariableKind, Simple, Map, Pair, Tally, Operand, Expression, Target, First, Second, Wanted, Action, Put, Get, Fork, Handle, Freeze, Instruction, Ask, Let, Call, SkipIfZero, BackUnlessZero, GoOn, Return, Routine}
-use Rattle.lvish_code.specs.declared.operand.Operand.TheVariants.{Local, Number}
-use Rattle.lvish_code.specs.declared.expression.Expression.TheVariants.{Same, Combined}
-use Rattle.lvish_code.specs.declared.target.Target.TheVariants.{Whole, Entry, Side, Amount, Total}
-use Rattle.lvish_code.specs.declared.wanted.Wanted.TheVariants.{Any, In, At}
+use Rattle.lvish_code.specs.Vocabulary.{Local, Number, Same, Combined, Whole, Entry, Side, Amount, Total, Any, In, At, SimpleKind, Cell, Set, Max, VariableKind, Simple, Map, Pair, Tally, Operand, Expression, Target, First, Second, Wanted, Action, Put, Get, Fork, Handle, Freeze, Instruction, Ask, Let, Call, SkipIfZero, BackUnlessZero, GoOn, Return, Routine}
 use Rattle.lvish_syntax.specs.declared.limits.TheConstants.{MOST}
 
 -- whether there is a routine, and it takes this many values

@@ -5,10 +5,7 @@ use Rattle.std.specs.Option.{option_map_or}
 use Rattle.std.specs.List.{list_any, list_all}
 use Rattle.std.proofs.lemmas.Bool.{and_from, or_from, not-false}
 use Rattle.lvish_syntax.specs.Sound.{IsSound}
-use Rattle.lvish_syntax.specs.declared.version.Version.{Version}
-use Rattle.lvish_syntax.specs.declared.declaration.Declaration.{Declaration}
-use Rattle.lvish_syntax.specs.declared.procedure.Procedure.{Procedure}
-use Rattle.lvish_checks.specs.declared.fault.Fault.TheVariants.{TooLong, NotAscii, BadLine, BadNumber, DoubleName, UnknownName, WrongKind, WrongCount, OpenBlock, Compatible, NoMain, TooMany}
+use Rattle.lvish_script.specs.Vocabulary.{Version, Declaration, Procedure, TooLong, NotAscii, BadLine, BadNumber, DoubleName, UnknownName, WrongKind, WrongCount, OpenBlock, Compatible, NoMain, TooMany}
 use Rattle.lvish_checks.specs.Text.{words_of, lines_of}
 use Rattle.lvish_checks.specs.Checks.{Parts, IsFirstFault, IsAccepted, line_fails, is_main, is_out_of_place, is_line_in, version_of, parts_of}
 use Rattle.lvish_script.specs.Spells.{script_lines, says_something}

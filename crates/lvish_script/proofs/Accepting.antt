@@ -8,20 +8,11 @@ use Rattle.std.specs.List.{list_any, list_all}
 use Rattle.std.proofs.lemmas.List.{map-append}
 use Rattle.std.proofs.lemmas.Grind.{flat_map-append}
 use Rattle.std.proofs.lemmas.List.Folds.{list_any-append}
-use Rattle.lvish_syntax.specs.Words.{Word}
+use Rattle.lvish_script.specs.Vocabulary.{Word, Version, One, Two, Declaration, Variable, Pool, Command, Procedure, Line, Bad, Versioned, Declare, Proc, Do, If, While, End, InProcedure}
 use Rattle.lvish_syntax.specs.Name.{has_name, has_repeat}
 use Rattle.lvish_syntax.specs.Nested.{statements, all_depth}
 use Rattle.lvish_syntax.specs.Sound.{IsSound, variable_name, variable_names, pool_name, pool_names, procedure_names, locals_of, follow_variables, is_command_sound, is_own_sound, is_procedure_sound}
-use Rattle.lvish_syntax.specs.declared.version.Version.{Version}
-use Rattle.lvish_syntax.specs.declared.version.Version.TheVariants.{One, Two}
-use Rattle.lvish_syntax.specs.declared.declaration.Declaration.{Declaration}
-use Rattle.lvish_syntax.specs.declared.declaration.Declaration.TheVariants.{Variable, Pool}
-use Rattle.lvish_syntax.specs.declared.command.Command.{Command}
-use Rattle.lvish_syntax.specs.declared.procedure.Procedure.{Procedure}
-use Rattle.lvish_checks.specs.declared.line.Line.{Line}
-use Rattle.lvish_checks.specs.declared.line.Line.TheVariants.{Bad, Version as Versioned, Declare, Proc, Do, If, While, End}
 use Rattle.lvish_checks.specs.Checks.{Parts, IsAccepted, on_line, has_procedure, is_nil, is_main, is_procedure, version_of, is_line_in, is_out_of_place, stands_badly, declares_again, misfits, miscounts, mixes, command_unknown, command_misfits, command_miscounts, command_mixes, is_misplaced, is_past_limit, open_after}
-use Rattle.lvish_checks.specs.declared.open_blocks.Opener.TheVariants.{Procedure as InProcedure}
 use Rattle.lvish_checks.specs.Text.{is_foreign}
 use Rattle.lvish_checks.specs.Form.{is_bad_number}
 use Rattle.lvish_script.specs.Spells.{version_lines, body_lines, script_lines, says_something}

@@ -1,9 +1,7 @@
 -- The canonical text of blocks.
 use Rattle.std.proofs.Common.{◌≡◌, ℕ, List, [], ◌∷◌, ◌++◌, sym, ap, ◌∙◌, append_assoc}
 use Rattle.std.proofs.lemmas.Grind.{flat_map-append}
-use Rattle.lvish_syntax.specs.declared.term.Term.{Term}
-use Rattle.lvish_checks.specs.declared.line.Line.{Line}
-use Rattle.lvish_checks.specs.declared.line.Line.TheVariants.{If, Else, End}
+use Rattle.lvish_script.specs.Vocabulary.{Term, Line, If, Else, End}
 use Rattle.lvish_script.specs.Canonical.{line_text, lines_text}
 use Rattle.lvish_script.proofs.Layers.{block_of, parts_of_if}
 

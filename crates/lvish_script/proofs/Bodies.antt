@@ -1,24 +1,21 @@
 -- What holds of the lines of statements, and of the statements.
 use Rattle.std.proofs.Common.{◌≡◌, ℕ, Bool, true, false, cond, ◌&&◌, List, [], ◌∷◌, ◌++◌, map, Some, refl, sym, ap, ◌∙◌, arith, append_assoc}
 use Rattle.std.proofs.Math.Bool.{and-true}
-use Rattle.std.proofs.lemmas.Bool.{and_from, or_from, and_parts, or_parts}
+use Rattle.std.proofs.lemmas.Bool.{and_from, or_from, or_parts}
 use Rattle.std.specs.Prelude.{count_by, filter}
 use Rattle.std.specs.List.{list_any, list_all, flat_map}
 use Rattle.std.proofs.lemmas.List.{append-nil, map-append}
 use Rattle.std.proofs.lemmas.List.Elements.{filter-append}
 use Rattle.std.proofs.lemmas.List.Folds.{list_all-append, list_all-map}
-use Rattle.lvish_syntax.specs.Words.{Word}
+use Rattle.lvish_script.specs.Vocabulary.{Word, Declaration, Procedure, Block, Line}
 use Rattle.lvish_syntax.specs.Nested.{statements, nested, row_nested, all_nested}
-use Rattle.lvish_syntax.specs.declared.declaration.Declaration.{Declaration}
-use Rattle.lvish_syntax.specs.declared.procedure.Procedure.{Procedure}
-use Rattle.lvish_syntax.specs.declared.statement.Block.{Block}
 use Rattle.lvish_syntax.specs.declared.statement.Statement.{Statement, Do, If', IfElse', While', Row_of-Statement, end_of-Statement, more_of-Statement}
 use Rattle.lvish_syntax.specs.declared.statement.Statement.TheOpen as o
 use Rattle.lvish_syntax.specs.declared.statement.Statement.TheViews.{out-Statement, outs-Do, outs-If', outs-IfElse', outs-While'}
-use Rattle.lvish_checks.specs.declared.line.Line.{Line}
 use Rattle.lvish_checks.specs.declared.line.Line.TheVariants as line
 use Rattle.lvish_checks.specs.Checks.{is_procedure, binds, binds_until_procedure, locals_after, parameters_of}
 use Rattle.lvish_script.specs.Spells.{statement_lines, row_lines, body_lines, procedure_lines, script_lines}
+use Rattle.lvish_checks.proofs.Cuts.{left_holds, right_holds}
 use Rattle.lvish_script.proofs.Cleaned.{count_cons}
 
 -- the first line of a statement
@@ -30,12 +27,6 @@ own_line (o.While t a) = line.While t
 
 abbrev first : Statement → Line
 first s = own_line (out-Statement s)
-
-pub first_holds : (a b : Bool) → (a && b) ≡ true → a ≡ true
-first_holds a b e = (and_parts a b e).0
-
-pub second_holds : (a b : Bool) → (a && b) ≡ true → b ≡ true
-second_holds a b e = (and_parts a b e).1
 
 pub join_all : {X : Type 0} (p : X → Bool) (xs ys : List X) → list_all p xs ≡ true → list_all p ys ≡ true → list_all p (xs ++ ys) ≡ true
 join_all p xs ys e f = list_all-append p xs ys ∙ and_from (list_all p xs) (list_all p ys) e f
@@ -154,7 +145,7 @@ inner ss = all_of_body is_inner (λ u. true) own refl refl ss ∙ always (all_ne
 
 pub none_inner : (p : Line → Bool) → ((l : Line) → is_inner l ≡ true → p l ≡ false) → (ls : List Line) → list_all is_inner ls ≡ true → list_any p ls ≡ false
 none_inner p h [] e = refl
-none_inner p h (l ∷ ls) e = or_from (p l) _ (h l (first_holds (is_inner l) _ e)) (none_inner p h ls (second_holds (is_inner l) _ e))
+none_inner p h (l ∷ ls) e = or_from (p l) _ (h l (left_holds (is_inner l) _ e)) (none_inner p h ls (right_holds (is_inner l) _ e))
 
 pub no_procedure : (l : Line) → is_inner l ≡ true → is_procedure l ≡ false
 no_procedure (line.Proc n xs) e = absurd cc

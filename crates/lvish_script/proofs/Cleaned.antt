@@ -8,16 +8,9 @@ use Rattle.std.proofs.lemmas.Bool.{and_from, and_parts, or_from, or_parts, not-t
 use Rattle.std.proofs.lemmas.List.{append-nil}
 use Rattle.std.proofs.lemmas.List.Elements.{filter-append}
 use Rattle.std.proofs.lemmas.List.Sums.{sum_by-cons}
-use Rattle.lvish_syntax.specs.Words.{Word}
+use Rattle.lvish_script.specs.Vocabulary.{Word, Variable, Pool, Command, Let, Put, PutAt, Get, GetAt, Fork, Call, Handle, Freeze, FreezeEach, Line, Blank, Versioned as Version, Declare, Proc, Do, If, While, Opener, InProcedure, InIf, InElse, InWhile}
 use Rattle.lvish_syntax.specs.Name.{has_repeat, is_known}
-use Rattle.lvish_syntax.specs.declared.declaration.Declaration.TheVariants.{Variable, Pool}
-use Rattle.lvish_syntax.specs.declared.command.Command.{Command}
-use Rattle.lvish_syntax.specs.declared.command.Command.TheVariants.{Let, Put, PutAt, Get, GetAt, Fork, Call, Handle, Freeze, FreezeEach}
-use Rattle.lvish_checks.specs.declared.line.Line.{Line}
-use Rattle.lvish_checks.specs.declared.line.Line.TheVariants.{Blank, Version, Declare, Proc, Do, If, While}
 use Rattle.lvish_checks.specs.Checks.{declarations, has_variable, has_pool, has_procedure, is_variable, is_pool, is_procedure, declares_procedure, declares_again, is_past_limit, binds, binds_until_procedure, locals_step, locals_after, locals_at, open_step, open_after, is_full, parameters_of, miscounts, command_miscounts, command_unknown, names_unknown, misfits, mixes, command_misfits, command_mixes}
-use Rattle.lvish_checks.specs.declared.open_blocks.Opener.{Opener}
-use Rattle.lvish_checks.specs.declared.open_blocks.Opener.TheVariants.{Procedure as InProcedure, If as InIf, Else as InElse, While as InWhile}
 use Rattle.lvish_script.specs.Spells.{says_something}
 
 -- ---- what a check counts and looks up

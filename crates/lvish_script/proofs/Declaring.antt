@@ -6,21 +6,15 @@ use Rattle.std.specs.Prelude.{count_by, codes, nat_le}
 use Rattle.std.specs.List.{list_any, list_all, flat_map}
 use Rattle.std.specs.Str.{bytes_eq}
 use Rattle.std.proofs.lemmas.Bool.Decides.{nat_tests}
-use Rattle.std.proofs.lemmas.List.{append-nil}
+use Rattle.std.proofs.lemmas.List.{append-nil, length-append}
 use Rattle.std.proofs.lemmas.List.Folds.{list_any-append}
 use Rattle.std.proofs.lemmas.List.Sums.{sum_by-append}
 use Rattle.std.proofs.lemmas.Grind.{flat_map-append}
-use Rattle.lvish_syntax.specs.Words.{Word}
+use Rattle.lvish_script.specs.Vocabulary.{Word, Declaration, Variable, Pool, Procedure, Line, Blank, Bad, Versioned as Version, Declare, Proc, End, InProcedure}
 use Rattle.lvish_syntax.specs.Name.{has_name, has_repeat}
 use Rattle.lvish_syntax.specs.Nested.{statements}
 use Rattle.lvish_syntax.specs.Sound.{variable_name, variable_names, pool_name, pool_names, procedure_names, takes, is_pool_known, follow_variables}
-use Rattle.lvish_syntax.specs.declared.declaration.Declaration.{Declaration}
-use Rattle.lvish_syntax.specs.declared.declaration.Declaration.TheVariants.{Variable, Pool}
-use Rattle.lvish_syntax.specs.declared.procedure.Procedure.{Procedure}
-use Rattle.lvish_checks.specs.declared.line.Line.{Line}
-use Rattle.lvish_checks.specs.declared.line.Line.TheVariants.{Blank, Bad, Version, Declare, Proc, End}
 use Rattle.lvish_checks.specs.Checks.{declared_by, declarations, has_procedure, is_nil, is_main, is_variable, is_pool, is_procedure, declares_procedure, declares_again, is_past_limit, open_after}
-use Rattle.lvish_checks.specs.declared.open_blocks.Opener.TheVariants.{Procedure as InProcedure}
 use Rattle.lvish_script.specs.Spells.{body_lines, procedure_lines, script_lines}
 use Rattle.lvish_checks.proofs.Cuts.{differ_by_cut}
 use Rattle.lvish_script.proofs.Cleaned.{count_cons}
@@ -113,27 +107,24 @@ main_declared ds ps =
 count_append : (p : Line → Bool) (xs ys : List Line) → count_by p (xs ++ ys) ≡ count_by p xs + count_by p ys
 count_append p xs ys = sum_by-append (λ x. cond (p x) 1 0) xs ys
 
+-- where each declaration counts as often as it has a name
+counted_by : (p : Line → Bool) (names : Declaration → List Word) → ((d : Declaration) → cond (p (Declare d)) 1 0 ≡ length (names d)) → (ds : List Declaration) → count_by p (heads ds) ≡ length (flat_map names ds)
+counted_by p names one [] = refl
+counted_by p names one (d ∷ ds) = omega (arith, count_cons p (Declare d) (heads ds), one d, counted_by p names one ds, length-append (names d) (flat_map names ds))
+
 pub variables_counted : (ds : List Declaration) → count_by is_variable (heads ds) ≡ length (variable_names ds)
-variables_counted [] = refl
-variables_counted (Variable n k ∷ ds) =
-    let one : count_by is_variable (Declare (Variable n k) ∷ heads ds) ≡ 1 + count_by is_variable (heads ds) = count_cons is_variable (Declare (Variable n k)) (heads ds) in
-    let more = variables_counted ds in
-    omega arith
-variables_counted (Pool p v ∷ ds) =
-    let one : count_by is_variable (Declare (Pool p v) ∷ heads ds) ≡ 0 + count_by is_variable (heads ds) = count_cons is_variable (Declare (Pool p v)) (heads ds) in
-    let more = variables_counted ds in
-    omega arith
+variables_counted ds = counted_by is_variable variable_name one ds
+  where
+    one : (d : Declaration) → cond (is_variable (Declare d)) 1 0 ≡ length (variable_name d)
+    one (Variable n k) = refl
+    one (Pool p v) = refl
 
 pub pools_counted : (ds : List Declaration) → count_by is_pool (heads ds) ≡ length (pool_names ds)
-pools_counted [] = refl
-pools_counted (Variable n k ∷ ds) =
-    let one : count_by is_pool (Declare (Variable n k) ∷ heads ds) ≡ 0 + count_by is_pool (heads ds) = count_cons is_pool (Declare (Variable n k)) (heads ds) in
-    let more = pools_counted ds in
-    omega arith
-pools_counted (Pool p v ∷ ds) =
-    let one : count_by is_pool (Declare (Pool p v) ∷ heads ds) ≡ 1 + count_by is_pool (heads ds) = count_cons is_pool (Declare (Pool p v)) (heads ds) in
-    let more = pools_counted ds in
-    omega arith
+pools_counted ds = counted_by is_pool pool_name one ds
+  where
+    one : (d : Declaration) → cond (is_pool (Declare d)) 1 0 ≡ length (pool_name d)
+    one (Variable n k) = refl
+    one (Pool p v) = refl
 
 procedures_counted : (ps : List Procedure) → count_by is_procedure (flat_map procedure_lines ps) ≡ length ps
 procedures_counted [] = refl

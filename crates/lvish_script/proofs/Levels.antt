@@ -7,11 +7,9 @@ use Rattle.std.proofs.lemmas.Bool.Decides.{nat_tests}
 use Rattle.std.proofs.lemmas.List.{append-nil}
 use Rattle.lvish_syntax.specs.Nested.{depth, row_depth, all_depth}
 use Rattle.lvish_syntax.specs.declared.statement.Statement.{Statement, Do, If', IfElse', While', Row_of-Statement, end_of-Statement, more_of-Statement}
-use Rattle.lvish_checks.specs.declared.line.Line.{Line}
+use Rattle.lvish_script.specs.Vocabulary.{Line, Opener, InProcedure, InIf, InElse, InWhile}
 use Rattle.lvish_checks.specs.declared.line.Line.TheVariants as line
 use Rattle.lvish_checks.specs.Checks.{open_step, open_after, is_full, is_misplaced, is_past_limit}
-use Rattle.lvish_checks.specs.declared.open_blocks.Opener.{Opener}
-use Rattle.lvish_checks.specs.declared.open_blocks.Opener.TheVariants.{Procedure as InProcedure, If as InIf, Else as InElse, While as InWhile}
 use Rattle.lvish_script.specs.Spells.{statement_lines, row_lines, body_lines}
 use Rattle.lvish_syntax.specs.declared.limits.TheConstants.{MOST}
 

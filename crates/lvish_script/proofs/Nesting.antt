@@ -1,33 +1,18 @@
 -- What the checks of places and blocks give the reader of nested statements.
-use Rattle.std.proofs.Common.{◌≡◌, ℕ, zero, suc, ◌+◌, ◌-◌, ◌<◌, ◌≤◌, Bool, true, false, ◌||◌, ◌&&◌, not, List, [], ◌∷◌, ◌++◌, length, take, get_or, Option, Some, None, refl, sym, ap, subst, ◌∙◌, arith, append-nil, eq-eqb, take_all, map, reverse}
-use Rattle.std.specs.Prelude.{slice_get, filter, ◌==◌}
-use Rattle.std.specs.Option.{option_map_or}
+use Rattle.std.proofs.Common.{◌≡◌, ℕ, suc, ◌+◌, ◌-◌, ◌<◌, ◌≤◌, Bool, true, false, ◌||◌, ◌&&◌, not, List, [], ◌∷◌, ◌++◌, length, take, get_or, Option, Some, None, refl, sym, ap, subst, ◌∙◌, arith, eq-eqb, take_all, map, reverse}
+use Rattle.std.specs.Prelude.{filter, ◌==◌}
 use Rattle.std.specs.List.{list_any}
 use Rattle.std.proofs.lemmas.Bool.{not-false}
 use Rattle.std.proofs.lemmas.List.{take_more}
 use Rattle.std.proofs.lemmas.List.Elements.{filter-append}
 use Rattle.std.proofs.lemmas.List.Folds.{list_any-append}
-use Rattle.lvish_syntax.specs.declared.procedure.Procedure.{Procedure}
-use Rattle.lvish_checks.specs.declared.line.Line.{Line}
-use Rattle.lvish_checks.specs.declared.line.Line.TheVariants.{Blank, Bad, Version, Declare}
-use Rattle.lvish_checks.specs.declared.fault.Fault.TheVariants.{BadLine, OpenBlock}
+use Rattle.lvish_script.specs.Vocabulary.{Procedure, Line, Blank, Bad, Versioned as Version, Declare, BadLine, OpenBlock, Opener, InProcedure}
 use Rattle.lvish_script.specs.declared.nest.OpenProcedure.{OpenProcedure}
-use Rattle.lvish_checks.specs.Checks.{on_line, line_fails, open_after, open_step, is_nil, is_procedure, is_misplaced, is_out_of_place}
-use Rattle.lvish_checks.specs.declared.open_blocks.Opener.{Opener}
-use Rattle.lvish_checks.specs.declared.open_blocks.Opener.TheVariants.{Procedure as InProcedure}
+use Rattle.lvish_checks.specs.Checks.{on_line, line_fails, open_after, is_nil, is_procedure, is_misplaced, is_out_of_place}
 use Rattle.lvish_script.specs.Spells.{says_something}
 use Rattle.lvish_script.specs.Nested.{TakesLine, HasNone, opener, openers, what_is_said}
 use Rattle.lvish_checks.proofs.Cuts.{left_fails, right_fails}
-use Rattle.lvish_checks.proofs.Lines.{open_after-more}
-use Rattle.lvish_script.proofs.Cleaned.{silent_step}
-
-at_place : {X : Type 0} (test : X → Bool) (xs : List X) (k : ℕ) (d : X) → k < length xs → option_map_or test (slice_get xs k) false ≡ test (get_or xs k d)
-at_place test [] k d lt = absurd (omega arith)
-at_place test (y ∷ xs) zero d lt = refl
-at_place test (y ∷ xs) (suc k) d lt = at_place test xs k d (omega arith)
-
-at_item : {X : Type 0} (test : X → Bool) (xs : List X) (k : ℕ) (x : X) → k < length xs → x ≡ get_or xs k x → option_map_or test (slice_get xs k) false ≡ test x
-at_item test xs k x lt e = at_place test xs k x lt ∙ ap test (sym e)
+use Rattle.lvish_checks.proofs.Lines.{at_place, at_item}
 
 and_right : (a b : Bool) → a ≡ true → (a && b) ≡ false → b ≡ false
 and_right true b e h = h
@@ -42,17 +27,6 @@ fits_at : (before : List Line) (ps : List Procedure) (o : Option OpenProcedure) 
 fits_at before ps o Bad none bad mis = absurd cc
 fits_at before ps o (Declare d) none bad mis = none bad
 fits_at before ps o x none bad mis = mis
-
--- a line that says nothing beside the version
-silent : (x : Line) → says_something x ≡ false → what_is_said x ≡ []
-silent Blank e = refl
-silent Version e = refl
-silent x e = absurd cc
-
-silent_opens : (os : List Opener) (x : Line) → says_something x ≡ false → open_step os x ≡ os
-silent_opens os Blank e = (silent_step os).0
-silent_opens os Version e = (silent_step os).1
-silent_opens os x e = absurd cc
 
 -- nothing is open, where no opener is
 nil_openers : (o : Option OpenProcedure) → is_nil (openers o) ≡ true → o ≡ None
@@ -77,12 +51,6 @@ module _ (said : List Line) (placed : (l : ℕ) → on_line (line_fails BadLine 
   none_more i x lt e h =
       let g : (list_any is_procedure (take i said) || (is_procedure x || false)) ≡ false = ap (λ (y : Line). list_any is_procedure (take i said) || (is_procedure y || false)) e ∙ sym (list_any-append is_procedure (take i said) (get_or said i x ∷ [])) ∙ ap (list_any is_procedure) (sym (take_more said i x lt)) ∙ h in
       (left_fails _ _ g, left_fails _ _ (right_fails _ _ g))
-
-  pub says_no_more : (i : ℕ) (x : Line) → i < length said → x ≡ get_or said i x → says_something x ≡ false → filter says_something (take (i + 1) said) ≡ filter says_something (take i said)
-  says_no_more i x lt e nothing = says_more i x lt e ∙ ap (λ t. filter says_something (take i said) ++ t) (silent x nothing) ∙ append-nil (filter says_something (take i said))
-
-  pub opens_no_more : (i : ℕ) (x : Line) → i < length said → x ≡ get_or said i x → says_something x ≡ false → open_after [] (take (i + 1) said) ≡ open_after [] (take i said)
-  opens_no_more i x lt e nothing = open_after-more said i x lt e ∙ silent_opens (open_after [] (take i said)) x nothing
 
   pub closes : (d : Line) (o : Option OpenProcedure) → openers o ≡ open_after [] said → 0 < length said → o ≡ None
   closes d o e pos =

@@ -8,19 +8,14 @@ use Rattle.std.proofs.lemmas.Bool.Decides.{nat_tests}
 use Rattle.std.proofs.lemmas.List.Folds.{list_any-append, list_all-append}
 use Rattle.std.proofs.lemmas.List.{append-nil, map-append}
 use Rattle.std.proofs.lemmas.Grind.{flat_map-append}
-use Rattle.lvish_syntax.specs.Words.{Word}
+use Rattle.lvish_script.specs.Vocabulary.{Word, Declaration, Procedure, Line, Declare, Proc, End}
 use Rattle.lvish_syntax.specs.Name.{has_name, has_repeat}
 use Rattle.lvish_syntax.specs.Nested.{statements}
 use Rattle.lvish_syntax.specs.Sound.{is_pool_known, follow_variables}
-use Rattle.lvish_syntax.specs.declared.declaration.Declaration.{Declaration}
-use Rattle.lvish_syntax.specs.declared.procedure.Procedure.{Procedure}
-use Rattle.lvish_checks.specs.declared.line.Line.{Line}
-use Rattle.lvish_checks.specs.declared.line.Line.TheVariants.{Declare, Proc, End}
 use Rattle.lvish_script.specs.Spells.{body_lines, procedure_lines, script_lines}
 use Rattle.lvish_script.proofs.Declaring.{heads}
-use Rattle.lvish_checks.proofs.Cuts.{left_fails, right_fails}
+use Rattle.lvish_checks.proofs.Cuts.{left_fails, right_fails, left_holds, right_holds}
 use Rattle.lvish_checks.proofs.Seen.{bytes_eq_flip}
-use Rattle.lvish_script.proofs.Bodies.{first_holds, second_holds}
 use Rattle.lvish_script.proofs.Soundness.{lines_to, lines_from}
 use Rattle.lvish_syntax.specs.declared.limits.TheConstants.{MOST}
 
@@ -115,11 +110,11 @@ pub few_at : {X : Type 0} (xs ys : List X) (y : X) → length (xs ++ y ∷ ys) �
 few_at xs ys y h = let n : length (xs ++ y ∷ ys) ≡ length xs + suc (length ys) = length-append xs (y ∷ ys) in let lt : length xs < MOST = omega (arith, h, n) in grind (arith, nat_tests)
 
 pub follow_at : (before c : List Declaration) (d : Declaration) (e : List Declaration) → follow_variables before (c ++ d ∷ e) ≡ true → is_pool_known (before ++ c) d ≡ true
-follow_at before [] d e h = ap (λ t. is_pool_known t d) (append-nil before) ∙ first_holds (is_pool_known before d) _ h
-follow_at before (x ∷ c) d e h = ap (λ t. is_pool_known t d) (sym (append_assoc before (x ∷ []) c)) ∙ follow_at (before ++ x ∷ []) c d e (second_holds (is_pool_known before x) _ h)
+follow_at before [] d e h = ap (λ t. is_pool_known t d) (append-nil before) ∙ left_holds (is_pool_known before d) _ h
+follow_at before (x ∷ c) d e h = ap (λ t. is_pool_known t d) (sym (append_assoc before (x ∷ []) c)) ∙ follow_at (before ++ x ∷ []) c d e (right_holds (is_pool_known before x) _ h)
 
 pub all_at_cut : {X : Type 0} (p : X → Bool) (b : List X) (x : X) (a : List X) → list_all p (b ++ x ∷ a) ≡ true → p x ≡ true
-all_at_cut p b x a e = first_holds (p x) _ (second_holds (list_all p b) _ (sym (list_all-append p b (x ∷ a)) ∙ e))
+all_at_cut p b x a e = left_holds (p x) _ (right_holds (list_all p b) _ (sym (list_all-append p b (x ∷ a)) ∙ e))
 
 pub any_at_cut : {X : Type 0} (p : X → Bool) (b : List X) (x : X) (a : List X) → list_any p (b ++ x ∷ a) ≡ false → p x ≡ false
 any_at_cut p b x a e = left_fails (p x) _ (right_fails (list_any p b) _ (sym (list_any-append p b (x ∷ a)) ∙ e))

@@ -1,6 +1,6 @@
 -- Words that can stand in a line: no separator, no line feed and no comment's beginning in them.
 use Rattle.std.proofs.Common.{◌≡◌, cond, ℕ, suc, Bool, true, false, not, ◌||◌, ◌&&◌, List, [], ◌∷◌, ◌++◌, length, map, Option, Some, refl, ap, ◌∙◌, arith}
-use Rattle.std.proofs.lemmas.Bool.{and_from, or_from}
+use Rattle.std.proofs.lemmas.Bool.{and_from, and_parts, or_from}
 use Rattle.std.specs.Prelude.{nat_le, ◌==◌, ℤ, pos, negsuc, filter, take_while}
 use Rattle.std.specs.List.{list_any, list_all, slice_split, onto_first}
 use Rattle.std.specs.Str.{all_ascii_digits}
@@ -13,16 +13,14 @@ use Rattle.std.proofs.lemmas.List.Sums.{take_while-cons}
 use Rattle.std.proofs.lemmas.List.Splits.{slice_split-cons_yes, slice_split-cons_no}
 use Rattle.lvish_syntax.specs.Words.{Word, is_name, is_name_byte, is_letter, is_digit, is_reserved}
 use Rattle.lvish_syntax.specs.Written.{is_within, is_term_written}
-use Rattle.lvish_syntax.specs.declared.term.Term.{Term}
-use Rattle.lvish_syntax.specs.declared.term.Term.TheVariants.{Local, Number}
+use Rattle.lvish_script.specs.Vocabulary.{Term, Local, Number}
 use Rattle.lvish_checks.specs.Text.{is_separator, is_comment, is_foreign, words_of}
 use Rattle.lvish_checks.specs.Form.{is_number_word, is_numeral, value_of_number, number_word, term_of, is_bad_number, all_of}
 use Rattle.lvish_checks.specs.Spelling.{term_word}
 use Rattle.lvish_script.specs.Canonical.{spaced, words_joined}
-use Rattle.lvish_checks.proofs.Cuts.{left_fails, right_fails}
-use Rattle.lvish_checks.proofs.Numbers.{own}
-use Rattle.lvish_checks.proofs.Decimals.{some_length, below, above, decimal_numeral, number_back, number_is_word}
-use Rattle.lvish_script.proofs.Bodies.{first_holds, second_holds}
+use Rattle.lvish_checks.proofs.Cuts.{left_fails, right_fails, left_holds, right_holds}
+use Rattle.lvish_checks.proofs.Numbers.{own, length_some}
+use Rattle.lvish_checks.proofs.Decimals.{below, above, decimal_numeral, number_back, number_is_word}
 
 -- a byte of a word
 abbrev pub is_plain_byte : ℕ → Bool
@@ -40,7 +38,7 @@ name_byte_plain b e = grind (arith, nat_tests)
 
 name_bytes_plain : (w : Word) → list_all is_name_byte w ≡ true → list_all is_plain_byte w ≡ true
 name_bytes_plain [] e = refl
-name_bytes_plain (b ∷ w) e = and_from (is_plain_byte b) _ (name_byte_plain b (first_holds (is_name_byte b) _ e)) (name_bytes_plain w (second_holds (is_name_byte b) _ e))
+name_bytes_plain (b ∷ w) e = and_from (is_plain_byte b) _ (name_byte_plain b (left_holds (is_name_byte b) _ e)) (name_bytes_plain w (right_holds (is_name_byte b) _ e))
 
 letter_begins : (b : ℕ) → is_letter b ≡ true → not (b == 35) ≡ true
 letter_begins b e = grind (arith, nat_tests)
@@ -49,23 +47,22 @@ letter_no_number : (b : ℕ) (t : Bool) → is_letter b ≡ true → (is_digit b
 letter_no_number b true e = grind (arith, nat_tests)
 letter_no_number b false e = grind (arith, nat_tests)
 
+name_parts : (b : ℕ) (w : Word) → is_name (b ∷ w) ≡ true → (is_letter b ≡ true) × (list_all is_name_byte (b ∷ w) ≡ true)
+unfolding is_name
+name_parts b w e =
+    let all : (is_letter b && nat_le (length (b ∷ w)) 32 && list_all is_name_byte (b ∷ w) && not (is_reserved (b ∷ w))) ≡ true = e in
+    let three = and_parts (is_letter b && nat_le (length (b ∷ w)) 32) _ (left_holds _ (not (is_reserved (b ∷ w))) all) in
+    (left_holds (is_letter b) _ three.0, three.1)
+
 pub name_plain : (w : Word) → is_name w ≡ true → is_plain w ≡ true
 unfolding is_name
 name_plain [] e = absurd cc
-name_plain (b ∷ w) e =
-    let all : (is_letter b && nat_le (length (b ∷ w)) 32 && list_all is_name_byte (b ∷ w) && not (is_reserved (b ∷ w))) ≡ true = e in
-    let three = first_holds (is_letter b && nat_le (length (b ∷ w)) 32 && list_all is_name_byte (b ∷ w)) _ all in
-    let two = first_holds (is_letter b && nat_le (length (b ∷ w)) 32) _ three in
-    and_from (not (b == 35)) _ (letter_begins b (first_holds (is_letter b) _ two)) (name_bytes_plain (b ∷ w) (second_holds (is_letter b && nat_le (length (b ∷ w)) 32) _ three))
+name_plain (b ∷ w) e = let p = name_parts b w e in and_from (not (b == 35)) _ (letter_begins b p.0) (name_bytes_plain (b ∷ w) p.1)
 
 pub name_no_number : (w : Word) → is_name w ≡ true → is_number_word w ≡ false
 unfolding is_name
 name_no_number [] e = refl
-name_no_number (b ∷ w) e =
-    let all : (is_letter b && nat_le (length (b ∷ w)) 32 && list_all is_name_byte (b ∷ w) && not (is_reserved (b ∷ w))) ≡ true = e in
-    let three = first_holds (is_letter b && nat_le (length (b ∷ w)) 32 && list_all is_name_byte (b ∷ w)) _ all in
-    let two = first_holds (is_letter b && nat_le (length (b ∷ w)) 32) _ three in
-    letter_no_number b (not (length w == 0)) (first_holds (is_letter b) _ two)
+name_no_number (b ∷ w) e = letter_no_number b (not (length w == 0)) (name_parts b w e).0
 
 -- ---- numbers
 
@@ -75,12 +72,12 @@ digit_plain d false e = grind (arith, nat_tests)
 
 digits_plain : (ds : List ℕ) → all_ascii_digits ds ≡ true → list_all is_plain_byte ds ≡ true
 digits_plain [] e = refl
-digits_plain (d ∷ ds) e = and_from (is_plain_byte d) _ (digit_plain d (all_ascii_digits ds) e) (digits_plain ds (second_holds _ (all_ascii_digits ds) e))
+digits_plain (d ∷ ds) e = and_from (is_plain_byte d) _ (digit_plain d (all_ascii_digits ds) e) (digits_plain ds (right_holds _ (all_ascii_digits ds) e))
 
 digits_begin : (ds : List ℕ) → is_numeral ds ≡ true → is_plain ds ≡ true
 digits_begin [] e = absurd cc
 digits_begin (d ∷ ds) e =
-    let all = second_holds (not (length (d ∷ ds) == 0)) _ e in
+    let all = right_holds (not (length (d ∷ ds) == 0)) _ e in
     and_from (not (d == 35)) _ (no_hash d (all_ascii_digits ds) all) (digits_plain (d ∷ ds) all)
   where
     no_hash : (d : ℕ) (t : Bool) → ((nat_le 48 d && nat_le d 57) && t) ≡ true → not (d == 35) ≡ true
@@ -121,15 +118,15 @@ term_good (Number z) e = number_good z e
 -- words that were written of values give them back
 pub all_back : {X : Type 0} (f : Word → Option X) (g : X → Word) (p : X → Bool) → ((x : X) → p x ≡ true → f (g x) ≡ Some x) → (xs : List X) → list_all p xs ≡ true → all_of f (map g xs) ≡ Some xs
 all_back f g p h [] e = refl
-all_back f g p h (x ∷ xs) e = rw (h x (first_holds (p x) _ e), all_back f g p h xs (second_holds (p x) _ e)) refl
+all_back f g p h (x ∷ xs) e = rw (h x (left_holds (p x) _ e), all_back f g p h xs (right_holds (p x) _ e)) refl
 
 pub all_map : {X : Type 0} (g : X → Word) (p : X → Bool) (q : Word → Bool) → ((x : X) → p x ≡ true → q (g x) ≡ true) → (xs : List X) → list_all p xs ≡ true → list_all q (map g xs) ≡ true
 all_map g p q h [] e = refl
-all_map g p q h (x ∷ xs) e = and_from (q (g x)) _ (h x (first_holds (p x) _ e)) (all_map g p q h xs (second_holds (p x) _ e))
+all_map g p q h (x ∷ xs) e = and_from (q (g x)) _ (h x (left_holds (p x) _ e)) (all_map g p q h xs (right_holds (p x) _ e))
 
 pub all_same : {X : Type 0} (p q : X → Bool) → ((x : X) → p x ≡ true → q x ≡ true) → (xs : List X) → list_all p xs ≡ true → list_all q xs ≡ true
 all_same p q h [] e = refl
-all_same p q h (x ∷ xs) e = and_from (q x) _ (h x (first_holds (p x) _ e)) (all_same p q h xs (second_holds (p x) _ e))
+all_same p q h (x ∷ xs) e = and_from (q x) _ (h x (left_holds (p x) _ e)) (all_same p q h xs (right_holds (p x) _ e))
 
 -- ---- the words of a line that is written
 
@@ -142,11 +139,11 @@ plain_feed b e = grind (arith, nat_tests)
 module _ (p : ℕ → Bool) (h : (b : ℕ) → is_plain_byte b ≡ true → p b ≡ false) where
   pub none_in : (w : List ℕ) → list_all is_plain_byte w ≡ true → list_any p w ≡ false
   none_in [] e = refl
-  none_in (b ∷ w) e = or_from (p b) _ (h b (first_holds (is_plain_byte b) _ e)) (none_in w (second_holds (is_plain_byte b) _ e))
+  none_in (b ∷ w) e = or_from (p b) _ (h b (left_holds (is_plain_byte b) _ e)) (none_in w (right_holds (is_plain_byte b) _ e))
 
 bytes_of : (w : Word) → is_plain w ≡ true → list_all is_plain_byte w ≡ true
 bytes_of [] e = refl
-bytes_of (b ∷ w) e = second_holds (not (b == 35)) _ e
+bytes_of (b ∷ w) e = right_holds (not (b == 35)) _ e
 
 -- a list is cut at the first byte that passes
 pub split_at : (p : ℕ → Bool) (xs : List ℕ) (y : ℕ) (ys : List ℕ) → list_any p xs ≡ false → p y ≡ true → slice_split p (xs ++ y ∷ ys) ≡ xs ∷ slice_split p ys
@@ -158,15 +155,15 @@ split_none p [] none = refl
 split_none p (x ∷ xs) none = slice_split-cons_no p x xs (left_fails (p x) _ none) ∙ ap (onto_first x) (split_none p xs (right_fails (p x) _ none))
 
 split_words : (w : Word) (ws : List Word) → list_all is_plain (w ∷ ws) ≡ true → slice_split is_separator (w ++ spaced ws) ≡ w ∷ ws
-split_words w [] e = ap (slice_split is_separator) (append-nil w) ∙ split_none is_separator w (none_in is_separator plain_no w (bytes_of w (first_holds (is_plain w) _ e)))
+split_words w [] e = ap (slice_split is_separator) (append-nil w) ∙ split_none is_separator w (none_in is_separator plain_no w (bytes_of w (left_holds (is_plain w) _ e)))
 split_words w (v ∷ ws) e =
-    split_at is_separator w 32 (v ++ spaced ws) (none_in is_separator plain_no w (bytes_of w (first_holds (is_plain w) _ e))) refl
-    ∙ ap (λ t. w ∷ t) (split_words v ws (second_holds (is_plain w) _ e))
+    split_at is_separator w 32 (v ++ spaced ws) (none_in is_separator plain_no w (bytes_of w (left_holds (is_plain w) _ e))) refl
+    ∙ ap (λ t. w ∷ t) (split_words v ws (right_holds (is_plain w) _ e))
 
 kept_words : (ws : List Word) → list_all is_plain ws ≡ true → filter (λ w. not (length w == 0)) ws ≡ ws
 kept_words [] e = refl
 kept_words ([] ∷ ws) e = absurd cc
-kept_words ((b ∷ w) ∷ ws) e = keep (not (length (b ∷ w) == 0)) (some_length (b ∷ w) (omega arith)) ∙ ap (λ t. (b ∷ w) ∷ t) (kept_words ws (second_holds (is_plain (b ∷ w)) _ e))
+kept_words ((b ∷ w) ∷ ws) e = keep (not (length (b ∷ w) == 0)) (length_some (length (b ∷ w)) (omega arith)) ∙ ap (λ t. (b ∷ w) ∷ t) (kept_words ws (right_holds (is_plain (b ∷ w)) _ e))
   where
     keep : (t : Bool) → t ≡ true → cond t ((b ∷ w) ∷ filter (λ w. not (length w == 0)) ws) (filter (λ w. not (length w == 0)) ws) ≡ (b ∷ w) ∷ filter (λ w. not (length w == 0)) ws
     keep true f = refl
@@ -177,8 +174,8 @@ all_words [] e = refl
 all_words ([] ∷ ws) e = absurd cc
 all_words ((b ∷ w) ∷ ws) e =
     take_while-cons (λ w. not (is_comment w)) (b ∷ w) ws
-    ∙ ap (λ t. cond t ((b ∷ w) ∷ take_while (λ w. not (is_comment w)) ws) []) (first_holds (not (b == 35)) _ (first_holds (is_plain (b ∷ w)) _ e))
-    ∙ ap (λ t. (b ∷ w) ∷ t) (all_words ws (second_holds (is_plain (b ∷ w)) _ e))
+    ∙ ap (λ t. cond t ((b ∷ w) ∷ take_while (λ w. not (is_comment w)) ws) []) (left_holds (not (b == 35)) _ (left_holds (is_plain (b ∷ w)) _ e))
+    ∙ ap (λ t. (b ∷ w) ∷ t) (all_words ws (right_holds (is_plain (b ∷ w)) _ e))
 
 -- the words of plain words in one line
 pub words_back : (w : Word) (ws : List Word) → list_all is_plain (w ∷ ws) ≡ true → words_of (words_joined (w ∷ ws)) ≡ w ∷ ws
@@ -192,11 +189,11 @@ module _ (p : ℕ → Bool) (h : (b : ℕ) → is_plain_byte b ≡ true → p b 
   none_spaced : (ws : List Word) → list_all is_plain ws ≡ true → list_any p (spaced ws) ≡ false
   none_spaced [] e = refl
   none_spaced (w ∷ ws) e =
-      or_from (p 32) _ space (list_any-append p w (spaced ws) ∙ or_from (list_any p w) _ (none_in p h w (bytes_of w (first_holds (is_plain w) _ e))) (none_spaced ws (second_holds (is_plain w) _ e)))
+      or_from (p 32) _ space (list_any-append p w (spaced ws) ∙ or_from (list_any p w) _ (none_in p h w (bytes_of w (left_holds (is_plain w) _ e))) (none_spaced ws (right_holds (is_plain w) _ e)))
 
   pub none_joined : (ws : List Word) → list_all is_plain ws ≡ true → list_any p (words_joined ws) ≡ false
   none_joined [] e = refl
-  none_joined (w ∷ ws) e = list_any-append p w (spaced ws) ∙ or_from (list_any p w) _ (none_in p h w (bytes_of w (first_holds (is_plain w) _ e))) (none_spaced ws (second_holds (is_plain w) _ e))
+  none_joined (w ∷ ws) e = list_any-append p w (spaced ws) ∙ or_from (list_any p w) _ (none_in p h w (bytes_of w (left_holds (is_plain w) _ e))) (none_spaced ws (right_holds (is_plain w) _ e))
 
 plain_known : (b : ℕ) → is_plain_byte b ≡ true → is_foreign b ≡ false
 plain_known b e = grind (arith, nat_tests)

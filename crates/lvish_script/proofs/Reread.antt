@@ -1,5 +1,5 @@
 -- What the words of a line that is written say: the line.
-use Rattle.std.proofs.Common.{◌≡◌, ℕ, suc, Bool, true, false, cond, ◌&&◌, List, [], ◌∷◌, ◌++◌, length, map, drop, Option, Some, None, refl, sym, ap, ◌∙◌, arith}
+use Rattle.std.proofs.Common.{◌≡◌, Bool, true, false, cond, ◌&&◌, List, [], ◌∷◌, ◌++◌, length, map, drop, Option, Some, None, refl, sym, ap, ◌∙◌}
 use Rattle.std.specs.Prelude.{codes, ◌==◌, take_while, ℤ, if◌then◌else◌}
 use Rattle.std.specs.Option.{option_map}
 use Rattle.std.specs.List.{list_all}
@@ -8,30 +8,17 @@ use Rattle.std.proofs.lemmas.Slice.Eq.{bytes_eq-Decides}
 use Rattle.std.proofs.Math.Seq.{drop-append_seam}
 use Rattle.std.proofs.lemmas.List.{append-nil}
 use Rattle.std.proofs.lemmas.List.Sums.{take_while-cons}
-use Rattle.std.proofs.lemmas.Bool.Decides.{nat_tests}
 use Rattle.std.specs.Fmt.{signed_decimal}
 use Rattle.lvish_syntax.specs.Words.{Word, is_name}
 use Rattle.lvish_syntax.specs.Written.{is_within, is_term_written, is_value_written, is_threshold_written, are_members_written, is_command_written}
-use Rattle.lvish_syntax.specs.declared.kind.SimpleKind.{SimpleKind}
-use Rattle.lvish_syntax.specs.declared.kind.SimpleKind.TheVariants.{Cell, Set, Max}
-use Rattle.lvish_syntax.specs.declared.kind.VariableKind.TheVariants.{Simple, Map, Pair, Tally}
-use Rattle.lvish_syntax.specs.declared.operator.Operator.{Operator}
-use Rattle.lvish_syntax.specs.declared.operator.Operator.TheVariants.{Add, Subtract, Multiply, Divide, Remainder, Less, Equal}
-use Rattle.lvish_syntax.specs.declared.term.Term.{Term}
-use Rattle.lvish_syntax.specs.declared.let_value.LetValue.{LetValue}
-use Rattle.lvish_syntax.specs.declared.let_value.LetValue.TheVariants.{Same, Combined}
-use Rattle.lvish_syntax.specs.declared.threshold.Threshold.{Threshold}
-use Rattle.lvish_syntax.specs.declared.threshold.Threshold.TheVariants.{Any, In, Has, Least, Total}
-use Rattle.lvish_syntax.specs.declared.declaration.Declaration.TheVariants.{Variable, Pool}
-use Rattle.lvish_syntax.specs.declared.command.Command.{Command}
-use Rattle.lvish_syntax.specs.declared.command.Command.TheVariants.{Let, Put, PutAt, Get, GetAt, Fork, Call, Handle, Freeze, FreezeEach}
-use Rattle.lvish_checks.specs.declared.line.Line.{Line}
+use Rattle.lvish_script.specs.Vocabulary.{SimpleKind, Cell, Set, Max, Simple, Map, Pair, Tally, Operator, Add, Subtract, Multiply, Divide, Remainder, Less, Equal, Term, LetValue, Same, Combined, Threshold, Any, In, Has, Least, Total, Variable, Pool, Command, Let, Put, PutAt, Get, GetAt, Fork, Call, Handle, Freeze, FreezeEach, Line}
 use Rattle.lvish_checks.specs.declared.line.Line.TheVariants as line
 use Rattle.lvish_checks.specs.Form.{term_of, number_word, only, operator_of, value_of, threshold_of, get_of, freeze_each, freeze_after, freeze_of, simple_kind, variable_line, pair_line, pool_line, proc_line, let_line, put_line, get_line, run_line, handle_line, freeze_line, block_line, bare_line, version_line, line_of}
 use Rattle.lvish_checks.specs.Spelling.{term_word, kind_word, operator_word, value_words, threshold_words, pool_words, command_words, line_words}
-use Rattle.lvish_script.proofs.Bodies.{first_holds, second_holds}
 use Rattle.lvish_checks.proofs.Meanings.{is_line_written}
+use Rattle.lvish_checks.proofs.Spelled.{not_nil}
 use Rattle.lvish_script.proofs.Plain.{term_back, word_back, all_back}
+use Rattle.lvish_checks.proofs.Cuts.{left_holds, right_holds}
 
 -- ---- parts of lines
 
@@ -51,10 +38,7 @@ operator_back Equal = refl
 
 value_back : (v : LetValue) → is_value_written v ≡ true → value_of (value_words v) ≡ Some v
 value_back (Same t) e = rw (term_back t e) refl
-value_back (Combined a o b) e = rw (term_back a (first_holds (is_term_written a) _ e), operator_back o, term_back b (second_holds (is_term_written a) _ e)) refl
-
-not_nil : (n : ℕ) → (suc n == 0) ≡ false
-not_nil n = grind (arith, nat_tests)
+value_back (Combined a o b) e = rw (term_back a (left_holds (is_term_written a) _ e), operator_back o, term_back b (right_holds (is_term_written a) _ e)) refl
 
 members_back : (zs : List ℤ) → are_members_written zs ≡ true → threshold_of (codes "in" ∷ map signed_decimal zs) ≡ Some (In zs)
 members_back [] e = absurd cc
@@ -115,8 +99,8 @@ get_at_back x v k r e f = rw (no_threshold (term_word k) k r (term_back k e), te
 names_before : (ps rest : List Word) → list_all is_name ps ≡ true → take_while is_name rest ≡ [] → take_while is_name (ps ++ rest) ≡ ps
 names_before [] rest e f = f
 names_before (p ∷ ps) rest e f =
-    take_while-cons is_name p (ps ++ rest) ∙ ap (λ b. cond b (p ∷ take_while is_name (ps ++ rest)) []) (first_holds (is_name p) _ e)
-    ∙ ap (λ t. p ∷ t) (names_before ps rest (second_holds (is_name p) _ e) f)
+    take_while-cons is_name p (ps ++ rest) ∙ ap (λ b. cond b (p ∷ take_while is_name (ps ++ rest)) []) (left_holds (is_name p) _ e)
+    ∙ ap (λ t. p ∷ t) (names_before ps rest (right_holds (is_name p) _ e) f)
 
 after_back : (x v p : Word) (ps rest : List Word) → list_all is_name (p ∷ ps) ≡ true → take_while is_name rest ≡ [] → freeze_after x v ((p ∷ ps) ++ rest) ≡ freeze_each x v (p ∷ ps) rest
 after_back x v p ps rest e f =
@@ -145,22 +129,22 @@ run_back f n ts e g = rw (e, all_back term_of term_word is_term_written term_bac
 
 command_back : (c : Command) → is_command_written c ≡ true → line_of (command_words c) ≡ line.Do c
 unfolding let_line put_line get_line handle_line freeze_line
-command_back (Let x v) e = rw (first_holds (is_name x) _ e, value_back v (second_holds (is_name x) _ e)) refl
-command_back (Put v t) e = rw (first_holds (is_name v) _ e, term_back t (second_holds (is_name v) _ e)) refl
+command_back (Let x v) e = rw (left_holds (is_name x) _ e, value_back v (right_holds (is_name x) _ e)) refl
+command_back (Put v t) e = rw (left_holds (is_name v) _ e, term_back t (right_holds (is_name v) _ e)) refl
 command_back (PutAt v k t) e =
-    let both = second_holds (is_name v) _ e in
-    rw (first_holds (is_name v) _ e, term_back k (first_holds (is_term_written k) _ both), term_back t (second_holds (is_term_written k) _ both)) refl
-command_back (Get x v r) e = rw (first_holds (is_name x && is_name v) _ e, get_back x v r (second_holds (is_name x && is_name v) _ e)) refl
+    let both = right_holds (is_name v) _ e in
+    rw (left_holds (is_name v) _ e, term_back k (left_holds (is_term_written k) _ both), term_back t (right_holds (is_term_written k) _ both)) refl
+command_back (Get x v r) e = rw (left_holds (is_name x && is_name v) _ e, get_back x v r (right_holds (is_name x && is_name v) _ e)) refl
 command_back (GetAt x v k r) e =
-    let both = second_holds (is_name x && is_name v) _ e in
-    rw (first_holds (is_name x && is_name v) _ e, get_at_back x v k r (first_holds (is_term_written k) _ both) (second_holds (is_term_written k) _ both)) refl
-command_back (Fork n ts) e = run_back (λ n ts. Fork n ts) n ts (first_holds (is_name n) _ e) (second_holds (is_name n) _ e)
-command_back (Call n ts) e = run_back (λ n ts. Call n ts) n ts (first_holds (is_name n) _ e) (second_holds (is_name n) _ e)
+    let both = right_holds (is_name x && is_name v) _ e in
+    rw (left_holds (is_name x && is_name v) _ e, get_at_back x v k r (left_holds (is_term_written k) _ both) (right_holds (is_term_written k) _ both)) refl
+command_back (Fork n ts) e = run_back (λ n ts. Fork n ts) n ts (left_holds (is_name n) _ e) (right_holds (is_name n) _ e)
+command_back (Call n ts) e = run_back (λ n ts. Call n ts) n ts (left_holds (is_name n) _ e) (right_holds (is_name n) _ e)
 command_back (Handle p n) e = rw e refl
-command_back (Freeze x v ps) e = rw (first_holds (is_name x && is_name v) _ e, freeze_back x v ps (second_holds (is_name x && is_name v) _ e)) refl
+command_back (Freeze x v ps) e = rw (left_holds (is_name x && is_name v) _ e, freeze_back x v ps (right_holds (is_name x && is_name v) _ e)) refl
 command_back (FreezeEach x v ps n) e =
-    let both = second_holds (is_name x && is_name v) _ e in
-    rw (first_holds (is_name x && is_name v) _ e, freeze_each_back x v ps n (first_holds (list_all is_name ps) _ both) (second_holds (list_all is_name ps) _ both)) refl
+    let both = right_holds (is_name x && is_name v) _ e in
+    rw (left_holds (is_name x && is_name v) _ e, freeze_each_back x v ps n (left_holds (list_all is_name ps) _ both) (right_holds (list_all is_name ps) _ both)) refl
 
 -- a line of a script is neither blank nor bad
 abbrev pub is_good : Line → Bool

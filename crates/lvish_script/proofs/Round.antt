@@ -3,10 +3,8 @@ use Rattle.std.proofs.Common.{◌≡◌, ℕ, ◌≤◌, true, false, List, ◌+
 use Rattle.std.specs.Prelude.{filter, nat_lt}
 use Rattle.std.specs.List.{list_all}
 use Rattle.std.proofs.lemmas.Bool.Decides.{nat_tests}
-use Rattle.lvish_syntax.specs.declared.version.Version.{Version}
-use Rattle.lvish_syntax.specs.declared.version.Version.TheVariants.{One, Two}
+use Rattle.lvish_script.specs.Vocabulary.{Version, One, Two, Line}
 use Rattle.lvish_syntax.specs.declared.script.Script.{Script}
-use Rattle.lvish_checks.specs.declared.line.Line.{Line}
 use Rattle.lvish_checks.specs.Checks.{IsAccepted, parts_of, version_of}
 use Rattle.lvish_checks.specs.Text.{words_of}
 use Rattle.lvish_checks.specs.Form.{line_of}

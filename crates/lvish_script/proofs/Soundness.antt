@@ -13,19 +13,11 @@ use Rattle.lvish_syntax.specs.Name.{has_name, has_repeat, is_known}
 use Rattle.lvish_syntax.specs.Nested.{statements, all_depth}
 use Rattle.lvish_syntax.specs.Written.{is_declaration_written, is_own_written, is_procedure_written}
 use Rattle.lvish_syntax.specs.Version.{is_name_in, is_declaration_in, is_own_in, is_procedure_in}
-use Rattle.lvish_syntax.specs.declared.version.Version.{Version}
+use Rattle.lvish_script.specs.Vocabulary.{Version, Declaration, Variable, Pool, Procedure, Block, Statement, Line, Declare, Proc, Do, If, While, End, InProcedure}
 use Rattle.lvish_syntax.specs.Sound as sound
 use Rattle.lvish_syntax.specs.Sound.{IsSound, variable_name, variable_names, pool_name, procedure_names, own_binds, locals_of, is_pool_known, is_own_sound, is_procedure_sound}
-use Rattle.lvish_syntax.specs.declared.declaration.Declaration.{Declaration}
-use Rattle.lvish_syntax.specs.declared.declaration.Declaration.TheVariants.{Variable, Pool}
-use Rattle.lvish_syntax.specs.declared.procedure.Procedure.{Procedure}
-use Rattle.lvish_syntax.specs.declared.statement.Block.{Block}
-use Rattle.lvish_syntax.specs.declared.statement.Statement.{Statement}
 use Rattle.lvish_syntax.specs.declared.statement.Statement.TheOpen as o
-use Rattle.lvish_checks.specs.declared.line.Line.{Line}
-use Rattle.lvish_checks.specs.declared.line.Line.TheVariants.{Declare, Proc, Do, If, While, End}
 use Rattle.lvish_checks.specs.Checks.{has_procedure, is_main, is_procedure, declares_again, binds, binds_until_procedure, locals_after, locals_step, is_line_in, command_unknown, command_misfits, command_mixes, open_after}
-use Rattle.lvish_checks.specs.declared.open_blocks.Opener.TheVariants.{Procedure as InProcedure}
 use Rattle.lvish_script.specs.Spells.{body_lines, procedure_lines, script_lines}
 use Rattle.lvish_checks.proofs.Cuts.{left_fails, right_fails, same_name, all_by_cut, none_by_cut, few_by_cut, differ_by_cut}
 use Rattle.lvish_script.proofs.Cleaned.{Fine, locals_in}

@@ -2,11 +2,9 @@
 use Rattle.std.proofs.Common.{◌≡◌, ℕ, Bool, true, false, List, [], ◌∷◌, ◌++◌, refl, sym, ap, ◌∙◌, append_assoc}
 use Rattle.std.specs.List.{AllZip, flat_map}
 use Rattle.lvish_syntax.specs.Nested.{statements}
-use Rattle.lvish_syntax.specs.declared.declaration.Declaration.{Declaration}
-use Rattle.lvish_syntax.specs.declared.procedure.Procedure.{Procedure}
+use Rattle.lvish_script.specs.Vocabulary.{Declaration, Procedure, Line}
 use Rattle.lvish_syntax.specs.declared.statement.Statement.{Statement, Do, If', IfElse', While', Row_of-Statement, end_of-Statement, more_of-Statement}
 use Rattle.lvish_syntax.specs.declared.script.Script.{Script}
-use Rattle.lvish_checks.specs.declared.line.Line.{Line}
 use Rattle.lvish_checks.specs.declared.line.Line.TheVariants as line
 use Rattle.lvish_script.specs.Spells.{statement_lines, row_lines, body_lines, procedure_lines, script_lines, Spells}
 use Rattle.lvish_script.specs.Same.{IsSame, AreSame, IsSameProcedure}

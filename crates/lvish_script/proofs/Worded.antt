@@ -7,14 +7,11 @@ use Rattle.std.proofs.Math.Bool.{or-true, or-false}
 use Rattle.std.proofs.lemmas.Bool.{and_from}
 use Rattle.std.proofs.lemmas.List.{append-nil}
 use Rattle.std.proofs.lemmas.List.Folds.{list_any-append}
-use Rattle.lvish_syntax.specs.Words.{Word}
+use Rattle.lvish_script.specs.Vocabulary.{Word, Line, Blank, Bad, Versioned, BadLine}
 use Rattle.lvish_syntax.specs.declared.script.Script.{Script}
-use Rattle.lvish_checks.specs.declared.line.Line.{Line}
-use Rattle.lvish_checks.specs.declared.line.Line.TheVariants.{Blank, Bad, Version as Versioned}
 use Rattle.lvish_checks.specs.Form.{is_bad_number, line_of}
 use Rattle.lvish_checks.specs.Checks.{line_fails, is_out_of_place, is_told, is_nil, version_of, parts_of}
 use Rattle.lvish_checks.specs.Spelling.{line_words, Agree}
-use Rattle.lvish_checks.specs.declared.fault.Fault.TheVariants.{BadLine}
 use Rattle.lvish_checks.proofs.Cuts.{left_fails, right_fails}
 use Rattle.lvish_checks.proofs.Spelled.{its_words}
 use Rattle.lvish_script.specs.Spells.{Spells, version_lines, says_something}

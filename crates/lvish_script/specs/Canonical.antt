@@ -1,9 +1,8 @@
 -- The canonical text of a script.
 use Rattle.std.specs.Prelude.{ℕ, not, List, [], ◌∷◌, ◌++◌, map, filter}
 use Rattle.std.specs.List.{flat_map}
-use Rattle.lvish_syntax.specs.Words.{Word}
+use Rattle.lvish_script.specs.Vocabulary.{Word, Line}
 use Rattle.lvish_syntax.specs.declared.script.Script.{Script}
-use Rattle.lvish_checks.specs.declared.line.Line.{Line}
 use Rattle.lvish_checks.specs.Checks.{parts_of, is_nil}
 use Rattle.lvish_checks.specs.Spelling.{line_words}
 use Rattle.lvish_script.specs.Spells.{version_lines, script_lines}

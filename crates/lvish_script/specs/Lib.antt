@@ -1,3 +1,4 @@
+pub mod Vocabulary
 pub mod Spells
 pub mod Same
 pub mod Nested

@@ -1,17 +1,14 @@
 -- A script that is being put together from its lines.
 use Rattle.std.specs.Prelude.{◌≡◌, false, List, [], ◌∷◌, ◌++◌, map, reverse, Option, Some, None}
 use Rattle.std.specs.List.{flat_map}
-use Rattle.lvish_syntax.specs.declared.procedure.Procedure.{Procedure}
+use Rattle.lvish_script.specs.Vocabulary.{Procedure, Line, Opener, InProcedure, InIf, InElse, InWhile}
 use Rattle.lvish_syntax.specs.Nested.{statements}
-use Rattle.lvish_checks.specs.declared.line.Line.{Line}
 use Rattle.lvish_checks.specs.declared.line.Line.TheVariants as line
 use Rattle.lvish_script.specs.declared.open.OpenBlock.{OpenBlock}
 use Rattle.lvish_script.specs.declared.open.OpenBlock.TheVariants.{If, Else, While}
 use Rattle.lvish_script.specs.declared.nest.OpenProcedure.{OpenProcedure}
 use Rattle.lvish_script.specs.declared.nest.Draft.{Draft}
 use Rattle.lvish_checks.specs.Checks.{is_misplaced}
-use Rattle.lvish_checks.specs.declared.open_blocks.Opener.{Opener}
-use Rattle.lvish_checks.specs.declared.open_blocks.Opener.TheVariants.{Procedure as InProcedure, If as InIf, Else as InElse, While as InWhile}
 use Rattle.lvish_script.specs.Spells.{body_lines, procedure_lines}
 
 -- the lines of an open block as far as they were read

@@ -1,18 +1,12 @@
 -- Which script a text spells.
 use Rattle.std.specs.Prelude.{◌≡◌, ◌⊎◌, ℕ, Bool, true, false, List, [], ◌∷◌, ◌++◌, map, filter}
 use Rattle.std.specs.List.{flat_map}
-use Rattle.lvish_syntax.specs.declared.version.Version.{Version}
-use Rattle.lvish_syntax.specs.declared.version.Version.TheVariants.{One, Two}
-use Rattle.lvish_syntax.specs.declared.declaration.Declaration.{Declaration}
+use Rattle.lvish_script.specs.Vocabulary.{Version, One, Two, Declaration, Procedure, Line, ScriptFault, Memory}
 use Rattle.lvish_syntax.specs.declared.statement.Statement.{Statement, Do, If', IfElse', While', Row_of-Statement, end_of-Statement, more_of-Statement}
-use Rattle.lvish_syntax.specs.declared.procedure.Procedure.{Procedure}
 use Rattle.lvish_syntax.specs.declared.script.Script.{Script}
 use Rattle.lvish_syntax.specs.Nested.{statements}
-use Rattle.lvish_checks.specs.declared.line.Line.{Line}
 use Rattle.lvish_checks.specs.declared.line.Line.TheVariants as line
 use Rattle.lvish_checks.specs.Checks.{parts_of, version_of, IsAccepted, IsFirstFault}
-use Rattle.lvish_checks.specs.declared.script_fault.ScriptFault.{ScriptFault}
-use Rattle.lvish_checks.specs.declared.fault.Fault.TheVariants.{Memory}
 
 abbrev mutual
   -- the lines of a statement, from its first to its end

@@ -1,6 +1,6 @@
-ghost use Rattle.std.specs.Prelude.{◌≡◌, ◌++◌, ◌∷◌, [], ℕ, false, true, filter, Some, None, IfOk};
+ghost use Rattle.std.specs.Prelude.{◌≡◌, ◌++◌, ◌∷◌, [], ℕ, false, true, filter, Some, None, IfOk, OnOk, if◌then◌else◌};
 ghost use Rattle.std.specs.List.{flat_map};
-ghost use Rattle.lvish_checks.specs.Checks.{on_line, line_fails, declared_by, open_step, is_procedure, is_nil, takes_else};
+ghost use Rattle.lvish_checks.specs.Checks.{on_line, line_fails, open_step, is_procedure, is_nil, takes_else};
 ghost use Rattle.lvish_checks.specs.declared.fault.Fault.TheVariants.{BadLine, OpenBlock as UnclosedBlock};
 ghost use Rattle.lvish_script.specs.Spells.{script_lines, statement_lines, procedure_lines, says_something};
 ghost use Rattle.lvish_script.specs.Nested.{block_lines, opener, opened_lines, open_lines, draft_lines, openers, what_is_said, HasNone, TakesLine};
@@ -45,10 +45,10 @@ impl OpenProcedure {
         }
     }
 
-    /// With a further statement in the innermost block.
-    fn with(mut self, statement: Statement) -> Result<OpenProcedure, AllocError>
-        ensures lines { IfOk result (λ o. opened_lines o ≡ opened_lines self ++ statement_lines statement) }
-        ensures openers { IfOk result (λ o. openers (Some o) ≡ openers (Some self)) }
+    /// Adds a statement to the innermost block.
+    fn add(&mut self, statement: Statement) -> Result<(), AllocError>
+        ensures lines { OnOk result (opened_lines self.new ≡ opened_lines self.old ++ statement_lines statement) }
+        ensures openers { OnOk result (openers (Some self.new) ≡ openers (Some self.old)) }
     {
         match self.blocks.pop() {
             None => add_statement(&mut self.procedure.body, statement)?,
@@ -57,95 +57,57 @@ impl OpenProcedure {
                 self.blocks.push(block)?;
             }
         }
-        Ok(self)
+        Ok(())
     }
 
-    /// With a further block in the innermost one.
-    fn open(mut self, block: OpenBlock) -> Result<OpenProcedure, AllocError>
-        ensures lines { IfOk result (λ o. opened_lines o ≡ opened_lines self ++ block_lines block) }
-        ensures openers { IfOk result (λ o. openers (Some o) ≡ opener block ∷ openers (Some self)) }
+    /// Opens a block in the innermost one.
+    fn open(&mut self, block: OpenBlock) -> Result<(), AllocError>
+        ensures lines { OnOk result (opened_lines self.new ≡ opened_lines self.old ++ block_lines block) }
+        ensures openers { OnOk result (openers (Some self.new) ≡ opener block ∷ openers (Some self.old)) }
     {
         self.blocks.push(block)?;
-        Ok(self)
+        Ok(())
     }
 
-    /// With the second part of the innermost block, an `if` before its `else`.
-    fn turned(mut self, alloc: Global) -> Result<OpenProcedure, AllocError>
-        requires { takes_else (openers (Some self)) ≡ true }
-        ensures lines { IfOk result (λ o. opened_lines o ≡ opened_lines self ++ line.Else ∷ []) }
-        ensures openers { IfOk result (λ o. openers (Some o) ≡ open_step (openers (Some self)) line.Else) }
+    /// Goes on with the second part of the innermost block, an `if` before its `else`.
+    fn turn(&mut self, alloc: Global) -> Result<(), AllocError>
+        requires { takes_else (openers (Some self.old)) ≡ true }
+        ensures lines { OnOk result (opened_lines self.new ≡ opened_lines self.old ++ line.Else ∷ []) }
+        ensures openers { OnOk result (openers (Some self.new) ≡ open_step (openers (Some self.old)) line.Else) }
     {
         let Some(OpenBlock::If(test, first)) = self.blocks.pop() else {
             unreachable!()
         };
         self.blocks
             .push(OpenBlock::Else(test, first, empty(alloc)))?;
-        Ok(self)
+        Ok(())
     }
 
-    /// With the end of the innermost block; at the end of the procedure itself, it is one of the
-    /// procedures.
-    fn ended(self, procedures: &mut Vec<Procedure>) -> Result<Option<OpenProcedure>, AllocError>
-        ensures lines { IfOk result (λ o. flat_map procedure_lines procedures.new.items ++ open_lines o ≡ (flat_map procedure_lines procedures.old.items ++ opened_lines self) ++ line.End ∷ []) }
-        ensures openers { IfOk result (λ o. openers o ≡ open_step (openers (Some self)) line.End) }
+    /// Ends the innermost block, where one is open in the procedure, and says whether one was.
+    fn close(&mut self) -> Result<bool, AllocError>
+        ensures lines { IfOk result (λ closed. opened_lines self.new ≡ opened_lines self.old ++ (if closed then line.End ∷ [] else [])) }
+        ensures openers { IfOk result (λ closed. openers (Some self.new) ≡ (if closed then open_step (openers (Some self.old)) line.End else openers (Some self.old))) }
+        ensures last { IfOk result (λ closed. closed ≡ false → self.new.blocks.items ≡ []) }
+    {
+        match self.blocks.pop() {
+            None => Ok(false),
+            Some(block) => {
+                self.add(block.closed())?;
+                Ok(true)
+            }
+        }
+    }
+
+    /// The procedure at its end, where no block is open in it.
+    fn into_procedure(self) -> Procedure
+        requires { self.blocks.items ≡ [] }
+        ensures { procedure_lines result ≡ opened_lines self ++ line.End ∷ [] }
     {
         let OpenProcedure {
             procedure,
-            mut blocks,
+            blocks: _,
         } = self;
-        match blocks.pop() {
-            None => {
-                procedures.push(procedure)?;
-                Ok(None)
-            }
-            Some(block) => {
-                let opened = OpenProcedure { procedure, blocks };
-                Ok(Some(opened.with(block.closed())?))
-            }
-        }
-    }
-}
-
-/// What is open, where something is.
-fn inside(opened: Option<OpenProcedure>) -> OpenProcedure
-    requires { is_nil (openers opened) ≡ false }
-    ensures { opened ≡ Some result }
-{
-    match opened {
-        Some(opened) => opened,
-        None => unreachable!(),
-    }
-}
-
-/// What is open after a line that declares no variable and no pool.
-fn opened_after(
-    alloc: Global,
-    opened: Option<OpenProcedure>,
-    procedures: &mut Vec<Procedure>,
-    line: Line,
-) -> Result<Option<OpenProcedure>, AllocError>
-    requires takes { TakesLine procedures.old.items opened line }
-    requires declares { declared_by line ≡ [] }
-    ensures lines { IfOk result (λ o. flat_map procedure_lines procedures.new.items ++ open_lines o ≡ (flat_map procedure_lines procedures.old.items ++ open_lines opened) ++ what_is_said line) }
-    ensures openers { IfOk result (λ o. openers o ≡ open_step (openers opened) line) }
-    ensures none { is_procedure line ≡ false → HasNone procedures.old.items opened → IfOk result (λ o. HasNone procedures.new.items o) }
-{
-    match line {
-        Line::Blank | Line::Version => Ok(opened),
-        Line::Bad | Line::Declare(_) => unreachable!(),
-        Line::Proc(name, parameters) => Ok(Some(OpenProcedure::begun(
-            alloc,
-            name.into_inner(),
-            parameters.into_inner(),
-        ))),
-        Line::Do(command) => {
-            let statement = Statement::Do(command.into_inner());
-            Ok(Some(inside(opened).with(statement)?))
-        }
-        Line::If(test) => Ok(Some(inside(opened).open(OpenBlock::If(test, empty(alloc)))?)),
-        Line::While(test) => Ok(Some(inside(opened).open(OpenBlock::While(test, empty(alloc)))?)),
-        Line::Else => Ok(Some(inside(opened).turned(alloc)?)),
-        Line::End => inside(opened).ended(procedures),
+        procedure
     }
 }
 
@@ -168,35 +130,88 @@ impl Drop for Draft {
 }
 
 impl Draft {
-    /// With one more line.
-    fn add(self, alloc: Global, line: Line) -> Result<Draft, AllocError>
-        requires { TakesLine self.procedures.items self.opened line }
-        ensures lines { IfOk result (λ d. draft_lines d ≡ draft_lines self ++ what_is_said line) }
-        ensures openers { IfOk result (λ d. openers d.opened ≡ open_step (openers self.opened) line) }
-        ensures none { is_procedure line ≡ false → HasNone self.procedures.items self.opened → IfOk result (λ d. HasNone d.procedures.items d.opened) }
+    /// Adds a statement to what is open.
+    fn add_statement(&mut self, statement: Statement) -> Result<(), AllocError>
+        requires { is_nil (openers self.old.opened) ≡ false }
+        ensures lines { OnOk result (draft_lines self.new ≡ draft_lines self.old ++ statement_lines statement) }
+        ensures openers { OnOk result (openers self.new.opened ≡ openers self.old.opened) }
     {
-        let Draft {
-            mut declarations,
-            mut procedures,
-            opened,
-        } = self;
+        match &mut self.opened {
+            Some(opened) => opened.add(statement),
+            None => unreachable!(),
+        }
+    }
+
+    /// Opens a block in what is open.
+    fn open(&mut self, block: OpenBlock) -> Result<(), AllocError>
+        requires { is_nil (openers self.old.opened) ≡ false }
+        ensures lines { OnOk result (draft_lines self.new ≡ draft_lines self.old ++ block_lines block) }
+        ensures openers { OnOk result (openers self.new.opened ≡ opener block ∷ openers self.old.opened) }
+    {
+        match &mut self.opened {
+            Some(opened) => opened.open(block),
+            None => unreachable!(),
+        }
+    }
+
+    /// Goes on with the second part of the innermost block.
+    fn turn(&mut self, alloc: Global) -> Result<(), AllocError>
+        requires { takes_else (openers self.old.opened) ≡ true }
+        ensures lines { OnOk result (draft_lines self.new ≡ draft_lines self.old ++ line.Else ∷ []) }
+        ensures openers { OnOk result (openers self.new.opened ≡ open_step (openers self.old.opened) line.Else) }
+    {
+        match &mut self.opened {
+            Some(opened) => opened.turn(alloc),
+            None => unreachable!(),
+        }
+    }
+
+    /// Ends the innermost block, or else the procedure.
+    fn end(&mut self) -> Result<(), AllocError>
+        requires { is_nil (openers self.old.opened) ≡ false }
+        ensures lines { OnOk result (draft_lines self.new ≡ draft_lines self.old ++ line.End ∷ []) }
+        ensures openers { OnOk result (openers self.new.opened ≡ open_step (openers self.old.opened) line.End) }
+    {
+        match self.opened.take() {
+            Some(mut opened) => {
+                if opened.close()? {
+                    self.opened = Some(opened);
+                } else {
+                    self.procedures.push(opened.into_procedure())?;
+                }
+                Ok(())
+            }
+            None => unreachable!(),
+        }
+    }
+
+    /// Adds one more line.
+    fn add(&mut self, alloc: Global, line: Line) -> Result<(), AllocError>
+        requires { TakesLine self.old.procedures.items self.old.opened line }
+        ensures lines { OnOk result (draft_lines self.new ≡ draft_lines self.old ++ what_is_said line) }
+        ensures openers { OnOk result (openers self.new.opened ≡ open_step (openers self.old.opened) line) }
+        ensures none { is_procedure line ≡ false → HasNone self.old.procedures.items self.old.opened → OnOk result (HasNone self.new.procedures.items self.new.opened) }
+    {
         match line {
+            Line::Blank | Line::Version => Ok(()),
+            Line::Bad => unreachable!(),
             Line::Declare(declaration) => {
-                declarations.push(declaration.into_inner())?;
-                Ok(Draft {
-                    declarations,
-                    procedures,
-                    opened,
-                })
+                self.declarations.push(declaration.into_inner())?;
+                Ok(())
             }
-            line => {
-                let opened = opened_after(alloc, opened, &mut procedures, line)?;
-                Ok(Draft {
-                    declarations,
-                    procedures,
-                    opened,
-                })
+            Line::Proc(name, parameters) => {
+                self.opened = Some(OpenProcedure::begun(
+                    alloc,
+                    name.into_inner(),
+                    parameters.into_inner(),
+                ));
+                Ok(())
             }
+            Line::Do(command) => self.add_statement(Statement::Do(command.into_inner())),
+            Line::If(test) => self.open(OpenBlock::If(test, empty(alloc))),
+            Line::While(test) => self.open(OpenBlock::While(test, empty(alloc))),
+            Line::Else => self.turn(alloc),
+            Line::End => self.end(),
         }
     }
 
@@ -214,12 +229,6 @@ impl Draft {
     }
 }
 
-fn says_something(line: &Line) -> bool
-    ensures { result ≡ says_something line.now }
-{
-    !matches!(line, Line::Blank | Line::Version)
-}
-
 /// The declarations and procedures with these lines.
 pub fn nest(alloc: Global, said: Vec<Line>) -> Result<(Declarations, Procedures), AllocError>
     requires placed { (l : ℕ) → on_line (line_fails BadLine said.items) said.items l ≡ false }
@@ -232,9 +241,7 @@ pub fn nest(alloc: Global, said: Vec<Line>) -> Result<(Declarations, Procedures)
         opened: None,
     };
     for line in said {
-        if says_something(&line) {
-            draft = draft.add(alloc, line)?;
-        }
+        draft.add(alloc, line)?;
     }
     Ok(draft.ended())
 }

@@ -21,6 +21,10 @@ pub fn empty(alloc: Global) -> Block
 pub fn add_statement(block: &mut Block, statement: Statement) -> Result<(), AllocError>
     ensures { OnOk result (body_lines (statements block.new) ≡ body_lines (statements block.old) ++ statement_lines statement) }
 {
+    if block.items.is_empty() {
+        // A block is often one statement: no room for more is taken before there are more.
+        block.items.reserve_exact(1)?;
+    }
     block.items.push(statement)?;
     Ok(())
 }

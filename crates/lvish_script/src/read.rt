@@ -8,8 +8,8 @@ ghost use Rattle.lvish_script.specs.Spells.{Spells, IsTextRefused};
 
 use crate::nest::nest;
 use lvish_checks::{
-    Fault, Line, ScriptFault, first_bad_number, first_fault, line_of, lines_of, version_of,
-    words_of,
+    Fault, Line, ScriptFault, first_bad_number, first_fault, line_of, lines_of, put_words,
+    version_of,
 };
 use lvish_syntax::{MOST_BYTES, Script};
 use std::alloc::{AllocError, Global};
@@ -21,17 +21,18 @@ fn is_too_long(text: &[u8]) -> bool
 }
 
 /// What a line says, and the line that was found before, or else this one, where one of its words is a
-/// number word that is no number. Its words are kept no longer than it takes to read them.
-fn said_by(
+/// number word that is no number. Its words stand in the place of those of the line before.
+fn said_by<'a>(
     alloc: Global,
-    line: &[u8],
+    words: &mut Vec<&'a [u8]>,
+    line: &'a [u8],
     bad_number: Option<usize>,
     number: usize,
 ) -> Result<(Line, Option<usize>), AllocError>
     ensures line { IfOk result (λ r. r.0 ≡ line_of (words_of line.now)) }
     ensures bad_number { IfOk result (λ r. r.1 ≡ option_or bad_number (if list_any is_bad_number (words_of line.now) then Some number else None)) }
 {
-    let words = words_of(alloc, line)?;
+    put_words(words, line)?;
     let words = words.as_slice();
     Ok((
         line_of(alloc, words)?,
@@ -44,10 +45,11 @@ fn said(alloc: Global, lines: &[&[u8]]) -> Result<(Vec<Line>, Option<usize>), Al
     ensures lines { IfOk result (λ r. r.0.items ≡ map line_of (map (λ line. words_of line.now) lines.now)) }
     ensures bad_number { IfOk result (λ r. IsFirstOn (on_line (λ k words. list_any is_bad_number words) (map (λ line. words_of line.now) lines.now)) r.1) }
 {
-    let mut said = Vec::new(alloc);
+    let mut said = Vec::with_capacity(alloc, lines.len())?;
+    let mut words = Vec::new(alloc);
     let mut bad_number = None;
     for k in 0..lines.len() {
-        let (line, found) = said_by(alloc, lines[k], bad_number, k + 1)?;
+        let (line, found) = said_by(alloc, &mut words, lines[k], bad_number, k + 1)?;
         said.push(line)?;
         bad_number = found;
     }

@@ -1,6 +1,6 @@
-ghost use Rattle.std.specs.Prelude.{◌≡◌};
+ghost use Rattle.std.specs.Prelude.{◌≡◌, not};
 ghost use Rattle.std.specs.List.{list_any};
-ghost use Rattle.lvish_checks.specs.Checks.{is_main};
+ghost use Rattle.lvish_checks.specs.Checks.{is_main, on_whole, IsFirstOn};
 
 use crate::line::Line;
 
@@ -16,8 +16,15 @@ fn is_main(line: &Line) -> bool
 }
 
 /// Whether a procedure `main` without parameters is declared.
-pub fn has_main(lines: &[Line]) -> bool
+fn has_main(lines: &[Line]) -> bool
     ensures { result ≡ list_any is_main lines.now }
 {
     lines.iter().any(|line| is_main(line))
+}
+
+/// Line 0, where no procedure `main` without parameters is declared.
+pub fn first_no_main(lines: &[Line]) -> Option<usize>
+    ensures { IsFirstOn (on_whole (not (list_any is_main lines.now))) result }
+{
+    if has_main(lines) { None } else { Some(0) }
 }

@@ -13,12 +13,7 @@ use std::alloc::{AllocError, Global};
 fn are_names(words: &[&[u8]]) -> bool
     ensures { result ≡ list_all is_name (map (λ w. w.now) words.now) }
 {
-    for word in words {
-        if !is_name(word) {
-            return false;
-        }
-    }
-    true
+    words.iter().all(|word| is_name(word))
 }
 
 /// The names that words write.

@@ -11,12 +11,10 @@ use Rattle.std.proofs.lemmas.List.Sums.{fold-append}
 use Rattle.std.proofs.lemmas.List.{append-nil, length-append}
 use Rattle.std.proofs.lemmas.Bool.{or_parts, cond_both, cond-true, cond-false}
 use Rattle.std.proofs.lemmas.Bool.Decides.{Decides-eqb}
-use Rattle.lvish_syntax.specs.Words.{Word}
 use Rattle.lvish_syntax.specs.Name.{has_name, has_repeat}
 use Rattle.lvish_syntax.specs.Nested.{statements}
 use Rattle.lvish_syntax.specs.Sound.{variable_names, pool_names, procedure_names, kind_of, variable_of, binds, locals_of, takes}
-use Rattle.lvish_code.specs.Vocabulary.{Declaration, Procedure}
-use Rattle.lvish_syntax.specs.declared.declaration.Declaration.TheVariants.{Variable, Pool}
+use Rattle.lvish_code.specs.Vocabulary.{Word, Variable, Pool, Declaration, Procedure}
 use Rattle.lvish_code.specs.Numbering.{name_number, with_name, each_once}
 use Rattle.lvish_code.specs.Compile.{local_names, variable_kinds, pool_variables}
 use Rattle.lvish_code.specs.laws.Lists.{get_found}

@@ -3,10 +3,9 @@ use Rattle.std.proofs.Common.{◌≡◌, List, [], ◌∷◌, ◌++◌, refl, sy
 use Rattle.std.specs.List.{flat_map}
 use Rattle.std.proofs.lemmas.List.{append-nil}
 use Rattle.std.proofs.lemmas.Grind.{flat_map-append}
-use Rattle.lvish_syntax.specs.Words.{Word}
 use Rattle.lvish_syntax.specs.Nested.{statements, nested, row_nested, all_nested}
 use Rattle.lvish_syntax.specs.Sound.{own_binds, command_binds, binds}
-use Rattle.lvish_code.specs.Vocabulary.{Term, Block, Statement, out-Statement, Operand, Instruction}
+use Rattle.lvish_code.specs.Vocabulary.{Word, Term, Block, Statement, out-Statement, Operand, Instruction}
 use Rattle.lvish_syntax.specs.declared.statement.Statement.{Do, If', IfElse', While', Row_of-Statement, end_of-Statement, more_of-Statement, items-the_row-Statement, items_shown-the_row-Statement-0}
 use Rattle.lvish_syntax.specs.declared.statement.Statement.TheOpen as o
 use Rattle.lvish_syntax.specs.declared.statement.Statement.TheViews.{outs-Do, outs-If', outs-IfElse', outs-While', outs-If, outs-IfElse, outs-While}

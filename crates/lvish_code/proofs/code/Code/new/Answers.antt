@@ -1,7 +1,6 @@
 use Rattle.std.proofs.Common.{◌≡◌, List, ap, ◌∙◌, codes, map}
-use Rattle.lvish_syntax.specs.Words.{Word}
 use Rattle.lvish_syntax.specs.Sound.{variable_names, pool_names, procedure_names}
-use Rattle.lvish_code.specs.Vocabulary.{VariableKind, Declaration, Procedure, Script, Routine}
+use Rattle.lvish_code.specs.Vocabulary.{Word, VariableKind, Declaration, Procedure, Script, Routine}
 use Rattle.lvish_code.specs.declared.tables.Tables.{Tables}
 use Rattle.lvish_code.specs.Numbering.{name_number, each_once}
 use Rattle.lvish_code.specs.Compile.{names_of, local_names, variable_kinds, pool_variables, routine_of}
