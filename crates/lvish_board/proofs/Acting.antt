@@ -1,22 +1,15 @@
 -- What a task's step leaves to a board, over any machine.
 use Rattle.std.proofs.Common.{◌≡◌, inl, inr, ◌<◌, ℕ, true, false, List, [], ◌∷◌, ◌++◌, length, Ordering, Option, Some, None, is_some, option_and_then, refl, sym, ap, subst, ◌∙◌}
+use Rattle.std.proofs.lemmas.Bool.{false≢true}
 use Rattle.lvish_names.specs.NameOrder.{name_cmp, handler_cmp}
-use Rattle.lvish_calculus.specs.declared.label.Label.{Label}
-use Rattle.lvish_calculus.specs.declared.label.Label.TheVariants.{Act}
-use Rattle.lvish_calculus.specs.declared.request.ErrorKind.{ErrorKind}
+use Rattle.lvish_board.specs.Vocabulary.{RunError, Label, Act, ErrorKind, ErrorStep, Moved, TraceEntry, Outcome as Over, ErrorOver, Work}
 use Rattle.lvish_calculus.specs.Machine.{Machine, IsLawful}
 use Rattle.lvish_calculus.specs.Calculus.{Configuration, Running, Error, Effect, Changes, Fails, Nothing, CanStep, after, changed, effect}
 use Rattle.lvish_names.specs.Names.{Name, Handler}
 use Rattle.lvish_calculus.specs.Handing.{IsAmong}
 use Rattle.lvish_picture.specs.Picture.{table_picture}
-use Rattle.lvish_core.specs.declared.fault.Stepped.TheVariants.{Error as ErrorStep}
-use Rattle.lvish_core.specs.declared.moved.Moved.{Moved}
 use Rattle.lvish_core.specs.Core.{CoreView, IsStep, CanTake, at_fault, state}
 use Rattle.lvish_core.specs.Changes.{local_of, moved_in, nothing_moved, brings}
-use Rattle.lvish_board.specs.declared.trace_entry.TraceEntry.{TraceEntry}
-use Rattle.lvish_board.specs.declared.outcome.Outcome.{Outcome as Over}
-use Rattle.lvish_board.specs.declared.outcome.Outcome.TheVariants.{Error as ErrorOver}
-use Rattle.lvish_board.specs.declared.work.Work.{Work}
 use Rattle.lvish_board.specs.Acts.{IsDone, entry_of}
 use Rattle.lvish_board.specs.Left.{option_list, own_ticket, made_ticket}
 use Rattle.lvish_board.specs.Listed.{Concerns, by_handing, by_adding, by_putting, IsListed, acts, handings, own_place, stretches, tickets}
@@ -89,10 +82,6 @@ module _ {P S E R A L : Type 0} (M : Machine S E R A L) (c d : CoreView P S E L)
 
 -- ---- a step that gives none
 
-nothing_there : {X : Type 0} (o : Option X) → o ≡ None → is_some o ≡ true → ⊥
-nothing_there None e z = (let y : ⊥ = cc in y)
-nothing_there (Some x) e z = (let y : ⊥ = cc in y)
-
 own_same : {E L : Type 0} (t : Name E) (own : Option L) → option_list (own_ticket t own) ≡ own_place (Act t) own
 own_same t None = refl
 own_same t (Some l) = refl
@@ -112,7 +101,7 @@ module _ {P S E R A L : Type 0} {M : Machine S E R A L} (ok : IsLawful M) {cmp :
       by : (o : Option L) → o ≡ None → is_some (own_ticket t o) ≡ true → ⊥
       by None e z = (let y : ⊥ = cc in y)
       by (Some l) e z = (let y : ⊥ = cc in y)
-  not_done goes (inr s) = nothing_there d.fault (done_none M c d (Act t) k.step) s
+  not_done goes (inr s) = false≢true (sym (ap (λ (q : Option (RunError E)). is_some q) (done_none M c d (Act t) k.step)) ∙ s)
 
   -- and else has ended
   pub is_done : is_some (own_ticket t moved.own) ≡ false → IsDone M d t

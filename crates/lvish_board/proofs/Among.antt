@@ -1,12 +1,14 @@
 -- What is among lists, and lists in which nothing comes twice.
-use Rattle.std.proofs.Common.{◌≡◌, ◌⊎◌, inl, inr, ℕ, zero, suc, ◌<◌, List, [], ◌∷◌, ◌++◌, length, map, get_or, Contains, Ordering, refl, sym, ap, subst, arith, append_assoc, Less}
+use Rattle.std.proofs.Common.{◌≡◌, ◌⊎◌, inl, inr, List, [], ◌∷◌, ◌++◌, map, Ordering, refl, sym, subst, append_assoc, Less}
 use Rattle.std.specs.Cmp.{IsTotalOrder}
 use Rattle.std.specs.List.{AllByRecursion}
 use Rattle.std.specs.List.Sorted.{IsStrictlySortedBy, IsPermutation}
 use Rattle.std.proofs.lemmas.List.Sorted.{Contains-permutation}
 use Rattle.std.proofs.lemmas.Cmp.{tied_itself}
 use Rattle.lvish_calculus.specs.Handing.{IsAmong, NoRepeats}
+use Rattle.lvish_picture.proofs.Slots.{among, contained}
 use Rattle.lvish_core.specs.laws.Lists.{among_first}
+use Rattle.lvish_core.proofs.Listing.{all_at}
 
 module _ {X : Type 0} where
   -- in two lists with one more between them
@@ -61,42 +63,18 @@ module _ {X : Type 0} where
   once_last [] ys n = n
   once_last (x ∷ xs) ys n = once_last xs ys n.1
 
-  pub contains_among : (x : X) (xs : List X) → IsAmong x xs → Contains xs x
-  contains_among x [] i = absurd i
-  contains_among x (y ∷ ys) (inl e) = (0, omega arith, sym e)
-  contains_among x (y ∷ ys) (inr i) = let r = contains_among x ys i in (suc r.0, omega (arith, r.1), r.2)
-
-  among_place : (x : X) (xs : List X) (k : ℕ) → k < length xs → get_or xs k x ≡ x → IsAmong x xs
-  among_place x [] k lt e = absurd (omega arith)
-  among_place x (y ∷ ys) zero lt e = inl (sym e)
-  among_place x (y ∷ ys) (suc k) lt e = inr (among_place x ys k (omega arith) e)
-
-  pub among_contains : (x : X) (xs : List X) → Contains xs x → IsAmong x xs
-  among_contains x xs c = among_place x xs c.0 c.1 c.2
-
   pub among_permuted : (x : X) (xs ys : List X) → IsPermutation xs ys → IsAmong x xs → IsAmong x ys
-  among_permuted x xs ys p i = among_contains x ys (Contains-permutation xs ys x p (contains_among x xs i))
+  among_permuted x xs ys p i = among ys x (Contains-permutation xs ys x p (contained xs x i))
 
-  pub all_among : (Q : X → Type 0) (xs : List X) → AllByRecursion Q xs → (x : X) → IsAmong x xs → Q x
-  all_among Q [] a x i = absurd i
-  all_among Q (y ∷ ys) a x (inl e) = subst Q (sym e) a.0
-  all_among Q (y ∷ ys) a x (inr i) = all_among Q ys a.1 x i
-
--- an element's value is among the values, and a value is that of an element
-module _ {X Y : Type 0} (f : X → Y) where
-  pub among_map : (x : X) (xs : List X) → IsAmong x xs → IsAmong (f x) (map f xs)
-  among_map x [] i = absurd i
-  among_map x (y ∷ ys) (inl e) = inl (ap f e)
-  among_map x (y ∷ ys) (inr i) = inr (among_map x ys i)
-
-  pub of_map : (y : Y) (xs : List X) → IsAmong y (map f xs) → (x : X) × IsAmong x xs × (f x ≡ y)
-  of_map y [] i = absurd i
-  of_map y (x ∷ xs) (inl e) = (x, inl refl, sym e)
-  of_map y (x ∷ xs) (inr i) = let r = of_map y xs i in (r.0, inr r.1, r.2)
+-- a value is that of an element
+pub of_map : {X Y : Type 0} (f : X → Y) (y : Y) (xs : List X) → IsAmong y (map f xs) → (x : X) × IsAmong x xs × (f x ≡ y)
+of_map f y [] i = absurd i
+of_map f y (x ∷ xs) (inl e) = (x, inl refl, sym e)
+of_map f y (x ∷ xs) (inr i) = let r = of_map f y xs i in (r.0, inr r.1, r.2)
 
 module _ {X : Type 0} {cmp : X → X → Ordering} (o : IsTotalOrder cmp) where
   not_above : (x : X) (xs : List X) → AllByRecursion (λ y. cmp x y ≡ Less) xs → IsAmong x xs → ⊥
-  not_above x xs a i = let less = all_among (λ y. cmp x y ≡ Less) xs a x i in let equal = tied_itself o x in absurd cc
+  not_above x xs a i = let less = all_at (λ y. cmp x y ≡ Less) xs a x i in let equal = tied_itself o x in absurd cc
 
   -- what ascends doesn't repeat
   pub once_ascending : (xs : List X) → IsStrictlySortedBy cmp xs → NoRepeats xs

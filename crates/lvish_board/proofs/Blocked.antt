@@ -5,27 +5,16 @@ use Rattle.std.proofs.lemmas.Bool.{false≢true}
 use Rattle.std.proofs.lemmas.Option.{slice_get_cases, slice_get_past}
 use Rattle.lvish_names.specs.NameOrder.{handler_cmp}
 use Rattle.lvish_names.specs.Names.{Handler}
-use Rattle.lvish_calculus.specs.declared.label.Label.{Label}
-use Rattle.lvish_calculus.specs.declared.label.Label.TheVariants.{Act}
-use Rattle.lvish_calculus.specs.declared.request.Request.{Request}
-use Rattle.lvish_calculus.specs.declared.request.Request.TheVariants.{Get, Freeze}
+use Rattle.lvish_board.specs.Vocabulary.{Label, Act, Request, Get, Freeze, Entry, DoneStep, Touched, PutOn as Put, Handed, EndedIn, Moved, TraceEntry as Step, Outcome as Over, Work}
 use Rattle.lvish_calculus.specs.Machine.{Machine}
 use Rattle.lvish_calculus.specs.Calculus.{Task, Absent, Live, Ended, Configuration, CanStep, IsReady, IsReadyTask}
 use Rattle.lvish_calculus.specs.Handing.{IsAmong, NoRepeats}
-use Rattle.lvish_variable.specs.declared.entry.Entry.{Entry}
 use Rattle.lvish_variable.specs.Variable.{VariableView as Variable}
-use Rattle.lvish_core.specs.declared.fault.Stepped.TheVariants.{Done as DoneStep}
-use Rattle.lvish_core.specs.declared.touched.Touched.{Touched}
-use Rattle.lvish_core.specs.declared.touched.Touched.TheVariants.{Put, Handed, Ended as EndedIn}
 use Rattle.lvish_core.specs.Core.{CoreView, IsRunTo, IsStep, CanTake, state}
-use Rattle.lvish_core.specs.declared.moved.Moved.{Moved}
 use Rattle.lvish_core.specs.Changes.{IsMoved, local_of, brought}
 use Rattle.lvish_core.specs.Spots.{HasSpot, PassesAtItsSpot}
 use Rattle.lvish_core.specs.Waiting.{MayPass, WaitsUntilTouched}
 use Rattle.lvish_core.specs.laws.Runs.{at_state}
-use Rattle.lvish_board.specs.declared.trace_entry.TraceEntry.{TraceEntry as Step}
-use Rattle.lvish_board.specs.declared.outcome.Outcome.{Outcome as Over}
-use Rattle.lvish_board.specs.declared.work.Work.{Work}
 use Rattle.lvish_board.specs.Acts.{entry_of}
 use Rattle.lvish_board.specs.Listed.{Concerns, HasNext, IsListed, acts, handings, stretches, tickets}
 use Rattle.lvish_board.specs.Place.{TaskPlace}

@@ -1,46 +1,28 @@
 -- All that a board says of its answer, for each answer, over any machine.
-use Rattle.std.proofs.Common.{◌≡◌, ◌++◌, ◌∷◌, [], Bool, true, false, ℕ, Ordering, Option, None, IsSome, refl, sym, ap, subst, ◌∙◌}
+use Rattle.std.proofs.Common.{◌≡◌, ◌++◌, ◌∷◌, [], Bool, true, false, ℕ, Ordering, Option, None, IsSome, refl, sym, ap, subst, ◌∙◌, Vec}
 use Rattle.std.proofs.lemmas.Bool.{false≢true, true≢false}
-use Rattle.std.specs.Global.{Vec}
-use Rattle.lvish_calculus.specs.declared.label.Label.TheVariants.{Act, Hand}
+use Rattle.lvish_board.specs.Vocabulary.{Act, Hand, Acted, Over, Stale, Parked, Next, Gone, Work}
 use Rattle.lvish_calculus.specs.Machine.{Machine}
 use Rattle.lvish_names.specs.Names.{Handler}
-use Rattle.lvish_board.specs.declared.acted.Acted.{Acted}
-use Rattle.lvish_board.specs.declared.acted.Acted.TheVariants.{Over, Stale, Parked, Next, Gone}
-use Rattle.lvish_board.specs.declared.work.Work.{Work}
 use Rattle.lvish_board.specs.Acts.{ComesOfAct, IsDone, ComesOfHand, entry_of}
 use Rattle.lvish_board.specs.Listed.{IsListed}
 use Rattle.lvish_board.specs.Place.{TaskPlace}
 use Rattle.lvish_board.specs.Standing.{Standing}
 
 -- what isn't over is over in no way
-not_over : {X Y : Type 0} (o : Option X) → o ≡ None → IsSome o → Y
+pub not_over : {X Y : Type 0} (o : Option X) → o ≡ None → IsSome o → Y
 not_over o none some = absurd (false≢true (subst (λ z. IsSome z) none some))
 
 module _ {P S E R Ans L P1 J1 A1 W : Type 0} {cmp : E → E → Ordering} {M : Machine S E R Ans L} {Stands Can : Type 0} {worker : ℕ} {asked : TaskPlace E L} {old new : Standing P S E L} where
-  -- the board was over
-  pub act_done : new ≡ old → IsSome new.over → ComesOfAct {P = P1} {J = J1} {A = A1} {W = W} cmp M Stands Can worker asked old new Over
-  act_done same some = record {
-    stays = λ _. (ap (λ b. b.trace) same, ap (λ b. b.core) same);
+  -- the board is over
+  pub act_over : new.trace ≡ old.trace → new.core ≡ old.core → IsSome new.over → (IsSome old.over → new ≡ old) → ComesOfAct {P = P1} {J = J1} {A = A1} {W = W} cmp M Stands Can worker asked old new Over
+  act_over trace core some before = record {
+    stays = λ _. (trace, core);
     step = λ e. absurd (false≢true e);
     gone = λ e. absurd (false≢true e);
     list = tt;
     over = λ _. some;
-    done = λ _. (refl, same);
-    stale = λ e. absurd (false≢true e);
-    parked = λ e. absurd (false≢true e);
-    memory = (tt, tt);
-  }
-
-  -- the budget is used up
-  pub act_full : (inside : Standing P S E L) → inside ≡ old → inside.over ≡ None → new.trace ≡ inside.trace → new.core ≡ inside.core → IsSome new.over → ComesOfAct {P = P1} {J = J1} {A = A1} {W = W} cmp M Stands Can worker asked old new Over
-  act_full inside view none trace core some = record {
-    stays = λ _. (trace ∙ ap (λ b. b.trace) view, core ∙ ap (λ b. b.core) view);
-    step = λ e. absurd (false≢true e);
-    gone = λ e. absurd (false≢true e);
-    list = tt;
-    over = λ _. some;
-    done = not_over old.over (sym (ap (λ b. b.over) view) ∙ none);
+    done = λ e. (refl, before e);
     stale = λ e. absurd (false≢true e);
     parked = λ e. absurd (false≢true e);
     memory = (tt, tt);
@@ -96,29 +78,15 @@ module _ {P S E R Ans L P1 J1 A1 W : Type 0} {cmp : E → E → Ordering} {M : M
   act_left false list result next gone none written goes ends listed = subst (λ r. ComesOfAct cmp M Stands Can worker asked old new r) (sym (gone refl)) (act_gone list none written (ends refl) listed)
 
 module _ {P S E R Ans L P1 J1 A1 W : Type 0} {cmp : E → E → Ordering} {M : Machine S E R Ans L} {Held : Type 0} {IsNext : E → Type 0} {worker : ℕ} {handler : Handler E} {old new : Standing P S E L} where
-  -- the board was over
-  pub hand_done : new ≡ old → IsSome new.over → ComesOfHand {P = P1} {J = J1} {A = A1} {W = W} cmp M Held IsNext worker handler old new Over
-  hand_done same some = record {
-    stays = λ _. (ap (λ b. b.trace) same, ap (λ b. b.core) same, ap (λ b. b.parked) same);
+  -- the board is over
+  pub hand_over : new.trace ≡ old.trace → new.core ≡ old.core → new.parked ≡ old.parked → IsSome new.over → (IsSome old.over → new ≡ old) → ComesOfHand {P = P1} {J = J1} {A = A1} {W = W} cmp M Held IsNext worker handler old new Over
+  hand_over trace core parked some before = record {
+    stays = λ _. (trace, core, parked);
     step = λ e. absurd (false≢true e);
     gone = refl;
     list = λ e next. tt;
     over = λ _. some;
-    done = λ _. (refl, same);
-    stale = λ e. absurd (false≢true e);
-    parked = λ e. absurd (false≢true e);
-    memory = (tt, tt);
-  }
-
-  -- the budget is used up
-  pub hand_full : (inside : Standing P S E L) → inside ≡ old → inside.over ≡ None → new.trace ≡ inside.trace → new.core ≡ inside.core → new.parked ≡ inside.parked → IsSome new.over → ComesOfHand {P = P1} {J = J1} {A = A1} {W = W} cmp M Held IsNext worker handler old new Over
-  hand_full inside view none trace core parked some = record {
-    stays = λ _. (trace ∙ ap (λ b. b.trace) view, core ∙ ap (λ b. b.core) view, parked ∙ ap (λ b. b.parked) view);
-    step = λ e. absurd (false≢true e);
-    gone = refl;
-    list = λ e next. tt;
-    over = λ _. some;
-    done = not_over old.over (sym (ap (λ b. b.over) view) ∙ none);
+    done = λ e. (refl, before e);
     stale = λ e. absurd (false≢true e);
     parked = λ e. absurd (false≢true e);
     memory = (tt, tt);

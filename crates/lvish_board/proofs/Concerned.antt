@@ -5,10 +5,7 @@ use Rattle.std.proofs.Math.Seq.{drop-append_seam}
 use Rattle.std.proofs.lemmas.Option.{slice_get_cases, slice_get_within}
 use Rattle.lvish_names.specs.NameOrder.{handler_cmp}
 use Rattle.lvish_lattice.specs.Lattice.{fresh_of}
-use Rattle.lvish_calculus.specs.declared.label.Label.{Label}
-use Rattle.lvish_calculus.specs.declared.label.Label.TheVariants.{Act}
-use Rattle.lvish_calculus.specs.declared.request.Request.{Request}
-use Rattle.lvish_calculus.specs.declared.request.Request.TheVariants.{Put, Get, Fork, Add, Freeze, Pause, End}
+use Rattle.lvish_board.specs.Vocabulary.{Label, Act, Request, Put, Get, Fork, Add, Freeze, Pause, End, Entry, Held, DoneStep, Touched, PutOn as Touches, EndedIn, Moved}
 use Rattle.lvish_calculus.specs.Machine.{Machine, IsLawful}
 use Rattle.lvish_calculus.specs.Calculus.{Task, Live, Ended, Post, State, Configuration, Running, Error, Change, Effect, Changes, Fails, Nothing, CanStep, after, effect}
 use Rattle.lvish_names.specs.Names.{Name, Handler}
@@ -16,21 +13,16 @@ use Rattle.lvish_calculus.specs.Handing.{IsAmong}
 use Rattle.lvish_calculus.proofs.Names.{nat_eq-true}
 use Rattle.lvish_calculus.proofs.Runs.{nothing}
 use Rattle.lvish_calculus.proofs.Steps.{Makes, puts, gets, forks, adds, freezes, pauses, ends, hands, view}
-use Rattle.lvish_variable.specs.declared.entry.Entry.{Entry}
 use Rattle.lvish_variable.specs.Variable.{VariableView as Variable, entries}
 use Rattle.lvish_picture.proofs.Slots.{contained, among}
-use Rattle.lvish_handlers.specs.declared.held.Held.{Held}
-use Rattle.lvish_core.specs.declared.fault.Stepped.TheVariants.{Done as DoneStep}
-use Rattle.lvish_core.specs.declared.touched.Touched.{Touched}
-use Rattle.lvish_core.specs.declared.touched.Touched.TheVariants.{Put as Touches, Ended as EndedIn}
 use Rattle.lvish_core.specs.Core.{CoreView, IsRunTo, IsStep, state}
-use Rattle.lvish_core.specs.declared.moved.Moved.{Moved}
 use Rattle.lvish_core.specs.Changes.{IsMoved, local_of, moved_in, brought, brings, put_brings, task_touches, touched_in, touching}
 use Rattle.lvish_core.specs.Reads.{AreHandlers, IsHeldAs}
 use Rattle.lvish_core.specs.laws.Runs.{at_state}
 use Rattle.lvish_board.specs.Listed.{Concerns, by_handing, by_adding, by_putting}
 use Rattle.lvish_board.specs.Left.{AreConcerned, IsLogged, candidates, fresh_in, log_from, option_list, most_added}
-use Rattle.lvish_board.proofs.Among.{among_map, of_map}
+use Rattle.lvish_core.specs.laws.Lists.{among_map}
+use Rattle.lvish_board.proofs.Among.{of_map}
 use Rattle.lvish_board.proofs.Blocked.{IsMade}
 use Rattle.lvish_board.proofs.Steps.{done_none, begins_well, stepped_from}
 use Rattle.lvish_board.proofs.Those.{nothing_sorted, one_sorted}

@@ -1,24 +1,17 @@
 -- What a handing is to a board, over any machine.
 use Rattle.std.proofs.Common.{◌≡◌, ◌↔◌, inl, inr, ℕ, List, [], ◌∷◌, length, Ordering, Option, Some, None, refl, sym, ap, subst, ◌∙◌, option_and_then}
 use Rattle.std.specs.List.Sorted.{IsStrictlySortedBy}
-use Rattle.lvish_calculus.specs.declared.label.Label.{Label}
-use Rattle.lvish_calculus.specs.declared.label.Label.TheVariants.{Hand}
+use Rattle.lvish_board.specs.Vocabulary.{Label, Hand, Stepped, DoneStep, ErrorStep, Made, Moved, PutOn as Put, Handed, Work}
 use Rattle.lvish_calculus.specs.Machine.{Machine}
 use Rattle.lvish_calculus.specs.Calculus.{Post, Live, State, Configuration, Running, Change, Changes, CanStep, IsToHand, after, changed, effect, hand_effect}
 use Rattle.lvish_names.specs.Names.{Handler, handed}
 use Rattle.lvish_calculus.specs.Handing.{IsAmong}
 use Rattle.lvish_names.specs.NameOrder.{handler_cmp}
-use Rattle.lvish_core.specs.declared.fault.Stepped.{Stepped}
-use Rattle.lvish_core.specs.declared.fault.Stepped.TheVariants.{Done as DoneStep, Error as ErrorStep}
-use Rattle.lvish_core.specs.declared.moved.Made.{Made}
-use Rattle.lvish_core.specs.declared.moved.Moved.{Moved}
-use Rattle.lvish_core.specs.declared.touched.Touched.TheVariants.{Put, Handed}
 use Rattle.lvish_core.specs.Core.{CoreView, IsRunTo, IsNext, IsStep, CanTake, state, says}
 use Rattle.lvish_core.specs.CoreLaws.{HandsOneEvent, HandsWhatComes}
 use Rattle.lvish_core.specs.Changes.{IsMoved, moved_in, brings, touching}
 use Rattle.lvish_core.specs.Handed.{IsHanded}
 use Rattle.lvish_core.specs.laws.Runs.{at_state}
-use Rattle.lvish_board.specs.declared.work.Work.{Work}
 use Rattle.lvish_board.specs.Listed.{Concerns, by_handing, by_adding, by_putting, made_place, tickets}
 use Rattle.lvish_board.specs.Left.{IsLeft, IsLogged, candidates, fresh_in, option_list, made_ticket}
 use Rattle.lvish_board.specs.Place.{TaskPlace}

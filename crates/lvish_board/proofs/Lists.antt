@@ -1,16 +1,11 @@
 -- On which list a parked task is, and whom the asking of a list wakes.
-use Rattle.std.proofs.Common.{◌≡◌, ℕ, List, Option, Some, Ordering, ap, subst, ◌∙◌, nat_cmp}
-use Rattle.std.specs.Global.{Vec}
-use Rattle.std.specs.BTreeMap.{BTreeMap}
+use Rattle.std.proofs.Common.{◌≡◌, ℕ, List, Option, Some, Ordering, ap, subst, ◌∙◌, nat_cmp, Vec, BTreeMap}
 use Rattle.std.specs.Cmp.{IsTotalOrder}
 use Rattle.std.specs.Cmp.Lexicographic.{options_total}
 use Rattle.std.proofs.lemmas.Cmp.{nat_cmp_total, on_total, then_total}
-use Rattle.lvish_calculus.specs.declared.request.Request.{Request}
-use Rattle.lvish_calculus.specs.declared.request.Request.TheVariants.{Get, Freeze}
+use Rattle.lvish_board.specs.Vocabulary.{Request, Get, Freeze, Entry, Handed}
 use Rattle.lvish_names.specs.Names.{Name}
 use Rattle.lvish_calculus.specs.Handing.{IsAmong}
-use Rattle.lvish_variable.specs.declared.entry.Entry.{Entry}
-use Rattle.lvish_core.specs.declared.touched.Touched.TheVariants.{Handed}
 use Rattle.lvish_board.specs.Shelved.{IsOnItsList, WaitsAt, by_spot, shelf}
 use Rattle.lvish_board.specs.Woken.{MayWake}
 

@@ -3,10 +3,8 @@ use Rattle.std.proofs.Common.{◌≡◌, ◌≤◌, ℕ, List, [], length, Optio
 use Rattle.lvish_calculus.specs.Machine.{Machine}
 use Rattle.lvish_calculus.specs.Calculus.{Running, State, start}
 use Rattle.lvish_calculus.specs.Handing.{IsAmong, NoRepeats}
-use Rattle.lvish_core.specs.declared.fault.RunError.{RunError}
-use Rattle.lvish_core.specs.declared.limits.TheConstants.{MOST_STEPS}
+use Rattle.lvish_board.specs.Vocabulary.{RunError, MOST_STEPS, TraceEntry}
 use Rattle.lvish_core.specs.Core.{CoreView, IsBegun, IsRunTo, at_fault, state}
-use Rattle.lvish_board.specs.declared.trace_entry.TraceEntry.{TraceEntry}
 use Rattle.lvish_board.specs.Place.{TaskPlace}
 use Rattle.lvish_board.specs.Standing.{IsBlocked, IsBoardSound, labels_of, tasks_of}
 

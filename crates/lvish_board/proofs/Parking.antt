@@ -1,7 +1,6 @@
 -- One more is parked.
 use Rattle.std.proofs.Common.{◌≡◌, ◌⊎◌, ◌↔◌, inl, inr, ℕ, List, [], ◌∷◌, refl, sym, ap, subst, ◌∙◌}
-use Rattle.lvish_calculus.specs.declared.request.Request.{Request}
-use Rattle.lvish_calculus.specs.declared.request.Request.TheVariants.{Get, Freeze}
+use Rattle.lvish_board.specs.Vocabulary.{Request, Get, Freeze}
 use Rattle.lvish_calculus.specs.Handing.{IsAmong, NoRepeats}
 use Rattle.lvish_board.specs.Place.{TaskPlace}
 use Rattle.lvish_board.specs.Standing.{tasks_of}

@@ -2,9 +2,7 @@
 use Rattle.std.proofs.Common.{◌≡◌, inl, inr, ◌<◌, ◌+◌, ℕ, List, [], ◌∷◌, ◌++◌, length, false, is_some, Option, Some, None, refl, sym, ap, subst, ◌∙◌, arith, length-append, option_and_then}
 use Rattle.std.proofs.lemmas.Bool.{false≢true}
 use Rattle.std.proofs.lemmas.List.{length-map, map_push}
-use Rattle.lvish_calculus.specs.declared.label.Label.{Label}
-use Rattle.lvish_calculus.specs.declared.label.Label.TheVariants.{Act}
-use Rattle.lvish_calculus.specs.declared.request.ErrorKind.{ErrorKind}
+use Rattle.lvish_board.specs.Vocabulary.{Label, Act, ErrorKind, RunError, Stepped, DoneStep, ErrorStep, TraceEntry, Outcome as Over, EndedOver}
 use Rattle.lvish_calculus.specs.Machine.{Machine, IsLawful}
 use Rattle.lvish_calculus.specs.Calculus.{Task, Absent, Live, Ended, IsLive, is_live, State, Configuration, Running, Error, Effect, Changes, Fails, Nothing, IsReadyTask, CanStep, after, changed, next, effect, with_task}
 use Rattle.lvish_names.specs.Names.{Name}
@@ -14,17 +12,11 @@ use Rattle.lvish_calculus.proofs.Steps.{blamed, view}
 use Rattle.lvish_calculus.proofs.Names.{with_task-same}
 use Rattle.lvish_calculus.proofs.Runs.{nothing}
 use Rattle.lvish_calculus.proofs.Sound.{acts_live}
-use Rattle.lvish_core.specs.declared.fault.RunError.{RunError}
-use Rattle.lvish_core.specs.declared.fault.Stepped.{Stepped}
-use Rattle.lvish_core.specs.declared.fault.Stepped.TheVariants.{Done as DoneStep, Error as ErrorStep}
 use Rattle.lvish_core.specs.Core.{CoreView, IsRunTo, IsStep, CanTake, state, picture, at_fault, says}
 use Rattle.lvish_core.specs.Changes.{local_of, moved_in}
 use Rattle.lvish_core.specs.Reads.{HasRunning, AreDrained}
 use Rattle.lvish_core.specs.Waiting.{EndsByCounts}
-use Rattle.lvish_core.specs.laws.Runs.{at_state, running_same}
-use Rattle.lvish_board.specs.declared.trace_entry.TraceEntry.{TraceEntry}
-use Rattle.lvish_board.specs.declared.outcome.Outcome.{Outcome as Over}
-use Rattle.lvish_board.specs.declared.outcome.Outcome.TheVariants.{Ended as EndedOver}
+use Rattle.lvish_core.specs.laws.Runs.{at_state, no_error_before, running_same}
 use Rattle.lvish_board.specs.Acts.{entry_of}
 use Rattle.lvish_board.specs.Place.{TaskPlace}
 use Rattle.lvish_board.specs.Woken.{IsParkedBeside}
@@ -58,20 +50,20 @@ module _ {P S E R A L : Type 0} (M : Machine S E R A L) where
     count = length-map ps (λ (p : TaskPlace E L). p.task);
   }
 
-  -- the same board, over in another way
-  pub kept_over : (program : P) (budget : ℕ) (trace : List (TraceEntry E)) (c : CoreView P S E L) (over after : Option (Over E)) (ps : List (TaskPlace E L))
+  -- with the same steps, over in another way, or with others parked
+  pub kept_over : {program : P} {budget : ℕ} {trace : List (TraceEntry E)} {c : CoreView P S E L} {over after : Option (Over E)} {ps qs : List (TaskPlace E L)}
       → IsBoardSound M program budget (record { trace = trace; core = c; over = over; parked = ps })
-      → OverIs M budget (record { trace = trace; core = c; over = after; parked = ps }) after
-      → IsBoardSound M program budget (record { trace = trace; core = c; over = after; parked = ps })
-  kept_over program budget trace c over after ps s o = record {
+      → OverIs M budget (record { trace = trace; core = c; over = after; parked = qs }) after → ((p : TaskPlace E L) → IsAmong p qs → IsBlocked M c p) → NoRepeats (tasks_of qs)
+      → IsBoardSound M program budget (record { trace = trace; core = c; over = after; parked = qs })
+  kept_over s o blocked once = record {
     program_is = s.program_is;
     leads = s.leads;
     counted = s.counted;
     within = s.within;
     bounded = s.bounded;
     over_is = o;
-    blocked = s.blocked;
-    once = s.once;
+    blocked = blocked;
+    once = once;
   }
 
   -- a board that isn't over has no error
@@ -85,7 +77,7 @@ module _ {P S E R A L : Type 0} (M : Machine S E R A L) where
       → IsBoardSound M program budget (record { trace = trace; core = c; over = Some EndedOver; parked = ps })
   settled ends program budget trace c over ps k none n running same drained =
       let fine = no_fault program budget (record { trace = trace; core = c; over = over; parked = ps }) k none in
-      kept_over program budget trace c over (Some EndedOver) ps k ((ends c (labels_of trace) n k.leads fine running (subst (λ m. HasWaiting M (state M c) m) same (waiting c ps fine k.blocked k.once))).1 drained)
+      kept_over k ((ends c (labels_of trace) n k.leads fine running (subst (λ m. HasWaiting M (state M c) m) same (waiting c ps fine k.blocked k.once))).1 drained) k.blocked k.once
 
   -- one more parked
   pub kept_parked : (program : P) (budget : ℕ) (trace : List (TraceEntry E)) (c : CoreView P S E L) (over : Option (Over E)) (ps qs : List (TaskPlace E L)) (p : TaskPlace E L)
@@ -94,19 +86,10 @@ module _ {P S E R A L : Type 0} (M : Machine S E R A L) where
       → IsBoardSound M program budget (record { trace = trace; core = c; over = over; parked = qs })
   kept_parked program budget trace c over ps qs p s current blocked beside once none =
       let fine = no_fault program budget (record { trace = trace; core = c; over = over; parked = ps }) s none in
-      record {
-        program_is = s.program_is;
-        leads = s.leads;
-        counted = s.counted;
-        within = s.within;
-        bounded = s.bounded;
-        over_is = subst (λ o. OverIs M budget (record { trace = trace; core = c; over = o; parked = qs }) o) (sym none) fine;
-        blocked = λ q a. elim ((beside.each q).0 a) [
-          | inl e ↦ subst (λ z. IsBlocked M c z) (sym e) (record { current = current; blocked = blocked })
-          | inr w ↦ s.blocked q w.0
-        ];
-        once = once;
-      }
+      kept_over s (subst (λ o. OverIs M budget (record { trace = trace; core = c; over = o; parked = qs }) o) (sym none) fine) (λ q a. elim ((beside.each q).0 a) [
+        | inl e ↦ subst (λ z. IsBlocked M c z) (sym e) (record { current = current; blocked = blocked })
+        | inr w ↦ s.blocked q w.0
+      ]) once
 
   -- a step more
   pub kept_step : (program : P) (budget : ℕ) (trace longer : List (TraceEntry E)) (c d : CoreView P S E L) (over after : Option (Over E)) (ps qs : List (TaskPlace E L)) (l : Label E) (worker : ℕ) (said : Stepped)
@@ -146,11 +129,7 @@ module _ {P S E R A L : Type 0} (M : Machine S E R A L) where
 
   -- nothing is enabled after an error
   pub begins_well : (c d : CoreView P S E L) (l : Label E) (said : Stepped) → IsStep M c l d said → c.fault ≡ None
-  begins_well c d l said step = by c.fault refl
-    where
-      by : (f : Option (RunError E)) → c.fault ≡ f → c.fault ≡ None
-      by None e = e
-      by (Some f) e = absurd (subst (λ q. CanStep M (at_fault (state M c) q) l) e step.enabled.0)
+  begins_well c d l said step = no_error_before M (state M c) c.fault l step.enabled.0
 
   pub stepped_from : (c d : CoreView P S E L) (l : Label E) (said : Stepped) → IsStep M c l d said → picture M d ≡ after M (state M c) (effect M (state M c) l)
   stepped_from c d l said step = step.stepped ∙ ap (λ (q : Configuration S E L). next M q l) (at_state M c (begins_well c d l said step))

@@ -5,12 +5,11 @@ use Rattle.std.specs.List.Sorted.{IsStrictlySortedBy}
 use Rattle.lvish_names.specs.Names.{Handler}
 use Rattle.lvish_calculus.specs.Handing.{IsAmong}
 use Rattle.lvish_core.specs.laws.Lists.{all_always}
-use Rattle.lvish_board.specs.declared.work.Work.{Work}
+use Rattle.lvish_core.proofs.Listing.{all_at}
+use Rattle.lvish_board.specs.Vocabulary.{Work, ActOn, HandTo}
 use Rattle.lvish_board.specs.Listed.{stretches, acts, handings}
 use Rattle.lvish_board.specs.Place.{TaskPlace}
-use Rattle.lvish_board.specs.declared.work.Work.TheVariants.{Act as ActOn, Hand as HandTo}
 use Rattle.lvish_board.specs.Left.{AreThose, AddsHandings, option_list}
-use Rattle.lvish_board.proofs.Among.{all_among}
 
 -- an answer tells whether there is something
 pub there : {X : Type 0} (N : X → Type 0) (o : Option X) → MatchOption o ((x : X) → N x → ⊥) N → is_some o ≡ true → (x : X) × N x
@@ -50,7 +49,7 @@ module _ {X : Type 0} (P : X → Type 0) where
   unfolding IsStrictlySortedBy
   those_sorted cmp [] those none s = subst (λ ys. IsStrictlySortedBy cmp ys) (sym none) tt
   those_sorted cmp (y ∷ ys) those (inl z) s =
-      let first : AllByRecursion (λ w. cmp y w ≡ Less) z.0 = all_always (λ w. cmp y w ≡ Less) z.0 (λ w i. all_among (λ v. cmp y v ≡ Less) ys s.0 w ((those_are ys z.0 z.3 w).0 i).1) in
+      let first : AllByRecursion (λ w. cmp y w ≡ Less) z.0 = all_always (λ w. cmp y w ≡ Less) z.0 (λ w i. all_at (λ v. cmp y v ≡ Less) ys s.0 w ((those_are ys z.0 z.3 w).0 i).1) in
       subst (λ zs. IsStrictlySortedBy cmp zs) (sym z.1) (first, those_sorted cmp ys z.0 z.3 s.1)
   those_sorted cmp (y ∷ ys) those (inr z) s = those_sorted cmp ys those z.1 s.1
 

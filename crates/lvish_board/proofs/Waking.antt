@@ -2,12 +2,12 @@
 use Rattle.std.proofs.Common.{◌≡◌, inl, inr, List, [], ◌∷◌, ◌++◌, refl, sym, ap, subst, ◌∙◌, arith, append_assoc, append-nil, length-append, IsPermutation}
 use Rattle.std.proofs.lemmas.List.{map-append}
 use Rattle.lvish_calculus.specs.Handing.{IsAmong, NoRepeats}
-use Rattle.lvish_core.specs.laws.Lists.{either_among, among_first, among_last}
+use Rattle.lvish_core.specs.laws.Lists.{either_among, among_first, among_last, among_map}
 use Rattle.lvish_board.specs.Place.{TaskPlace}
 use Rattle.lvish_board.specs.Standing.{tasks_of}
 use Rattle.lvish_board.specs.Waking.{Wakes}
 use Rattle.lvish_board.specs.Woken.{IsWoken}
-use Rattle.lvish_board.proofs.Among.{among_map, at_middle, in_middle, once_first, once_last, once_less, once_moved, among_permuted}
+use Rattle.lvish_board.proofs.Among.{at_middle, in_middle, once_first, once_last, once_less, once_moved, among_permuted}
 
 module _ {E L : Type 0} where
   pub tasks_append : (ps qs : List (TaskPlace E L)) → tasks_of (ps ++ qs) ≡ tasks_of ps ++ tasks_of qs

@@ -2,11 +2,8 @@
 use Rattle.std.proofs.Common.{◌≡◌, ◌⊎◌, inl, inr, ℕ, zero, suc, List, [], ◌∷◌, ◌++◌, Option, Some, None, Contains, refl, sym, ap, subst, ◌∙◌, arith}
 use Rattle.std.proofs.lemmas.List.{map-append}
 use Rattle.std.proofs.lemmas.List.Elements.{Contains-append_cases}
-use Rattle.lvish_calculus.specs.declared.request.Request.{Request}
-use Rattle.lvish_calculus.specs.declared.request.Request.TheVariants.{Get, Freeze}
-use Rattle.lvish_variable.specs.declared.entry.Entry.{Entry}
+use Rattle.lvish_board.specs.Vocabulary.{Request, Get, Freeze, Entry, PutOn as Put, Handed, EndedIn as Ended}
 use Rattle.lvish_variable.specs.Variable.{logged}
-use Rattle.lvish_core.specs.declared.touched.Touched.TheVariants.{Put, Handed, Ended}
 use Rattle.lvish_board.specs.Shelved.{WaitsAt}
 use Rattle.lvish_board.specs.Woken.{MayAnswer, MayWake}
 

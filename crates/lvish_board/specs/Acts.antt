@@ -1,17 +1,11 @@
 -- What comes of acts.
 use Rattle.std.specs.Prelude.{◌≡◌, ◌⊎◌, ◌↔◌, ◌++◌, ◌∷◌, ℕ, Bool, [], true, false, None, IsSome}
 use Rattle.std.specs.declared.cmp.Ordering.{Ordering}
-use Rattle.lvish_calculus.specs.declared.label.Label.{Label}
-use Rattle.lvish_calculus.specs.declared.label.Label.TheVariants.{Act, Hand}
+use Rattle.lvish_board.specs.Vocabulary.{Label, Act, Hand, TraceEntry, Work, ActOn, HandTo, Acted, Over, Stale, Parked, Memory, Next, Gone}
 use Rattle.lvish_calculus.specs.Machine.{Machine}
 use Rattle.lvish_names.specs.Names.{Name, Handler}
 use Rattle.lvish_core.specs.Core.{CoreView, state}
 use Rattle.lvish_core.specs.Changes.{local_of}
-use Rattle.lvish_board.specs.declared.trace_entry.TraceEntry.{TraceEntry}
-use Rattle.lvish_board.specs.declared.work.Work.{Work}
-use Rattle.lvish_board.specs.declared.work.Work.TheVariants.{Act as ActOn, Hand as HandTo}
-use Rattle.lvish_board.specs.declared.acted.Acted.{Acted}
-use Rattle.lvish_board.specs.declared.acted.Acted.TheVariants.{Over, Stale, Parked, Memory, Next, Gone}
 use Rattle.lvish_board.specs.Place.{TaskPlace}
 use Rattle.lvish_board.specs.Standing.{Standing}
 use Rattle.lvish_board.specs.Woken.{IsParkedBeside}

@@ -3,24 +3,14 @@ use Rattle.std.specs.Prelude.{◌≡◌, ◌⊎◌, ◌≤◌, ℕ, List, [], �
 use Rattle.std.specs.List.Sorted.{IsStrictlySortedBy}
 use Rattle.std.specs.declared.cmp.Ordering.{Ordering}
 use Rattle.lvish_names.specs.NameOrder.{name_cmp}
-use Rattle.lvish_calculus.specs.declared.label.Label.TheVariants.{Act}
-use Rattle.lvish_calculus.specs.declared.request.Request.{Request}
-use Rattle.lvish_calculus.specs.declared.request.Request.TheVariants.{Put, Add}
+use Rattle.lvish_board.specs.Vocabulary.{Act, Request, Put, Add, Entry, Held, Stepped, Made, Moved, Touched, PutOn as Touches, Work}
 use Rattle.lvish_calculus.specs.Machine.{Machine}
 use Rattle.lvish_names.specs.Names.{Name, Handler}
-use Rattle.lvish_variable.specs.declared.entry.Entry.{Entry}
 use Rattle.lvish_variable.specs.Variable.{VariableView as Variable}
-use Rattle.lvish_handlers.specs.declared.held.Held.{Held}
 use Rattle.lvish_handlers.specs.Handlers.{IsByName}
 use Rattle.lvish_core.specs.Reads.{AreHandlers}
-use Rattle.lvish_core.specs.declared.fault.Stepped.{Stepped}
-use Rattle.lvish_core.specs.declared.moved.Made.{Made}
-use Rattle.lvish_core.specs.declared.moved.Moved.{Moved}
-use Rattle.lvish_core.specs.declared.touched.Touched.{Touched}
-use Rattle.lvish_core.specs.declared.touched.Touched.TheVariants.{Put as Touches}
 use Rattle.lvish_core.specs.Changes.{IsMoved}
 use Rattle.lvish_core.specs.Core.{CoreView, CanTake, IsStep, state}
-use Rattle.lvish_board.specs.declared.work.Work.{Work}
 use Rattle.lvish_board.specs.Place.{TaskPlace}
 use Rattle.lvish_board.specs.Standing.{tasks_of}
 use Rattle.lvish_board.specs.Woken.{IsWoken, MayWake}

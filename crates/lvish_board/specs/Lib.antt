@@ -1,3 +1,4 @@
+pub mod Vocabulary
 pub mod Acts
 pub mod Left
 pub mod Listed

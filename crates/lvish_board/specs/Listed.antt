@@ -3,18 +3,13 @@ use Rattle.std.specs.Prelude.{◌≡◌, ◌↔◌, ℕ, List, [], ◌∷◌, �
 use Rattle.std.specs.List.Sorted.{IsStrictlySortedBy}
 use Rattle.std.specs.declared.cmp.Ordering.{Ordering}
 use Rattle.lvish_names.specs.NameOrder.{name_cmp, handler_cmp}
-use Rattle.lvish_calculus.specs.declared.label.Label.{Label}
-use Rattle.lvish_calculus.specs.declared.label.Label.TheVariants.{Act, Hand}
+use Rattle.lvish_board.specs.Vocabulary.{Label, Act, Hand, Made, Moved, Work, Stretch, ActOn, HandTo}
 use Rattle.lvish_calculus.specs.Machine.{Machine}
 use Rattle.lvish_calculus.specs.Calculus.{IsOn, effect}
 use Rattle.lvish_names.specs.Names.{Handler}
 use Rattle.lvish_calculus.specs.Handing.{IsAmong}
-use Rattle.lvish_core.specs.declared.moved.Made.{Made}
-use Rattle.lvish_core.specs.declared.moved.Moved.{Moved}
 use Rattle.lvish_core.specs.Core.{CoreView, CanTake, IsNext, state}
 use Rattle.lvish_core.specs.Changes.{moved_in, brought}
-use Rattle.lvish_board.specs.declared.work.Work.{Work}
-use Rattle.lvish_board.specs.declared.work.Work.TheVariants.{Stretch, Act as ActOn, Hand as HandTo}
 use Rattle.lvish_board.specs.Place.{TaskPlace}
 use Rattle.lvish_board.specs.Standing.{Standing, tasks_of}
 

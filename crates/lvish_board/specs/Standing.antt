@@ -1,8 +1,6 @@
 -- What a board stands for.
 use Rattle.std.specs.Prelude.{◌≡◌, ◌≤◌, ℕ, List, [], map, length, Option, None, Some}
-use Rattle.lvish_core.specs.declared.limits.TheConstants.{MOST_STEPS}
-use Rattle.lvish_calculus.specs.declared.label.Label.{Label}
-use Rattle.lvish_calculus.specs.declared.label.Label.TheVariants.{Act}
+use Rattle.lvish_board.specs.Vocabulary.{MOST_STEPS, Label, Act, TraceEntry, Outcome, EndedOver as Ended, ErrorOver as Error, Budget}
 use Rattle.lvish_calculus.specs.Machine.{Machine}
 use Rattle.lvish_calculus.specs.Calculus.{IsEnded}
 use Rattle.lvish_names.specs.Names.{Name}
@@ -10,9 +8,6 @@ use Rattle.lvish_calculus.specs.Handing.{IsAmong, NoRepeats}
 use Rattle.lvish_core.specs.Core.{CoreView, IsRunTo, IsBegun, CanTake, picture, state}
 use Rattle.lvish_core.specs.Changes.{local_of}
 use Rattle.lvish_board.specs.Place.{TaskPlace}
-use Rattle.lvish_board.specs.declared.trace_entry.TraceEntry.{TraceEntry}
-use Rattle.lvish_board.specs.declared.outcome.Outcome.{Outcome}
-use Rattle.lvish_board.specs.declared.outcome.Outcome.TheVariants.{Ended, Error, Budget}
 
 -- what contracts see of a board: the trace of its steps, its core, how it is over, and the tasks that are parked
 pub record Standing (P S E L : Type 0) : Type 0 where

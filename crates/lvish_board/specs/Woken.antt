@@ -1,11 +1,7 @@
 -- Which parked tasks a step wakes.
 use Rattle.std.specs.Prelude.{◌≡◌, ◌⊎◌, ◌↔◌, List, Option, None, Some}
-use Rattle.lvish_calculus.specs.declared.request.Request.{Request}
-use Rattle.lvish_calculus.specs.declared.request.Request.TheVariants.{Get, Freeze}
+use Rattle.lvish_board.specs.Vocabulary.{Request, Get, Freeze, Entry, Touched, PutOn as Put, Handed, EndedIn as Ended}
 use Rattle.lvish_calculus.specs.Handing.{IsAmong}
-use Rattle.lvish_variable.specs.declared.entry.Entry.{Entry}
-use Rattle.lvish_core.specs.declared.touched.Touched.{Touched}
-use Rattle.lvish_core.specs.declared.touched.Touched.TheVariants.{Put, Handed, Ended}
 use Rattle.lvish_core.specs.Spots.{HasSpot}
 use Rattle.lvish_board.specs.Place.{TaskPlace}
 

@@ -1,15 +1,11 @@
 -- The adding of a handler, over any machine.
-use Rattle.std.proofs.Common.{◌≡◌, inl, inr, ◌+◌, ◌<◌, ◌++◌, ℕ, suc, Bool, true, false, if◌then◌else◌, List, [], ◌∷◌, length, take, drop, map, Option, Some, None, slice_get, unwrap_or, option_map, Result, Ok, Err, IsErrAnd, refl, sym, ap, subst, ◌∙◌, arith}
+use Rattle.std.proofs.Common.{◌≡◌, ◌+◌, ◌<◌, ◌++◌, ℕ, suc, Bool, true, false, if◌then◌else◌, List, length, take, drop, Option, Some, None, slice_get, unwrap_or, option_map, Result, Ok, Err, IsErrAnd, refl, sym, ap, subst, ◌∙◌, arith}
 use Rattle.std.proofs.lemmas.Option.{same_Some}
-use Rattle.lvish_calculus.specs.declared.request.Request.TheVariants.{Add}
-use Rattle.lvish_calculus.specs.declared.request.Reply.TheVariants.{Done}
-use Rattle.lvish_calculus.specs.declared.request.ErrorKind.TheVariants.{Late, Deep}
-use Rattle.lvish_calculus.specs.declared.label.Label.TheVariants.{Act}
+use Rattle.lvish_core.specs.Vocabulary.{Add, Done, Late, Deep, Act, Held, MOST_STEPS, HandlerPlace, Other, Stepped, StepFault, Memory, Moved}
 use Rattle.lvish_calculus.specs.Machine.{Machine, IsLawful}
 use Rattle.lvish_calculus.specs.Calculus.{Post, Task, Live, Change, Changes, Fails, effect, add_effect}
 use Rattle.lvish_names.specs.Names.{Name, Handler, is_deep, same_handler}
 use Rattle.lvish_variable.specs.Variable.{VariableView as Variable}
-use Rattle.lvish_handlers.specs.declared.held.Held.{Held}
 use Rattle.lvish_handlers.specs.Handlers.{HandlersView as Handlers, IsHeld}
 use Rattle.lvish_picture.specs.Picture.{Table}
 use Rattle.lvish_picture.specs.Steps.{IsAddStep}
@@ -17,20 +13,13 @@ use Rattle.lvish_picture.specs.Laws.{ActKept, NewHandlerIsNew, IsHandlerSeated}
 use Rattle.lvish_picture.specs.Counts.{ActCounted}
 use Rattle.lvish_picture.proofs.Cursors.{seat_with}
 use Rattle.lvish_picture.proofs.Slots.{get_there, contained, among}
-use Rattle.lvish_calculus.specs.Handing.{IsAmong}
-use Rattle.lvish_core.specs.declared.limits.TheConstants.{MOST_STEPS}
-use Rattle.lvish_core.specs.declared.handler_place.HandlerPlace.{HandlerPlace}
-use Rattle.lvish_core.specs.declared.touched.Touched.TheVariants.{Other}
 use Rattle.lvish_core.specs.Core.{CoreView, state}
 use Rattle.lvish_core.specs.Tasks.{Sets}
 use Rattle.lvish_core.specs.Places.{PlacesAt, SamePlaces, place_at, post_of}
 use Rattle.lvish_core.specs.Beside.{AddedAt, CanAdd}
-use Rattle.lvish_core.specs.declared.fault.Stepped.{Stepped}
-use Rattle.lvish_core.specs.declared.fault.StepFault.{StepFault}
-use Rattle.lvish_core.specs.declared.fault.StepFault.TheVariants.{Memory}
-use Rattle.lvish_core.specs.declared.moved.Moved.{Moved}
 use Rattle.lvish_core.specs.Acts.{IsActing, IsFailing, Acts}
 use Rattle.lvish_core.specs.Kept.{IsKept}
+use Rattle.lvish_core.specs.laws.Lists.{among_map}
 use Rattle.lvish_core.proofs.Counting.{beside}
 use Rattle.lvish_core.proofs.Turns.{nobody, on}
 use Rattle.lvish_core.proofs.Gets.{rewritten}
@@ -39,11 +28,6 @@ use Rattle.lvish_core.proofs.Goes.{Moves, acted, outcome_is, as_asked, same_log}
 map_if : {X Y : Type 0} (f : X → Y) (b : Bool) (x : X) (o : Option X) → option_map f (if b then Some x else o) ≡ (if b then Some (f x) else option_map f o)
 map_if f true x o = refl
 map_if f false x o = refl
-
-among_map : {X Y : Type 0} (f : X → Y) (x : X) (xs : List X) → IsAmong x xs → IsAmong (f x) (map f xs)
-among_map f x [] h = h
-among_map f x (y ∷ ys) (inl e) = inl (ap f e)
-among_map f x (y ∷ ys) (inr h) = inr (among_map f x ys h)
 
 -- a variable's mark
 pub marked : {S E : Type 0} (xs : List (Variable S E)) (v : ℕ) (x : Variable S E) → slice_get xs v ≡ Some x → x.frozen ≡ unwrap_or (option_map (λ z. z.frozen) (slice_get xs v)) false
@@ -70,21 +54,21 @@ index_other M variables n places later c k s = record {
 abbrev pub with_handlers : {P S E L : Type 0} → CoreView P S E L → List (Handlers E) → CoreView P S E L
 with_handlers c hss = record { program = c.program; table = record { variables = c.table.variables; handlers = hss; tasks = c.table.tasks }; steps = c.steps; fault = c.fault; touched = c.touched }
 
-pub same_handlers : {P S E L : Type 0} (c : CoreView P S E L) (slice new : List (Handlers E)) (n : ℕ) → slice ≡ c.table.handlers → n ≡ length c.table.handlers → new ≡ slice → with_handlers c (take n (new ++ drop (length new) c.table.handlers)) ≡ c
-same_handlers c slice new n is len same = ap (with_handlers c) (sym (sym (same ∙ is) ∙ rewritten c.table.handlers new n len (ap length (same ∙ is))))
+pub same_handlers : {P S E L : Type 0} (c : CoreView P S E L) {slice new : List (Handlers E)} {n : ℕ} → slice ≡ c.table.handlers → n ≡ length c.table.handlers → new ≡ slice → with_handlers c (take n (new ++ drop (length new) c.table.handlers)) ≡ c
+same_handlers c {slice} {new} {n} is len same = ap (with_handlers c) (sym (sym (same ∙ is) ∙ rewritten c.table.handlers new n len (ap length (same ∙ is))))
 
 -- a core whose handlers were handed out and stayed
-pub unseated : {P S E R A L : Type 0} (M : Machine S E R A L) (variables n : ℕ) (places later : List (Handler E × HandlerPlace)) (c : CoreView P S E L) → IsKept M variables n places c → SamePlaces M.event_same places later
-    → (slice new : List (Handlers E)) (m : ℕ) → slice ≡ c.table.handlers → m ≡ length c.table.handlers → new ≡ slice → IsKept M variables n later (with_handlers c (take m (new ++ drop (length new) c.table.handlers)))
-unseated M variables n places later c k s slice new m is len same = subst (λ v. IsKept M variables n later v) (sym (same_handlers c slice new m is len same)) (index_other M variables n places later c k s)
+pub unseated : {P S E R A L : Type 0} {M : Machine S E R A L} {variables n : ℕ} {places later : List (Handler E × HandlerPlace)} {c : CoreView P S E L} → IsKept M variables n places c → SamePlaces M.event_same places later
+    → {slice new : List (Handlers E)} {m : ℕ} → slice ≡ c.table.handlers → m ≡ length c.table.handlers → new ≡ slice → IsKept M variables n later (with_handlers c (take m (new ++ drop (length new) c.table.handlers)))
+unseated {M = M} {variables = variables} {n = n} {places = places} {later = later} {c = c} k s is len same = subst (λ v. IsKept M variables n later v) (sym (same_handlers c is len same)) (index_other M variables n places later c k s)
 
 -- an answer for want of memory
 pub wanted : {P S E R A L : Type 0} (M : Machine S E R A L) (old new : CoreView P S E L) (t : Name E) (r : Result (Stepped × Moved E L) StepFault) → IsErrAnd r (λ e. e ≡ Memory) → new ≡ old → Acts M old t new r
 wanted M old new t (Ok s) h same = absurd h
 wanted M old new t (Err e) h same = (h, same)
 
-module _ {P S E R A L : Type 0} (M : Machine S E R A L) (ok : IsLawful M) (variables n : ℕ) (places : List (Handler E × HandlerPlace)) (old : CoreView P S E L) (kept : IsKept M variables n places old)
-    (known : (k v : ℕ) → M.pool_variable k ≡ Some v → v < variables) (t : Name E) (at : L) (f a p pool procedure : ℕ) (acts : IsActing M old t at f a p (Add pool procedure)) where
+module _ {P S E R A L : Type 0} {M : Machine S E R A L} (ok : IsLawful M) {variables n : ℕ} {places : List (Handler E × HandlerPlace)} {old : CoreView P S E L} (kept : IsKept M variables n places old)
+    (known : (k v : ℕ) → M.pool_variable k ≡ Some v → v < variables) {t : Name E} {at : L} {f a p pool procedure : ℕ} (acts : IsActing M old t at f a p (Add pool procedure)) where
   pub pool_is_there : M.pool_variable pool ≡ None → ⊥
   pool_is_there none = let z = ok.add_known acts.local pool procedure acts.asking.asked in absurd (cc (sym none ∙ z.1))
 
@@ -104,7 +88,7 @@ module _ {P S E R A L : Type 0} (M : Machine S E R A L) (ok : IsLawful M) (varia
 
   pub can_add : NewHandlerIsNew M → (v : ℕ) → M.pool_variable pool ≡ Some v → CanAdd name (record { variable = v; pool = pool; procedure = procedure }) old.table.handlers
   can_add fresh v own =
-      let b = beside M ok variables n places old kept known (record { variable = v; pool = pool; procedure = procedure }) own in
+      let b = beside kept known (record { variable = v; pool = pool; procedure = procedure }) own in
       record { beside = b.0; at = b.1; fresh = not_held fresh v b.0 b.1; there = (kept.counted v b.0 pool b.1 own).0 }
 
   pub no_place : NewHandlerIsNew M → place_at M.event_same places name ≡ None
@@ -118,9 +102,9 @@ module _ {P S E R A L : Type 0} (M : Machine S E R A L) (ok : IsLawful M) (varia
           let seated : IsHandlerSeated old.table s.0 s.1 s.2 s.3 = s.4 in
           absurd (not_held fresh s.0 s.2 seated.beside (subst (λ (k : Handler E). IsHeld (s.2).held k) s.5 (contained _ _ (among_map (λ (k : Held E). k.name) s.3 (s.2).held (among _ _ seated.held)))))
 
-  module _ (room : old.steps < MOST_STEPS) (law : ActKept IsAddStep M) (law2 : ActCounted IsAddStep M) (shallow : is_deep t ≡ false) (v : ℕ) (own : M.pool_variable pool ≡ Some v) (x : Variable S E) (x_at : slice_get old.table.variables v ≡ Some x) (unfrozen : (state M old).frozen v ≡ false)
-      (more : List (Handler E × HandlerPlace)) (put_in : PlacesAt M.event_same places name (Some (record { variable = v; pool = pool; procedure = procedure })) more) (hss : List (Handlers E))
-      (w : AddedAt (record { name = name; pool = pool; procedure = procedure; handed = 0 }) v old.table.handlers hss) (us : List (Name E × Task L)) (sets : Sets M.event_same old.table.tasks t (Live (M.resume at Done) f (suc a) p) us) where
+  module _ (room : old.steps < MOST_STEPS) (law : ActKept IsAddStep M) (law2 : ActCounted IsAddStep M) (shallow : is_deep t ≡ false) {v : ℕ} (own : M.pool_variable pool ≡ Some v) (x : Variable S E) (x_at : slice_get old.table.variables v ≡ Some x) (unfrozen : (state M old).frozen v ≡ false)
+      {more : List (Handler E × HandlerPlace)} (put_in : PlacesAt M.event_same places name (Some (record { variable = v; pool = pool; procedure = procedure })) more) {hss : List (Handlers E)}
+      (w : AddedAt (record { name = name; pool = pool; procedure = procedure; handed = 0 }) v old.table.handlers hss) {us : List (Name E × Task L)} (sets : Sets M.event_same old.table.tasks t (Live (M.resume at Done) f (suc a) p) us) where
     abbrev new : Table S E L
     new = record { variables = old.table.variables; handlers = hss; tasks = us }
 
@@ -145,7 +129,7 @@ module _ {P S E R A L : Type 0} (M : Machine S E R A L) (ok : IsLawful M) (varia
       added = w.added;
       variables = refl;
       handlers = w.is;
-      tasks = as_asked M ok variables n places old kept t at f a p (Add pool procedure) acts (λ l. Live (M.resume l Done) f (suc a) p) old.table.tasks us sets;
+      tasks = as_asked acts (λ l. Live (M.resume l Done) f (suc a) p) sets;
     }
 
     abbrev post : Post
@@ -155,7 +139,7 @@ module _ {P S E R A L : Type 0} (M : Machine S E R A L) (ok : IsLawful M) (varia
     change = record { own = Some (t, Live (M.resume at Done) f (suc a) p); made = None; added = Some (name, post); joined = None; froze = None; handing = None }
 
     does : effect M (state M old) (Act t) ≡ Changes change
-    does = outcome_is M ok variables n places old kept t at f a p (Add pool procedure) acts
+    does = outcome_is acts
         ∙ ap (λ b. if b then Fails Deep None t else add_effect (state M old) t (Live (M.resume at Done) f (suc a) p) name post (M.pool_variable pool)) shallow
         ∙ ap (add_effect (state M old) t (Live (M.resume at Done) f (suc a) p) name post) own
         ∙ ap (λ b. if b then Fails Late (Some v) t else Changes change) unfrozen
@@ -165,8 +149,8 @@ module _ {P S E R A L : Type 0} (M : Machine S E R A L) (ok : IsLawful M) (varia
     owns k q true e is = subst (λ (z : HandlerPlace). M.pool_variable z.pool ≡ Some z.variable) (same_Some _ _ (sym e ∙ is)) own
     owns k q false e is = kept.index.own k q (sym e ∙ is)
 
-    pub adding : Moves M ok variables n places old kept (Act t) change new more Other
-    adding = acted M ok variables n places old kept t at f a p (Add pool procedure) acts change new more Other refl room (record {
+    pub adding : Moves ok kept (Act t) change new more Other
+    adding = acted ok kept acts change new more Other refl room (record {
       does = does;
       turn = on t acts.local _ f a p f (suc a) p acts.asking.live (omega arith) (omega arith) (omega arith);
       begins = nobody;

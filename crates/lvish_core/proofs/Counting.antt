@@ -1,14 +1,13 @@
 -- The counts of a pool, as a task starts or ends in it.
 use Rattle.std.proofs.Common.{◌≡◌, ◌<◌, ◌≤◌, ℕ, if◌then◌else◌, List, [], ◌∷◌, length, map, Option, Some, None, slice_get, slice_set, option_map, option_and_then, zero, suc, refl, sym, ap, subst, ◌∙◌, arith}
 use Rattle.std.proofs.lemmas.Option.{same_Some}
-use Rattle.lvish_core.specs.declared.limits.TheConstants.{MOST_STEPS}
-use Rattle.lvish_calculus.specs.Machine.{Machine, IsLawful}
+use Rattle.lvish_core.specs.Vocabulary.{MOST_STEPS, HandlerPlace}
+use Rattle.lvish_calculus.specs.Machine.{Machine}
 use Rattle.lvish_calculus.specs.Calculus.{Task, Ended, State, IsLive}
 use Rattle.lvish_names.specs.Names.{Name, Handler}
 use Rattle.lvish_handlers.specs.Handlers.{HandlersView as Handlers}
 use Rattle.lvish_picture.specs.Steps.{AreHeld}
 use Rattle.lvish_picture.specs.Counts.{pool_of, is_this_pool, ends, AreCounts, FewRun, SomeRun, StartIsFollowed, EndIsFollowed, RestIsFollowed}
-use Rattle.lvish_core.specs.declared.handler_place.HandlerPlace.{HandlerPlace}
 use Rattle.lvish_core.specs.Core.{CoreView, state}
 use Rattle.lvish_core.specs.Places.{IsPlaceOf}
 use Rattle.lvish_core.specs.Beside.{IsPoolAt, CanCount, CountsAt, one_more_in, one_less_in}
@@ -21,7 +20,7 @@ still_held [] v hs ks at same = refl
 still_held (x ∷ xs) zero hs ks at same = ap (λ h. h ∷ map (λ q. q.held) xs) (same ∙ sym (ap (λ q. q.held) (same_Some _ _ at)))
 still_held (x ∷ xs) (suc v) hs ks at same = ap (λ r. x.held ∷ r) (still_held xs v hs ks at same)
 
-module _ {P S E R A L : Type 0} (M : Machine S E R A L) (ok : IsLawful M) (variables n : ℕ) (places : List (Handler E × HandlerPlace)) (old : CoreView P S E L) (kept : IsKept M variables n places old)
+module _ {P S E R A L : Type 0} {M : Machine S E R A L} {variables n : ℕ} {places : List (Handler E × HandlerPlace)} {old : CoreView P S E L} (kept : IsKept M variables n places old)
     (known : (k v : ℕ) → M.pool_variable k ≡ Some v → v < variables) where
   -- the handlers beside a variable
   pub beside : (p : HandlerPlace) → M.pool_variable p.pool ≡ Some p.variable → (hs : Handlers E) × (slice_get old.table.handlers p.variable ≡ Some hs)

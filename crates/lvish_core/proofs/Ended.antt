@@ -2,15 +2,13 @@
 use Rattle.std.proofs.Common.{◌≡◌, ◌↔◌, ℕ, Bool, true, false, List, [], Option, Some, None, is_some, IsTrue, refl, sym, subst, ◌∙◌}
 use Rattle.std.proofs.lemmas.Bool.{false≢true}
 use Rattle.std.proofs.lemmas.List.{nil_from_length}
-use Rattle.lvish_calculus.specs.declared.label.Label.TheVariants.{Act}
+use Rattle.lvish_core.specs.Vocabulary.{Act, RunError, HandlerPlace}
 use Rattle.lvish_calculus.specs.Machine.{Machine, IsLawful}
 use Rattle.lvish_calculus.specs.Calculus.{Task, Absent, Live, Ended, IsLive, is_live, IsReadyTask, IsEnded}
 use Rattle.lvish_names.specs.Names.{Name, Handler}
 use Rattle.lvish_calculus.specs.Handing.{IsAmong}
 use Rattle.lvish_picture.specs.Picture.{task_of}
 use Rattle.lvish_picture.specs.Laws.{EndsByCursors}
-use Rattle.lvish_core.specs.declared.fault.RunError.{RunError}
-use Rattle.lvish_core.specs.declared.handler_place.HandlerPlace.{HandlerPlace}
 use Rattle.lvish_core.specs.Core.{CoreView, state, at_fault, picture}
 use Rattle.lvish_core.specs.Kept.{IsKept}
 use Rattle.lvish_core.specs.Reads.{AreDrained, NoneIsReady}

@@ -1,27 +1,17 @@
 -- A step that is an error, over any machine.
 use Rattle.std.proofs.Common.{◌≡◌, ◌⊎◌, inl, inr, take, drop, ◌+◌, ◌≤◌, ◌<◌, ◌++◌, ℕ, List, [], ◌∷◌, length, Option, Some, append_assoc, refl, sym, ap, subst, ◌∙◌, arith, length-append}
-use Rattle.lvish_core.specs.declared.limits.TheConstants.{MOST_STEPS}
-use Rattle.lvish_calculus.specs.declared.request.ErrorKind.{ErrorKind}
-use Rattle.lvish_calculus.specs.declared.request.ErrorKind.TheVariants.{Conflict, Frozen}
-use Rattle.lvish_calculus.specs.declared.request.Request.TheVariants.{Put}
-use Rattle.lvish_calculus.specs.declared.label.Label.{Label}
-use Rattle.lvish_calculus.specs.declared.label.Label.TheVariants.{Act}
-use Rattle.lvish_calculus.specs.Machine.{Machine, IsLawful}
+use Rattle.lvish_core.specs.Vocabulary.{MOST_STEPS, ErrorKind, Conflict, Frozen, Put, Label, Act, PutFault, PutConflict, PutFrozen, HandlerPlace, Other, ErrorStep}
+use Rattle.lvish_calculus.specs.Machine.{Machine}
 use Rattle.lvish_calculus.specs.Calculus.{State, Configuration, Running, Error, Changes, Fails, Nothing, Effect, IsEnabled, CanStep, IsRun, after, next, effect, start, step}
 use Rattle.lvish_names.specs.Names.{Name, Handler}
 use Rattle.lvish_calculus.specs.Laws.{Reaches}
 use Rattle.lvish_calculus.specs.Handing.{IsNoLater, HandsOldestFirst}
 use Rattle.lvish_variable.specs.Variable.{VariableView as Variable, logged}
-use Rattle.lvish_variable.specs.declared.put_fault.PutFault.{PutFault}
-use Rattle.lvish_variable.specs.declared.put_fault.PutFault.TheVariants.{Conflict as PutConflict, Frozen as PutFrozen}
 use Rattle.lvish_picture.specs.Logs.{IsInOrder}
 use Rattle.lvish_picture.specs.Picture.{IsPictured}
 use Rattle.lvish_picture.specs.Steps.{IsErring}
 use Rattle.lvish_picture.specs.Laws.{ErrorsAreSteps}
 use Rattle.lvish_calculus.proofs.CoreRuns.{whole, within, cut}
-use Rattle.lvish_core.specs.declared.handler_place.HandlerPlace.{HandlerPlace}
-use Rattle.lvish_core.specs.declared.touched.Touched.TheVariants.{Other}
-use Rattle.lvish_core.specs.declared.fault.Stepped.TheVariants.{Error as ErrorStep}
 use Rattle.lvish_core.specs.Core.{CoreView, state, IsRunTo, IsStep}
 use Rattle.lvish_core.specs.Changes.{nothing_moved, moved_in, task_touches, brings}
 use Rattle.lvish_core.specs.Beside.{RefusedAt}
@@ -65,8 +55,8 @@ module _ {S E R A L : Type 0} (M : Machine S E R A L) where
   fails_does c (Fails k w u) kind v t e = cc e
   fails_does c Nothing kind v t e = absurd (cc e)
 
-module _ {P S E R A L : Type 0} (M : Machine S E R A L) (ok : IsLawful M) (law : ErrorsAreSteps M) (variables n : ℕ) (places : List (Handler E × HandlerPlace)) (old : CoreView P S E L)
-    (kept : IsKept M variables n places old) (t : Name E) (kind : ErrorKind) (v : Option ℕ) (h : IsFailing M old t kind v) (room : old.steps < MOST_STEPS) where
+module _ {P S E R A L : Type 0} {M : Machine S E R A L} (law : ErrorsAreSteps M) {variables n : ℕ} {places : List (Handler E × HandlerPlace)} {old : CoreView P S E L}
+    (kept : IsKept M variables n places old) {t : Name E} {kind : ErrorKind} {v : Option ℕ} (h : IsFailing M old t kind v) (room : old.steps < MOST_STEPS) where
   abbrev later : Name E → CoreView P S E L
   later u = record { program = old.program; table = old.table; steps = old.steps + 1; fault = Some (record { kind = kind; variable = v; task = u }); touched = Some Other }
 
@@ -124,18 +114,18 @@ module _ {P S E R A L : Type 0} (M : Machine S E R A L) (ok : IsLawful M) (law :
       (record { step = failed_step; change = sym (ap moved_in does) }, failed_kept)
 
 -- a put that the variable refuses
-module _ {P S E R A L : Type 0} (M : Machine S E R A L) (old : CoreView P S E L) (t : Name E) where
-  pub refused_fails : (v : ℕ) (o : PutFault) (kind : ErrorKind) → IsRefused M old t v o → ((o ≡ PutConflict) × (kind ≡ Conflict)) ⊎ ((o ≡ PutFrozen) × (kind ≡ Frozen)) → IsFailing M old t kind (Some v)
-  refused_fails v o kind r by = record { at = r.at; forks = r.forks; adds = r.adds; puts = r.puts; request = Put v r.put; acting = r.acting; errs = errs by }
+module _ {P S E R A L : Type 0} {M : Machine S E R A L} {old : CoreView P S E L} {t : Name E} where
+  pub refused_fails : {v : ℕ} {o : PutFault} {kind : ErrorKind} → IsRefused M old t v o → ((o ≡ PutConflict) × (kind ≡ Conflict)) ⊎ ((o ≡ PutFrozen) × (kind ≡ Frozen)) → IsFailing M old t kind (Some v)
+  refused_fails {v} {o} {kind} r by = record { at = r.at; forks = r.forks; adds = r.adds; puts = r.puts; request = Put v r.put; acting = r.acting; errs = errs by }
     where
       errs : ((o ≡ PutConflict) × (kind ≡ Conflict)) ⊎ ((o ≡ PutFrozen) × (kind ≡ Frozen)) → IsErring M old.table t (Put v r.put) kind (Some v)
       errs (inl e) = let z = rw e.0 at r.why in rw e.1 (z.from, z.was, z.refused, refl)
       errs (inr e) = let z = rw e.0 at r.why in rw e.1 (z.from, z.was, z.refused, refl)
 
   -- as the core stands after its slice was handed out
-  pub refused : (at : L) (f a p v : ℕ) (d : S) → IsActing M old t at f a p (Put v d) → (slice new : List (Variable S E)) (n : ℕ) → slice ≡ old.table.variables → n ≡ length old.table.variables → new ≡ slice → (o : PutFault) → RefusedAt M.join d v slice o
+  pub refused : {at : L} {f a p v : ℕ} {d : S} → IsActing M old t at f a p (Put v d) → {slice new : List (Variable S E)} {n : ℕ} → slice ≡ old.table.variables → n ≡ length old.table.variables → new ≡ slice → (o : PutFault) → RefusedAt M.join d v slice o
       → IsRefused M (record { program = old.program; table = record { variables = take n (new ++ drop (length new) old.table.variables); handlers = old.table.handlers; tasks = old.table.tasks }; steps = old.steps; fault = old.fault; touched = old.touched }) t v o
-  refused at f a p v d acts slice new n is len same o w =
+  refused {at} {f} {a} {p} {v} {d} acts {slice} {new} {n} is len same o w =
       subst (λ l. IsRefused M (record { program = old.program; table = record { variables = l; handlers = old.table.handlers; tasks = old.table.tasks }; steps = old.steps; fault = old.fault; touched = old.touched }) t v o)
       (sym (same ∙ is) ∙ rewritten old.table.variables new n len (ap length (same ∙ is)))
       (record { at = at; forks = f; adds = a; puts = p; put = d; acting = acts; why = subst (λ l. RefusedAt M.join d v l o) is w })

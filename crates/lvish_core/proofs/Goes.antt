@@ -1,23 +1,16 @@
 -- A step of a core that isn't an error, over any machine.
 use Rattle.std.proofs.Common.{◌≡◌, ◌+◌, ◌<◌, ◌≤◌, ℕ, List, [], ◌∷◌, ◌++◌, length, Some, None, slice_get, slice_set, refl, sym, ap, subst, ◌∙◌, arith, length-append, append-nil}
 use Rattle.std.proofs.lemmas.Option.{same_Some, slice_get_within}
-use Rattle.lvish_core.specs.declared.limits.TheConstants.{MOST_STEPS}
-use Rattle.lvish_calculus.specs.declared.label.Label.{Label}
-use Rattle.lvish_calculus.specs.declared.label.Label.TheVariants.{Act}
-use Rattle.lvish_calculus.specs.declared.request.Request.{Request}
+use Rattle.lvish_core.specs.Vocabulary.{MOST_STEPS, Label, Act, Request, Entry, HandlerPlace, Touched, DoneStep}
 use Rattle.lvish_calculus.specs.Machine.{Machine, IsLawful}
 use Rattle.lvish_calculus.specs.Calculus.{Task, State, Configuration, IsLive, Change, Changes, CanStep, after, changed, next, effect, request_effect, task_effect, with_task}
 use Rattle.lvish_names.specs.Names.{Name, Handler}
 use Rattle.lvish_calculus.specs.Live.{HasLive}
-use Rattle.lvish_variable.specs.declared.entry.Entry.{Entry}
 use Rattle.lvish_variable.specs.Variable.{VariableView as Variable}
 use Rattle.lvish_picture.specs.Picture.{Table, IsPictured, task_of}
 use Rattle.lvish_picture.specs.Steps.{AreTasks}
 use Rattle.lvish_picture.specs.Laws.{IsTableStep as TableStep}
 use Rattle.lvish_picture.specs.Counts.{CountsRunning}
-use Rattle.lvish_core.specs.declared.handler_place.HandlerPlace.{HandlerPlace}
-use Rattle.lvish_core.specs.declared.touched.Touched.{Touched}
-use Rattle.lvish_core.specs.declared.fault.Stepped.TheVariants.{Done as DoneStep}
 use Rattle.lvish_core.specs.Core.{CoreView, state, IsStep, HandsNext, says}
 use Rattle.lvish_core.specs.Changes.{brings, put_brings, moved_by, moved_in, task_touches, touched_by}
 use Rattle.lvish_core.specs.Places.{IsIndex}
@@ -25,7 +18,7 @@ use Rattle.lvish_core.specs.Tasks.{Sets}
 use Rattle.lvish_core.specs.Acts.{IsActing, IsMoving}
 use Rattle.lvish_core.specs.Kept.{IsKept, AreFew}
 use Rattle.lvish_core.specs.laws.Runs.{running_same, at_state, pictured_by, run_to}
-use Rattle.lvish_core.proofs.Gets.{here, other, set_read}
+use Rattle.lvish_picture.proofs.Slots.{read, written, earlier}
 use Rattle.lvish_core.proofs.Turns.{Turn, Start, joined, left, live_is, no_more, live_after, few_after}
 
 -- a log that stays
@@ -35,18 +28,31 @@ same_log {S} {E} xs v x y a b = let e : y ≡ x = cc in ap (λ (z : Variable S E
 -- the logs, where one variable is written
 pub written_log : {S E : Type 0} (xs : List (Variable S E)) (v : ℕ) (from to : Variable S E) → slice_get xs v ≡ Some from → (ys : List (Variable S E)) → ys ≡ slice_set xs v to
     → (brought : ℕ → List (Entry E)) → to.log ≡ from.log ++ brought v → ((u : ℕ) → (u ≡ v → ⊥) → brought u ≡ []) → (u : ℕ) (x y : Variable S E) → slice_get xs u ≡ Some x → slice_get ys u ≡ Some y → y.log ≡ x.log ++ brought u
-written_log {S} {E} xs v from to was ys is brought at_v else u x y ax ay = elim (set_read xs v to u y (slice_get_within xs v from was) (ap (λ l. slice_get l u) (sym is) ∙ ay)) [
-  | here uv yt ↦
+written_log {S} {E} xs v from to was ys is brought at_v else u x y ax ay = elim (read xs v to u y (slice_get_within xs v from was) (ap (λ l. slice_get l u) (sym is) ∙ ay)) [
+  | written uv yt ↦
       let same : x ≡ from = same_Some _ _ (sym ax ∙ ap (slice_get xs) uv ∙ was) in
       ap (λ (z : Variable S E). z.log) yt ∙ at_v ∙ ap (λ (z : Variable S E). z.log ++ brought v) (sym same) ∙ ap (λ i. x.log ++ brought i) (sym uv)
-  | other ne oy ↦ same_log xs u x y ax oy ∙ ap (λ l. x.log ++ l) (sym (else u ne))
+  | earlier ne oy ↦ same_log xs u x y ax oy ∙ ap (λ l. x.log ++ l) (sym (else u ne))
 ]
 
 -- the core after a step: its table, and what the step concerned
 abbrev pub later : {P S E L : Type 0} → CoreView P S E L → Table S E L → Touched → CoreView P S E L
 later old table on = record { program = old.program; table = table; steps = old.steps + 1; fault = old.fault; touched = Some on }
 
-module _ {P S E R A L : Type 0} (M : Machine S E R A L) (ok : IsLawful M) (variables n : ℕ) (places : List (Handler E × HandlerPlace)) (old : CoreView P S E L) (kept : IsKept M variables n places old) where
+-- a task's step
+module _ {P S E R A L : Type 0} {M : Machine S E R A L} {old : CoreView P S E L} {t : Name E} {at : L} {f a p : ℕ} {r : Request S R L} (acts : IsActing M old t at f a p r) where
+  pub outcome_is : effect M (state M old) (Act t) ≡ request_effect M (state M old) t at f a p r
+  outcome_is = ap (task_effect M (state M old) t) acts.asking.live ∙ ap (λ q. request_effect M (state M old) t (M.at acts.local) f a p q) acts.asking.asked
+      ∙ ap (λ l. request_effect M (state M old) t l f a p r) (sym acts.at_is)
+
+  pub was_live : IsLive (task_of M.event_same old.table.tasks t)
+  was_live = live_is _ acts.local f a p acts.asking.live
+
+  -- what the task goes on with, told as table steps tell it
+  pub as_asked : (k : L → Task L) {from us : List (Name E × Task L)} → Sets M.event_same from t (k at) us → AreTasks M.event_same from (Some (t, k (M.at acts.local))) None us
+  as_asked k {from} {us} sets u = subst (λ l. task_of M.event_same us u ≡ with_task M.event_same (Some (t, k l)) (task_of M.event_same from) u) acts.at_is (sets.each u)
+
+module _ {P S E R A L : Type 0} {M : Machine S E R A L} (ok : IsLawful M) {variables n : ℕ} {places : List (Handler E × HandlerPlace)} {old : CoreView P S E L} (kept : IsKept M variables n places old) where
   -- what makes a step: its change in the calculus, and what it leaves
   pub record Going (l : Label E) (change : Change S E L) (new : Table S E L) (more : List (Handler E × HandlerPlace)) : Type 0 where
     pub does : effect M (state M old) l ≡ Changes change
@@ -108,18 +114,6 @@ module _ {P S E R A L : Type 0} (M : Machine S E R A L) (ok : IsLawful M) (varia
     pub moves : Moves l change new more on
     moves = (record { step = is_step; change = sym (ap moved_in g.does) }, is_kept)
 
-  -- a task's step
-  module _ (t : Name E) (at : L) (f a p : ℕ) (r : Request S R L) (acts : IsActing M old t at f a p r) where
-    pub outcome_is : effect M (state M old) (Act t) ≡ request_effect M (state M old) t at f a p r
-    outcome_is = ap (task_effect M (state M old) t) acts.asking.live ∙ ap (λ q. request_effect M (state M old) t (M.at acts.local) f a p q) acts.asking.asked
-        ∙ ap (λ l. request_effect M (state M old) t l f a p r) (sym acts.at_is)
-
-    pub was_live : IsLive (task_of M.event_same old.table.tasks t)
-    was_live = live_is _ acts.local f a p acts.asking.live
-
-    -- what the task goes on with, told as table steps tell it
-    pub as_asked : (k : L → Task L) (from us : List (Name E × Task L)) → Sets M.event_same from t (k at) us → AreTasks M.event_same from (Some (t, k (M.at acts.local))) None us
-    as_asked k from us sets u = subst (λ l. task_of M.event_same us u ≡ with_task M.event_same (Some (t, k l)) (task_of M.event_same from) u) acts.at_is (sets.each u)
-
-    pub acted : (change : Change S E L) (new : Table S E L) (more : List (Handler E × HandlerPlace)) (on : Touched) → on ≡ task_touches M (state M old) (Changes change) → old.steps < MOST_STEPS → Going (Act t) change new more → Moves (Act t) change new more on
-    acted change new more on touches room g = moves (Act t) change new more on acts.no_fault room tt (touches ∙ sym (ap (task_touches M (state M old)) g.does)) g
+  pub acted : {t : Name E} {at : L} {f a p : ℕ} {r : Request S R L} (acts : IsActing M old t at f a p r) (change : Change S E L) (new : Table S E L) (more : List (Handler E × HandlerPlace)) (on : Touched) → on ≡ task_touches M (state M old) (Changes change) → old.steps < MOST_STEPS
+      → Going (Act t) change new more → Moves (Act t) change new more on
+  acted {t = t} acts change new more on touches room g = moves (Act t) change new more on acts.no_fault room tt (touches ∙ sym (ap (task_touches M (state M old)) g.does)) g

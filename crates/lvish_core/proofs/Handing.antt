@@ -2,21 +2,17 @@
 use Rattle.std.proofs.Common.{◌≡◌, ◌+◌, ◌<◌, ℕ, List, map, Contains, Some, None, slice_set, slice_index, option_map, option_and_then, refl, sym, ap, subst, ◌∙◌}
 use Rattle.std.proofs.lemmas.List.{map-set}
 use Rattle.std.proofs.lemmas.Option.{same_Some}
-use Rattle.lvish_calculus.specs.declared.label.Label.TheVariants.{Hand}
+use Rattle.lvish_core.specs.Vocabulary.{Hand, Held, MOST_STEPS, HandlerPlace, Handed}
 use Rattle.lvish_calculus.specs.Machine.{Machine, IsLawful}
 use Rattle.lvish_calculus.specs.Calculus.{Post, Task, Live, Change, hand_effect}
 use Rattle.lvish_names.specs.Names.{Name, Handler, handed}
 use Rattle.lvish_variable.specs.Variable.{VariableView as Variable}
-use Rattle.lvish_handlers.specs.declared.held.Held.{Held}
 use Rattle.lvish_handlers.specs.Handlers.{HandlersView as Handlers, next_of}
 use Rattle.lvish_picture.specs.Picture.{Table}
 use Rattle.lvish_picture.specs.Steps.{AreTasks, IsHandStep}
 use Rattle.lvish_picture.specs.Laws.{HandKept, PostsAreHeld, NewTaskIsNew, IsHandlerSeated}
 use Rattle.lvish_picture.specs.Counts.{AreCounts, HandCounted, StartIsFollowed, FewRun}
 use Rattle.lvish_picture.proofs.Slots.{contained, among_here}
-use Rattle.lvish_core.specs.declared.limits.TheConstants.{MOST_STEPS}
-use Rattle.lvish_core.specs.declared.handler_place.HandlerPlace.{HandlerPlace}
-use Rattle.lvish_core.specs.declared.touched.Touched.TheVariants.{Handed}
 use Rattle.lvish_core.specs.Core.{CoreView, state}
 use Rattle.lvish_core.specs.Changes.{touching}
 use Rattle.lvish_core.specs.Tasks.{Sets}
@@ -27,8 +23,8 @@ use Rattle.lvish_core.proofs.Counting.{can_start}
 use Rattle.lvish_core.proofs.Turns.{idle, child}
 use Rattle.lvish_core.proofs.Goes.{Moves, moves, same_log}
 
-module _ {P S E R A L : Type 0} (M : Machine S E R A L) (ok : IsLawful M) (variables n : ℕ) (places : List (Handler E × HandlerPlace)) (old : CoreView P S E L) (kept : IsKept M variables n places old)
-    (known : (k v : ℕ) → M.pool_variable k ≡ Some v → v < variables) (h : Handler E) (place : HandlerPlace) (e : E) (hands : IsHanding M old h place e) where
+module _ {P S E R A L : Type 0} {M : Machine S E R A L} (ok : IsLawful M) {variables n : ℕ} {places : List (Handler E × HandlerPlace)} {old : CoreView P S E L} (kept : IsKept M variables n places old)
+    (known : (k v : ℕ) → M.pool_variable k ≡ Some v → v < variables) {h : Handler E} {place : HandlerPlace} {e : E} (hands : IsHanding M old h place e) where
   pub can_hand : FewRun M → old.steps < MOST_STEPS → CanHand M.event_same old.table.variables h place old.table.handlers
   can_hand law room = record {
     at = hands.at;
@@ -36,11 +32,11 @@ module _ {P S E R A L : Type 0} (M : Machine S E R A L) (ok : IsLawful M) (varia
     within = λ hs is. kept.standing.pictured.table.within place.variable hands.at hs hands.at_is is;
     event = e;
     next = λ hs is. ap (λ (q : Handlers E). next_of M.event_same hands.at.log q.held h) (same_Some _ _ (sym is ∙ hands.beside_is)) ∙ hands.next;
-    pool = can_start M ok variables n places old kept known law room place hands.own;
+    pool = can_start kept known law room place hands.own;
   }
 
-  module _ (room : old.steps < MOST_STEPS) (law : HandKept M) (law2 : HandCounted M) (posts : PostsAreHeld M) (follows : StartIsFollowed M) (fresh : NewTaskIsNew M) (us : List (Name E × Task L))
-      (made : Sets M.event_same old.table.tasks (handed h.adder h.number e) (Live (M.start_handler place.procedure e) 0 0 0) us) (hss : List (Handlers E)) (w : HandedAt M.event_same old.table.variables h place old.table.handlers hss) where
+  module _ (room : old.steps < MOST_STEPS) (law : HandKept M) (law2 : HandCounted M) (posts : PostsAreHeld M) (follows : StartIsFollowed M) (fresh : NewTaskIsNew M) {us : List (Name E × Task L)}
+      (made : Sets M.event_same old.table.tasks (handed h.adder h.number e) (Live (M.start_handler place.procedure e) 0 0 0) us) {hss : List (Handlers E)} (w : HandedAt M.event_same old.table.variables h place old.table.handlers hss) where
     abbrev new : Table S E L
     new = record { variables = old.table.variables; handlers = hss; tasks = us }
 
@@ -84,8 +80,8 @@ module _ {P S E R A L : Type 0} (M : Machine S E R A L) (ok : IsLawful M) (varia
         (sym (w.is ∙ ap (λ r. slice_set old.table.handlers place.variable (record { held = w.to.held; running = slice_set r place.pool (slice_index r place.pool + 1) })) w.advanced.pools))
         (follows (state M old) None name t old.table.handlers place.variable w.from w.to.held place.pool (ap (option_map (λ (q : Post). q.pool)) hands.post) hands.own w.was c.0 (λ q. refl))
 
-    pub handing : Moves M ok variables n places old kept (Hand h e) change new places (Handed place.variable)
-    handing = moves M ok variables n places old kept (Hand h e) change new places (Handed place.variable) hands.no_fault room
+    pub handing : Moves ok kept (Hand h e) change new places (Handed place.variable)
+    handing = moves ok kept (Hand h e) change new places (Handed place.variable) hands.no_fault room
         (record { variable = place.variable; at = hands.at; at_is = hands.at_is; beside = hands.beside; beside_is = hands.beside_is; next = hands.next })
         (ap (touching (λ v. Handed v)) (sym (ap (option_and_then (λ (q : Post). M.pool_variable q.pool)) hands.post ∙ hands.own)))
         (record {

@@ -1,6 +1,7 @@
 pub mod Maps
 pub mod Ordered
 pub mod Gets
+pub mod Reading
 pub mod Repeats
 pub mod Numbering
 pub mod Turns

@@ -1,13 +1,11 @@
 -- What is listed from the tasks and the handlers are the labels that the core can take, in order.
-use Rattle.std.proofs.Common.{◌≡◌, ◌↔◌, inl, inr, ℕ, Bool, true, false, List, [], ◌++◌, Some, None, is_some, Ordering, refl, sym, ap, subst, ◌∙◌}
-use Rattle.std.specs.declared.cmp.Ordering.TheVariants.{Less}
+use Rattle.std.proofs.Common.{◌≡◌, ◌↔◌, inl, inr, ℕ, Bool, true, false, List, [], ◌++◌, Some, None, is_some, Ordering, refl, sym, ap, subst, ◌∙◌, Less}
 use Rattle.std.specs.Ordering.{eq_by_cmp, ordering_then}
 use Rattle.std.specs.List.{AllByRecursion, IsDistinct}
 use Rattle.std.specs.List.Sorted.{IsStrictlySortedBy}
 use Rattle.std.proofs.lemmas.Map.Keys.{IsDistinct-from_sorted}
 use Rattle.lvish_names.specs.NameOrder.{name_cmp, handler_cmp}
-use Rattle.lvish_calculus.specs.declared.label.Label.{Label}
-use Rattle.lvish_calculus.specs.declared.label.Label.TheVariants.{Act, Hand}
+use Rattle.lvish_core.specs.Vocabulary.{Label, Act, Hand, HandlerPlace}
 use Rattle.lvish_calculus.specs.Machine.{Machine, IsLawful}
 use Rattle.lvish_calculus.specs.Calculus.{Task, State, IsReadyTask}
 use Rattle.lvish_names.specs.Names.{Name, Handler, same_name, same_handler}
@@ -15,7 +13,6 @@ use Rattle.lvish_calculus.specs.Handing.{IsAmong}
 use Rattle.lvish_calculus.proofs.Names.{same_name-true, same_name-refl, same_handler-true, same_handler-refl}
 use Rattle.lvish_picture.specs.Picture.{Table, task_of}
 use Rattle.lvish_picture.specs.Laws.{PostsAreHeld, HandsTheNext}
-use Rattle.lvish_core.specs.declared.handler_place.HandlerPlace.{HandlerPlace}
 use Rattle.lvish_core.specs.Core.{CoreView, IsNext, CanTake, state}
 use Rattle.lvish_core.specs.Labels.{label_cmp, AreLabels}
 use Rattle.lvish_core.specs.Places.{place_at, handlers_of}

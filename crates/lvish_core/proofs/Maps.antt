@@ -3,13 +3,12 @@ use Rattle.std.proofs.Common.{◌≡◌, Bool, true, false, cond, if◌then◌el
 use Rattle.std.specs.Map.{lookup, keys_of}
 use Rattle.lvish_calculus.specs.Calculus.{Absent}
 use Rattle.lvish_names.specs.Names.{Name, same_name, Handler, same_handler}
-use Rattle.lvish_core.specs.declared.stage.Stage.{Stage}
+use Rattle.lvish_core.specs.Vocabulary.{Stage, HandlerPlace}
 use Rattle.lvish_picture.specs.Picture.{task_of}
 use Rattle.lvish_core.specs.Tasks.{Sets, standing, standing_at, standings, task_names}
 use Rattle.std.specs.Ordering.{eq_by_cmp}
 use Rattle.std.specs.BTreeMap.{is_at}
 use Rattle.lvish_names.specs.NameOrder.{handler_cmp}
-use Rattle.lvish_core.specs.declared.handler_place.HandlerPlace.{HandlerPlace}
 use Rattle.lvish_core.specs.Places.{place_at, handlers_of, PlacesAt, SamePlaces}
 
 picks : {X W : Type 0} (found : Option X → W) (b : Bool) (s : Option X) (r : W) (o : Option X) → r ≡ found o → (if b then found s else r) ≡ found (cond b s o)

@@ -1,18 +1,15 @@
 -- Whether a request can be made, told by the variable's state, by cursors and by counts.
-use Rattle.std.proofs.Common.{◌≡◌, ◌↔◌, ◌<◌, ℕ, Bool, false, List, length, Option, Some, sym, ap, ◌∙◌, get_or, is_some, option_map, unwrap_or, inl, inr, ◌+◌, min, refl, subst, arith}
-use Rattle.std.specs.List.{All, slice_get, slice_index}
-use Rattle.std.specs.Bool.{IsTrue}
+use Rattle.std.proofs.Common.{◌≡◌, ◌↔◌, ◌<◌, ℕ, Bool, false, List, length, Option, Some, sym, ap, ◌∙◌, get_or, is_some, option_map, unwrap_or, inl, inr, ◌+◌, min, refl, subst, arith, All, slice_get, slice_index, IsTrue}
 use Rattle.std.proofs.lemmas.Bool.{both_ways, cases_lt}
 use Rattle.std.proofs.lemmas.Option.{same_Some, slice_get_read, slice_get_within}
 use Rattle.std.proofs.lemmas.List.Elements.{Contains-get_or}
-use Rattle.lvish_calculus.specs.declared.request.Request.TheVariants.{Get, Freeze}
+use Rattle.lvish_core.specs.Vocabulary.{Get, Freeze, HandlerPlace}
 use Rattle.lvish_calculus.specs.Machine.{Machine, IsOf}
 use Rattle.lvish_calculus.specs.Calculus.{IsReady, IsQuiet}
 use Rattle.lvish_names.specs.Names.{Handler}
 use Rattle.lvish_variable.specs.Variable.{VariableView as Variable}
 use Rattle.lvish_handlers.specs.Handlers.{HandlersView as Handlers, IsWithin}
 use Rattle.lvish_picture.specs.Counts.{FreezesByCounts}
-use Rattle.lvish_core.specs.declared.handler_place.HandlerPlace.{HandlerPlace}
 use Rattle.lvish_core.specs.Core.{CoreView, state}
 use Rattle.lvish_core.specs.Kept.{IsKept}
 use Rattle.lvish_core.specs.Reads.{AreWithin, IsAllHanded}

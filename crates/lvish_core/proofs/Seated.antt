@@ -1,30 +1,21 @@
 -- Where a handler is, and what comes next for it.
-use Rattle.std.proofs.Common.{◌≡◌, ◌↔◌, ◌<◌, ℕ, Bool, false, List, Option, Some, None, refl, sym, ap, subst, ◌∙◌, is_some, option_map, slice_get, true, Result, Ok, Err, IsErrAnd, MatchResult}
-use Rattle.std.specs.Option.{MatchOption}
-use Rattle.std.specs.Bool.{IsTrue}
-use Rattle.std.specs.List.{Contains, slice_get}
+use Rattle.std.proofs.Common.{◌≡◌, ◌↔◌, ◌<◌, ℕ, Bool, false, List, Option, Some, None, refl, sym, ap, subst, ◌∙◌, is_some, option_map, slice_get, true, Result, Ok, Err, IsErrAnd, MatchResult, MatchOption, IsTrue, Contains}
 use Rattle.lvish_calculus.specs.Machine.{Machine, IsLawful}
-use Rattle.lvish_calculus.specs.declared.label.Label.TheVariants.{Hand}
+use Rattle.lvish_core.specs.Vocabulary.{Hand, Held, HandlerPlace, Label, Stepped, StepFault, NotEnabled, Full, Memory, Moved}
 use Rattle.lvish_calculus.specs.Calculus.{Post, IsEnabled}
 use Rattle.lvish_names.specs.Names.{Handler}
 use Rattle.lvish_variable.specs.Variable.{VariableView as Variable}
-use Rattle.lvish_handlers.specs.declared.held.Held.{Held}
 use Rattle.lvish_handlers.specs.Handlers.{HandlersView as Handlers, next_of}
 use Rattle.lvish_picture.specs.Laws.{IsHandlerSeated, PostsAreHeld, HandsTheNext}
-use Rattle.lvish_core.specs.declared.handler_place.HandlerPlace.{HandlerPlace}
 use Rattle.lvish_picture.proofs.Cursors.{seat_with}
 use Rattle.lvish_core.specs.Reads.{AreHandlers}
 use Rattle.lvish_core.proofs.Shown.{can_step, no_fault}
-use Rattle.lvish_core.proofs.Coming.{same, coming, next_one as one_next}
+use Rattle.lvish_core.proofs.Coming.{coming, next_one as one_next}
 use Rattle.lvish_core.specs.Core.{CoreView, IsNext, CanTake, state, IsStep, IsStepRefused}
 use Rattle.lvish_core.specs.Places.{place_at, post_of}
 use Rattle.lvish_core.specs.Kept.{IsKept}
 use Rattle.std.proofs.lemmas.Bool.{false≢true}
-use Rattle.lvish_calculus.specs.declared.label.Label.{Label}
-use Rattle.lvish_core.specs.declared.fault.Stepped.{Stepped}
-use Rattle.lvish_core.specs.declared.fault.StepFault.{StepFault}
-use Rattle.lvish_core.specs.declared.fault.StepFault.TheVariants.{NotEnabled, Full, Memory}
-use Rattle.lvish_core.specs.declared.moved.Moved.{Moved}
+use Rattle.std.proofs.lemmas.Option.{same_Some}
 use Rattle.lvish_core.specs.Handed.{IsHanding, IsHanded, IsNotHanded}
 
 map_some : {X Y : Type 0} (f : X → Y) (o : Option X) (y : Y) → option_map f o ≡ Some y → (x : X) × (o ≡ Some x) × (f x ≡ y)
@@ -54,7 +45,7 @@ module _ {P S E R A L : Type 0} (M : Machine S E R A L) (n running : ℕ) (place
         record {
           place = there.0;
           at = there.1;
-          variable = same (sym own ∙ ap M.pool_variable pool ∙ post.1);
+          variable = same_Some _ _ (sym own ∙ ap M.pool_variable pool ∙ post.1);
           pool = pool;
           procedure = ap (λ (q : Post). q.procedure) there.2;
         }
@@ -72,9 +63,9 @@ module _ {P S E R A L : Type 0} (M : Machine S E R A L) (n running : ℕ) (place
     next_there name p at x there hs beside (Some e) is = record { variable = p.variable; at = x; at_is = there; beside = hs; beside_is = beside; next = sym is }
     next_there name p at x there hs beside None is = λ e z.
         let q = next_place name e z in
-        let v : p.variable ≡ z.variable = ap (λ (q : HandlerPlace). q.variable) (same (sym at ∙ q.1)) ∙ q.2 in
-        let xx : x ≡ z.at = same (sym there ∙ ap (λ u. slice_get c.table.variables u) v ∙ z.at_is) in
-        let hh : hs ≡ z.beside = same (sym beside ∙ ap (λ u. slice_get c.table.handlers u) v ∙ z.beside_is) in
+        let v : p.variable ≡ z.variable = ap (λ (q : HandlerPlace). q.variable) (same_Some _ _ (sym at ∙ q.1)) ∙ q.2 in
+        let xx : x ≡ z.at = same_Some _ _ (sym there ∙ ap (λ u. slice_get c.table.variables u) v ∙ z.at_is) in
+        let hh : hs ≡ z.beside = same_Some _ _ (sym beside ∙ ap (λ u. slice_get c.table.handlers u) v ∙ z.beside_is) in
         let none : None ≡ Some e = is ∙ ap (λ (y : Variable S E). next_of M.event_same y.log hs.held name) xx ∙ ap (λ (y : Handlers E). next_of M.event_same (z.at).log y.held name) hh ∙ z.next in
         cc none
 
@@ -120,10 +111,10 @@ module _ {P S E R A L : Type 0} (M : Machine S E R A L) (n running : ℕ) (place
             let s = seat_with M ok c.table k.standing.run k.standing.pictured name post z.0 in
             let seated : IsHandlerSeated c.table s.0 s.1 s.2 s.3 = s.4 in
             let other = posts k.standing.run c.table s.0 s.1 s.2 s.3 k.standing.pictured seated in
-            let post_is : post_at s.3 ≡ post = same (sym other.0 ∙ ap (λ h. (state M c).handlers h) s.5 ∙ z.0) in
+            let post_is : post_at s.3 ≡ post = same_Some _ _ (sym other.0 ∙ ap (λ h. (state M c).handlers h) s.5 ∙ z.0) in
             let pool : (s.3).pool ≡ post.pool = ap (λ (q : Post). q.pool) post_is in
-            let v_is : s.0 ≡ v = same (sym other.1 ∙ ap M.pool_variable pool ∙ z.1) in
-            let hs_is : s.2 ≡ hs = same (sym seated.beside ∙ ap (λ u. slice_get c.table.handlers u) v_is ∙ beside) in
+            let v_is : s.0 ≡ v = same_Some _ _ (sym other.1 ∙ ap M.pool_variable pool ∙ z.1) in
+            let hs_is : s.2 ≡ hs = same_Some _ _ (sym seated.beside ∙ ap (λ u. slice_get c.table.handlers u) v_is ∙ beside) in
             record {
               handler = s.3;
               there = subst (λ (ys : List (Held E)). Contains ys (s.3)) (ap (λ (y : Handlers E). y.held) hs_is ∙ sym is) seated.held;

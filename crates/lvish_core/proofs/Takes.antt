@@ -1,13 +1,11 @@
 -- Which labels a core can take.
 use Rattle.std.proofs.Common.{◌≡◌, ◌↔◌, ℕ, ◌<◌, List, [], ◌∷◌, ◌++◌, length, Option, Some, None, slice_get, refl, sym, ◌∙◌, subst, arith}
-use Rattle.lvish_calculus.specs.declared.label.Label.{Label}
-use Rattle.lvish_calculus.specs.declared.label.Label.TheVariants.{Act, Hand}
+use Rattle.lvish_core.specs.Vocabulary.{Label, Act, Hand, Held}
 use Rattle.lvish_calculus.specs.Machine.{Machine, IsLawful}
 use Rattle.lvish_calculus.specs.Calculus.{Running, CanStep, IsEnabled}
 use Rattle.lvish_names.specs.Names.{Handler}
 use Rattle.lvish_calculus.specs.Handing.{HandsOldestFirst}
 use Rattle.lvish_variable.specs.Variable.{VariableView as Variable, logged}
-use Rattle.lvish_handlers.specs.declared.held.Held.{Held}
 use Rattle.lvish_handlers.specs.Handlers.{HandlersView as Handlers, next_of}
 use Rattle.lvish_picture.specs.Picture.{IsPictured}
 use Rattle.lvish_picture.specs.Laws.{IsOrdered, IsHandlerSeated, PostsAreHeld, HandsBelowTheEnd, HandsTheNext, HandsTheHeld}

@@ -21,12 +21,8 @@ left _ n = n
 pub no_more : {E L : Type 0} (own made : Option (Name E × Task L)) (n : ℕ) → left own (joined made n) ≤ n + 1
 no_more (Some (t, Ended)) None n = omega arith
 no_more (Some (t, Ended)) (Some x) n = omega arith
-no_more (Some (t, Live l f a p)) None n = omega arith
-no_more (Some (t, Live l f a p)) (Some x) n = omega arith
-no_more (Some (t, Absent)) None n = omega arith
-no_more (Some (t, Absent)) (Some x) n = omega arith
-no_more None None n = omega arith
-no_more None (Some x) n = omega arith
+no_more own None n = omega arith
+no_more own (Some x) n = omega arith
 
 pub live_is : {L : Type 0} (k : Task L) (l : L) (f a p : ℕ) → k ≡ Live l f a p → IsLive k
 live_is {L} k l f a p e = subst (λ (x : Task L). IsLive x) (sym e) is_live

@@ -1,20 +1,14 @@
 -- What a waiting task waits for, as the last step tells it, over any machine.
-use Rattle.std.proofs.Common.{◌≡◌, ◌⊎◌, inl, inr, ℕ, List, Some, None, refl, sym, ap, subst, ◌∙◌}
-use Rattle.std.specs.Prelude.{option_and_then, option_map}
-use Rattle.lvish_calculus.specs.declared.label.Label.{Label}
-use Rattle.lvish_calculus.specs.declared.label.Label.TheVariants.{Act, Hand}
-use Rattle.lvish_calculus.specs.declared.request.Request.{Request}
-use Rattle.lvish_calculus.specs.declared.request.Request.TheVariants.{Get, Freeze}
+use Rattle.std.proofs.Common.{◌≡◌, ◌⊎◌, inl, inr, ℕ, List, Some, None, refl, sym, ap, subst, ◌∙◌, option_and_then, option_map}
+use Rattle.lvish_core.specs.Vocabulary.{Label, Act, Hand, Request, Get, Freeze, Stepped, Handed, EndedIn}
 use Rattle.lvish_calculus.specs.Machine.{Machine, IsLawful}
 use Rattle.lvish_calculus.specs.Calculus.{Live, Ended, Post, State, Configuration, Running, Error, Change, Effect, Changes, Fails, Nothing, CanStep, IsEnabled, IsEnded, IsReady, after, changed, next, effect}
 use Rattle.lvish_names.specs.Names.{Name, Handler, handler_of}
 use Rattle.lvish_calculus.specs.Waiting.{LetsPass, by_put, by_handing, by_end, WaitsForItsVariable, AllWait}
-use Rattle.lvish_calculus.proofs.Steps.{Makes, puts, gets, forks, adds, freezes, pauses, ends, hands, view, unview}
+use Rattle.lvish_calculus.proofs.Steps.{Makes, puts, ends, hands, view, unview}
 use Rattle.lvish_calculus.proofs.Sound.{first, second}
 use Rattle.lvish_picture.specs.Counts.{pool_of}
 use Rattle.lvish_picture.specs.Laws.{EndsByCursors}
-use Rattle.lvish_core.specs.declared.fault.Stepped.{Stepped}
-use Rattle.lvish_core.specs.declared.touched.Touched.TheVariants.{Handed, Ended as EndedIn}
 use Rattle.lvish_core.specs.Core.{CoreView, state, IsRunTo, IsStep}
 use Rattle.lvish_core.specs.Changes.{touched_by, task_touches, touching}
 use Rattle.lvish_core.specs.Waiting.{MayPass, WaitsUntilTouched, EndsByCounts}
@@ -41,35 +35,18 @@ module _ {S E R A L : Type 0} (M : Machine S E R A L) (ok : IsLawful M) (c : Sta
   told : (l : Label E) (ch : Change S E L) → Makes M c l ch → (q : Request S R L) → LetsPass M c ch q → MayPass q (Some (touched_by M c l))
   told _ _ (puts t o f a p w x s is q j same) _ (by_put v r d e) =
       subst (λ z. MayPass {S = S} {R = R} {L = L} (Get v r) (Some z)) (sym (act_touches t _ (puts t o f a p w x s is q j same))) (sym (first e))
-  told _ _ (puts t o f a p w x s is q j same) _ (by_handing v pools h e z on) = absurd cc
-  told _ _ (puts t o f a p w x s is q j same) _ (by_end v pools u h e leads on) = let z = second e in absurd cc
-  told _ _ (gets t o f a p w r x is q j) _ (by_put v r2 d e) = absurd cc
-  told _ _ (gets t o f a p w r x is q j) _ (by_handing v pools h e z on) = absurd cc
-  told _ _ (gets t o f a p w r x is q j) _ (by_end v pools u h e leads on) = let z = second e in absurd cc
-  told _ _ (forks t o f a p k is q b) _ (by_put v r d e) = absurd cc
-  told _ _ (forks t o f a p k is q b) _ (by_handing v pools h e z on) = absurd cc
-  told _ _ (forks t o f a p k is q b) _ (by_end v pools u h e leads on) = let z = second e in absurd cc
-  told _ _ (adds t o f a p pool procedure w is q b x y) _ (by_put v r d e) = absurd cc
-  told _ _ (adds t o f a p pool procedure w is q b x y) _ (by_handing v pools h e z on) = absurd cc
-  told _ _ (adds t o f a p pool procedure w is q b x y) _ (by_end v pools u h e leads on) = let z = second e in absurd cc
-  told _ _ (freezes t o f a p w ps is q) _ (by_put v r d e) = absurd cc
-  told _ _ (freezes t o f a p w ps is q) _ (by_handing v pools h e z on) = absurd cc
-  told _ _ (freezes t o f a p w ps is q) _ (by_end v pools u h e leads on) = let z = second e in absurd cc
-  told _ _ (pauses t o f a p is q) _ (by_put v r d e) = absurd cc
-  told _ _ (pauses t o f a p is q) _ (by_handing v pools h e z on) = absurd cc
-  told _ _ (pauses t o f a p is q) _ (by_end v pools u h e leads on) = let z = second e in absurd cc
-  told _ _ (ends t o f a p is q) _ (by_put v r d e) = absurd cc
-  told _ _ (ends t o f a p is q) _ (by_handing v pools h e z on) = absurd cc
-  told _ _ (ends t o f a p is q) _ (by_end v pools u h e leads on) =
-      let same : t ≡ u = first e in
-      let named : handler_of t ≡ Some h = subst (λ y. handler_of y ≡ Some h) (sym same) leads in
-      subst (λ z. MayPass {S = S} {R = R} {L = L} (Freeze v pools) (Some z)) (sym (act_touches t _ (ends t o f a p is q) ∙ end_touches t h v on.post named on.is on.of)) refl
-  told _ _ (hands h x post is) _ (by_put v r d e) = absurd cc
   told _ _ (hands h x post is) _ (by_handing v pools g y e on) =
       let same : h ≡ g = first e in
       let is2 : c.handlers h ≡ Some on.post = subst (λ z. c.handlers z ≡ Some on.post) (sym same) on.is in
       subst (λ z. MayPass {S = S} {R = R} {L = L} (Freeze v pools) (Some z)) (sym (handing_touches h x v on.post is2 on.of)) refl
+  told _ _ (ends t o f a p is q) _ (by_end v pools u h e leads on) =
+      let same : t ≡ u = first e in
+      let named : handler_of t ≡ Some h = subst (λ y. handler_of y ≡ Some h) (sym same) leads in
+      subst (λ z. MayPass {S = S} {R = R} {L = L} (Freeze v pools) (Some z)) (sym (act_touches t _ (ends t o f a p is q) ∙ end_touches t h v on.post named on.is on.of)) refl
   told _ _ (hands h x post is) _ (by_end v pools u g e leads on) = absurd cc
+  told _ _ m _ (by_put v r d e) = absurd cc
+  told _ _ m _ (by_handing v pools h e z on) = absurd cc
+  told _ _ m _ (by_end v pools u h e leads on) = let z = second e in absurd cc
 
 module _ {P S E R A L : Type 0} (M : Machine S E R A L) (ok : IsLawful M) (waits : WaitsForItsVariable M) where
   module _ (c d : CoreView P S E L) (xs : List (Label E)) (l : Label E) (said : Stepped) (run : IsRunTo M c xs) (step : IsStep M c l d said) (still : d.fault ≡ None) (none : c.fault ≡ None)

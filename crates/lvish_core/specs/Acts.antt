@@ -1,22 +1,11 @@
 -- What the parts of a step take and leave.
 use Rattle.std.specs.Prelude.{◌≡◌, ◌+◌, ℕ, false, Option, Some, None, Result, MatchResult}
-use Rattle.lvish_calculus.specs.declared.label.Label.{Label}
-use Rattle.lvish_calculus.specs.declared.label.Label.TheVariants.{Act}
-use Rattle.lvish_calculus.specs.declared.request.ErrorKind.{ErrorKind}
-use Rattle.lvish_calculus.specs.declared.request.Request.{Request}
-use Rattle.lvish_calculus.specs.declared.request.Request.TheVariants.{Put}
+use Rattle.lvish_core.specs.Vocabulary.{Label, Act, ErrorKind, Request, Put, Reply, PutFault, HandlerPlace, Stepped, StepFault, Memory, Moved}
 use Rattle.lvish_calculus.specs.Machine.{Machine}
-use Rattle.lvish_calculus.specs.declared.request.Reply.{Reply}
 use Rattle.lvish_calculus.specs.Calculus.{Live, Changes, IsReady, request_effect, just}
 use Rattle.lvish_names.specs.Names.{Name, Handler, is_deep}
 use Rattle.lvish_calculus.specs.Program.{IsReplyTo}
-use Rattle.lvish_variable.specs.declared.put_fault.PutFault.{PutFault}
 use Rattle.lvish_picture.specs.Steps.{IsAsking, IsErring}
-use Rattle.lvish_core.specs.declared.handler_place.HandlerPlace.{HandlerPlace}
-use Rattle.lvish_core.specs.declared.fault.Stepped.{Stepped}
-use Rattle.lvish_core.specs.declared.fault.StepFault.{StepFault}
-use Rattle.lvish_core.specs.declared.fault.StepFault.TheVariants.{Memory}
-use Rattle.lvish_core.specs.declared.moved.Moved.{Moved}
 use Rattle.lvish_core.specs.Core.{CoreView, IsStep, state}
 use Rattle.lvish_core.specs.Changes.{IsMoved}
 use Rattle.lvish_core.specs.Beside.{RefusedAt}

@@ -1,12 +1,9 @@
 -- Changes to one variable, or to the handlers of one, among all.
 use Rattle.std.specs.Prelude.{◌≡◌, ◌<◌, ◌+◌, ◌-◌, ℕ, Bool, true, List, Option, Some, None, length, slice_get, slice_set, slice_index}
-use Rattle.lvish_core.specs.declared.limits.TheConstants.{MOST_STEPS}
+use Rattle.lvish_core.specs.Vocabulary.{MOST_STEPS, PutFault, Held, HandlerPlace}
 use Rattle.lvish_names.specs.Names.{Name, Handler}
-use Rattle.lvish_variable.specs.declared.put_fault.PutFault.{PutFault}
 use Rattle.lvish_variable.specs.Variable.{VariableView as Variable, IsPut, IsPutRefused}
-use Rattle.lvish_handlers.specs.declared.held.Held.{Held}
 use Rattle.lvish_handlers.specs.Handlers.{HandlersView as Handlers, IsHeld, IsWithin, IsAdded, IsAdvanced, next_of}
-use Rattle.lvish_core.specs.declared.handler_place.HandlerPlace.{HandlerPlace}
 
 -- the v-th variable took the put, and the others stay
 pub record PutAt {S E : Type 0} (join : S → S → Option S) (eq : E → E → Bool) (events : S → List E) (task : Name E) (number : ℕ) (put : S) (v : ℕ) (old new : List (Variable S E)) : Type 0 where

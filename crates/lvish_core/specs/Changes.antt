@@ -1,18 +1,12 @@
 -- What a step says of its change.
 use Rattle.std.specs.Prelude.{◌≡◌, ℕ, List, [], Option, Some, None, nat_eq, if◌then◌else◌, option_and_then, option_map}
 use Rattle.lvish_lattice.specs.Lattice.{fresh_of}
-use Rattle.lvish_calculus.specs.declared.label.Label.{Label}
-use Rattle.lvish_calculus.specs.declared.label.Label.TheVariants.{Act, Hand}
+use Rattle.lvish_core.specs.Vocabulary.{Label, Act, Hand, Entry, Touched, PutOn as Put, Handed, EndedIn, Other, Made, Moved}
 use Rattle.lvish_calculus.specs.Machine.{Machine}
 use Rattle.lvish_calculus.specs.Calculus.{Task, Absent, Live, Ended, State, Change, Effect, Changes, Fails, Nothing, effect}
 use Rattle.lvish_names.specs.Names.{Name}
-use Rattle.lvish_variable.specs.declared.entry.Entry.{Entry}
 use Rattle.lvish_variable.specs.Variable.{entries}
 use Rattle.lvish_picture.specs.Counts.{pool_of}
-use Rattle.lvish_core.specs.declared.touched.Touched.{Touched}
-use Rattle.lvish_core.specs.declared.touched.Touched.TheVariants.{Put, Handed, Ended as EndedIn, Other}
-use Rattle.lvish_core.specs.declared.moved.Made.{Made}
-use Rattle.lvish_core.specs.declared.moved.Moved.{Moved}
 
 -- the local state in which a task goes on, if it does
 abbrev pub local_of : {L : Type 0} → Task L → Option L

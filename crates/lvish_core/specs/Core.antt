@@ -1,8 +1,6 @@
 -- What a core stands for.
 use Rattle.std.specs.Prelude.{◌≡◌, ◌<◌, ◌+◌, ℕ, Bool, List, [], ◌∷◌, ◌++◌, length, Option, Some, None, slice_get}
-use Rattle.lvish_core.specs.declared.limits.TheConstants.{MOST_STEPS}
-use Rattle.lvish_calculus.specs.declared.label.Label.{Label}
-use Rattle.lvish_calculus.specs.declared.label.Label.TheVariants.{Act, Hand}
+use Rattle.lvish_core.specs.Vocabulary.{MOST_STEPS, Label, Act, Hand, ErrorKind, RunError, Stepped, DoneStep, ErrorStep, StepFault, NotEnabled, Full, Memory, Touched}
 use Rattle.lvish_calculus.specs.Machine.{Machine}
 use Rattle.lvish_calculus.specs.Calculus.{State, Configuration, Running, Error, IsRun, CanStep, next, start}
 use Rattle.lvish_names.specs.Names.{Handler}
@@ -11,13 +9,6 @@ use Rattle.lvish_variable.specs.Variable.{VariableView as Variable, logged}
 use Rattle.lvish_handlers.specs.Handlers.{HandlersView as Handlers, next_of}
 use Rattle.lvish_picture.specs.Logs.{IsInOrder}
 use Rattle.lvish_picture.specs.Picture.{Table, IsTable, table_picture}
-use Rattle.lvish_calculus.specs.declared.request.ErrorKind.{ErrorKind}
-use Rattle.lvish_core.specs.declared.fault.RunError.{RunError}
-use Rattle.lvish_core.specs.declared.fault.Stepped.{Stepped}
-use Rattle.lvish_core.specs.declared.fault.Stepped.TheVariants.{Done as DoneStep, Error as ErrorStep}
-use Rattle.lvish_core.specs.declared.fault.StepFault.{StepFault}
-use Rattle.lvish_core.specs.declared.fault.StepFault.TheVariants.{NotEnabled, Full, Memory}
-use Rattle.lvish_core.specs.declared.touched.Touched.{Touched}
 use Rattle.lvish_core.specs.Changes.{brought, touched_by}
 
 -- what contracts see of a core: its program, the table of variables, handlers and tasks, the number of steps, the error, and what the last step concerned.

@@ -1,7 +1,6 @@
 -- Which labels a core can take, and what its runs hand to handlers.
 use Rattle.std.specs.Prelude.{◌≡◌, ◌↔◌, List, [], ◌∷◌, ◌++◌, None}
-use Rattle.lvish_calculus.specs.declared.label.Label.{Label}
-use Rattle.lvish_calculus.specs.declared.label.Label.TheVariants.{Hand}
+use Rattle.lvish_core.specs.Vocabulary.{Label, Hand}
 use Rattle.lvish_calculus.specs.Machine.{Machine}
 use Rattle.lvish_calculus.specs.Calculus.{CanStep}
 use Rattle.lvish_names.specs.Names.{Handler}

@@ -1,16 +1,10 @@
 -- What a handler's step takes and leaves.
 use Rattle.std.specs.Prelude.{◌≡◌, Some, None, Result, MatchResult, slice_get}
-use Rattle.lvish_core.specs.declared.limits.TheConstants.{MOST_STEPS}
-use Rattle.lvish_calculus.specs.declared.label.Label.TheVariants.{Hand}
+use Rattle.lvish_core.specs.Vocabulary.{MOST_STEPS, Hand, Stepped, StepFault, NotEnabled, Full, Memory, Moved, HandlerPlace}
 use Rattle.lvish_calculus.specs.Machine.{Machine}
 use Rattle.lvish_names.specs.Names.{Handler}
-use Rattle.lvish_core.specs.declared.fault.Stepped.{Stepped}
-use Rattle.lvish_core.specs.declared.fault.StepFault.{StepFault}
-use Rattle.lvish_core.specs.declared.fault.StepFault.TheVariants.{NotEnabled, Full, Memory}
-use Rattle.lvish_core.specs.declared.moved.Moved.{Moved}
 use Rattle.lvish_variable.specs.Variable.{VariableView as Variable}
 use Rattle.lvish_handlers.specs.Handlers.{HandlersView as Handlers, next_of}
-use Rattle.lvish_core.specs.declared.handler_place.HandlerPlace.{HandlerPlace}
 use Rattle.lvish_core.specs.Places.{post_of}
 use Rattle.lvish_core.specs.Core.{CoreView, CanTake, state}
 use Rattle.lvish_core.specs.Acts.{IsMoving}

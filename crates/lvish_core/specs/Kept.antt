@@ -1,14 +1,12 @@
 -- What a core keeps.
 use Rattle.std.specs.Prelude.{◌≡◌, ◌≤◌, ◌+◌, ℕ, List, length}
-use Rattle.lvish_core.specs.declared.limits.TheConstants.{MOST_STEPS}
-use Rattle.lvish_calculus.specs.declared.label.Label.{Label}
+use Rattle.lvish_core.specs.Vocabulary.{MOST_STEPS, Label, HandlerPlace}
 use Rattle.lvish_calculus.specs.Machine.{Machine}
 use Rattle.lvish_calculus.specs.Calculus.{Task, Live}
 use Rattle.lvish_names.specs.Names.{Name, Handler}
 use Rattle.lvish_calculus.specs.Live.{HasLive}
 use Rattle.lvish_picture.specs.Picture.{Table, IsPictured}
 use Rattle.lvish_picture.specs.Counts.{CountsRunning}
-use Rattle.lvish_core.specs.declared.handler_place.HandlerPlace.{HandlerPlace}
 use Rattle.lvish_core.specs.Core.{CoreView, IsReached, state}
 use Rattle.lvish_core.specs.Places.{IsIndex}
 

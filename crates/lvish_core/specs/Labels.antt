@@ -5,8 +5,7 @@ use Rattle.std.specs.declared.cmp.Ordering.TheVariants.{Less, Greater}
 use Rattle.std.specs.Ordering.{ordering_then}
 use Rattle.std.specs.List.Sorted.{IsStrictlySortedBy}
 use Rattle.lvish_names.specs.NameOrder.{name_cmp, handler_cmp}
-use Rattle.lvish_calculus.specs.declared.label.Label.{Label}
-use Rattle.lvish_calculus.specs.declared.label.Label.TheVariants.{Act, Hand}
+use Rattle.lvish_core.specs.Vocabulary.{Label, Act, Hand}
 use Rattle.lvish_calculus.specs.Machine.{Machine}
 use Rattle.lvish_calculus.specs.Handing.{IsAmong}
 use Rattle.lvish_core.specs.Core.{CoreView, CanTake}

@@ -1,3 +1,4 @@
+pub mod Vocabulary
 pub mod Changes
 pub mod Core
 pub mod Reads

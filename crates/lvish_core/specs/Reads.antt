@@ -1,12 +1,11 @@
 -- What a core's reads answer.
 use Rattle.std.specs.Prelude.{◌≡◌, ◌<◌, ◌↔◌, ℕ, List, Some, All, Contains, length, slice_get}
-use Rattle.lvish_calculus.specs.declared.request.Request.{Request}
+use Rattle.lvish_core.specs.Vocabulary.{Request, Held}
 use Rattle.lvish_calculus.specs.Machine.{Machine}
 use Rattle.lvish_calculus.specs.Calculus.{Post, Live, IsReadyTask}
 use Rattle.lvish_names.specs.Names.{Name, Handler}
 use Rattle.lvish_calculus.specs.Live.{HasLive}
 use Rattle.lvish_variable.specs.Variable.{VariableView as Variable}
-use Rattle.lvish_handlers.specs.declared.held.Held.{Held}
 use Rattle.lvish_handlers.specs.Handlers.{HandlersView as Handlers, IsWithin}
 use Rattle.lvish_picture.specs.Picture.{Table}
 use Rattle.lvish_core.specs.Core.{CoreView, state}

@@ -1,10 +1,8 @@
 -- What can wake a get.
 use Rattle.std.specs.Prelude.{◌≡◌, ℕ, List, Option, Some, None, Contains, slice_get}
-use Rattle.lvish_calculus.specs.declared.label.Label.{Label}
+use Rattle.lvish_core.specs.Vocabulary.{Label, Entry, Stepped}
 use Rattle.lvish_calculus.specs.Machine.{Machine}
-use Rattle.lvish_variable.specs.declared.entry.Entry.{Entry}
 use Rattle.lvish_variable.specs.Variable.{VariableView as Variable, logged}
-use Rattle.lvish_core.specs.declared.fault.Stepped.{Stepped}
 use Rattle.lvish_core.specs.Changes.{brought}
 use Rattle.lvish_core.specs.Core.{CoreView, state, IsRunTo, IsStep}
 

@@ -1,16 +1,10 @@
 -- What can wake a blocked task, by what the last step concerned.
 use Rattle.std.specs.Prelude.{◌≡◌, ◌⊎◌, ◌↔◌, ℕ, List, Option, Some, None}
-use Rattle.lvish_calculus.specs.declared.label.Label.{Label}
-use Rattle.lvish_calculus.specs.declared.label.Label.TheVariants.{Act}
-use Rattle.lvish_calculus.specs.declared.request.Request.{Request}
-use Rattle.lvish_calculus.specs.declared.request.Request.TheVariants.{Get, Freeze}
+use Rattle.lvish_core.specs.Vocabulary.{Label, Act, Request, Get, Freeze, Stepped, Touched, PutOn as Put, Handed, EndedIn}
 use Rattle.lvish_calculus.specs.Machine.{Machine}
 use Rattle.lvish_calculus.specs.Calculus.{Live, IsReady, IsEnded}
 use Rattle.lvish_names.specs.Names.{Name}
 use Rattle.lvish_calculus.specs.Waiting.{HasWaiting}
-use Rattle.lvish_core.specs.declared.fault.Stepped.{Stepped}
-use Rattle.lvish_core.specs.declared.touched.Touched.{Touched}
-use Rattle.lvish_core.specs.declared.touched.Touched.TheVariants.{Put, Handed, Ended as EndedIn}
 use Rattle.lvish_core.specs.Core.{CoreView, state, picture, IsRunTo, IsStep}
 use Rattle.lvish_core.specs.Reads.{HasRunning, AreDrained}
 

@@ -1,10 +1,10 @@
 -- What a core without an error stands for, and the runs that lead to it.
-use Rattle.std.proofs.Common.{◌≡◌, List, Option, Some, None, refl, sym, ap, subst}
-use Rattle.lvish_calculus.specs.declared.label.Label.{Label}
+use Rattle.std.proofs.Common.{◌≡◌, ℕ, List, slice_get, option_map, unwrap_or, Option, Some, None, refl, sym, ap, subst}
+use Rattle.lvish_core.specs.Vocabulary.{Label, RunError}
 use Rattle.lvish_calculus.specs.Machine.{Machine}
 use Rattle.lvish_calculus.specs.Calculus.{State, Configuration, Running, CanStep, IsRun, start}
+use Rattle.lvish_variable.specs.Variable.{VariableView as Variable}
 use Rattle.lvish_picture.specs.Picture.{IsPictured}
-use Rattle.lvish_core.specs.declared.fault.RunError.{RunError}
 use Rattle.lvish_core.specs.Core.{CoreView, state, at_fault, picture, IsRunTo}
 
 pub running_same : {S E L : Type 0} {a b : State S E L} → Running a ≡ Running b → a ≡ b
@@ -26,3 +26,7 @@ module _ {P S E R A L : Type 0} (M : Machine S E R A L) where
 
   pub run_to : (c : CoreView P S E L) (xs : List (Label E)) → c.fault ≡ None → IsPictured M c.table xs → IsRunTo M c xs
   run_to c xs f k = record { reached = subst (λ (q : Configuration S E L). IsRun M (Running (start M)) xs q) (sym (at_state c f)) k.reached; core = k.core; logs = k.logs; table = k.table }
+
+  -- the state of a variable of the table is the content there
+  pub content_at : (c : CoreView P S E L) (v : ℕ) (x : Variable S E) → slice_get c.table.variables v ≡ Some x → (state M c).content v ≡ x.state
+  content_at c v x at = ap (λ (q : Option (Variable S E)). unwrap_or (option_map (λ z. z.state) q) M.bottom) at

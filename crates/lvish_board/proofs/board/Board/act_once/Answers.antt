@@ -1,7 +1,6 @@
-use Rattle.std.proofs.Common.{rules, ◌≡◌, ◌≤◌, None, length, refl, sym, ◌∙◌, arith}
-use Rattle.std.proofs.lemmas.Bool.{true≢false}
+use Rattle.std.proofs.Common.{rules, ◌≡◌, ◌≤◌, None, length, refl, ap, sym, ◌∙◌, arith, true≢false}
 use Rattle.lvish_calculus.specs.declared.label.Label.TheVariants.{Act}
-use Rattle.lvish_board.proofs.Comes.{act_done, act_full, act_stale}
+use Rattle.lvish_board.proofs.Comes.{act_over, act_stale, not_over}
 use Rattle.lvish_board.proofs.Steps.{kept_over, none_is}
 use Rattle.lvish_board.proofs.board.Board.act_once.Goals as goal
 
@@ -14,10 +13,10 @@ invariant_of-self g c =
     let full : c.self.inside.budget ≤ length c.self.inside.trace.items = search rules in
     let within = sound.within in
     let used : length c.self.inside.trace.items ≡ g.J.Named.budget = omega (arith, full, within, budget) in
-    (budget, kept_over _ _ _ _ _ _ _ _ sound (used, (Act c.args.asked.task, can_here)))
+    (budget, kept_over sound (used, (Act c.args.asked.task, can_here)) sound.blocked sound.once)
 
 pub returns-then-is_some : goal.returns-then-is_some
-returns-then-is_some g c = act_done refl (rw (← c.self.view_is) (sym c.is_some.ensures ∙ c.if-is_some.true))
+returns-then-is_some g c = act_over refl refl (rw (← c.self.view_is) (sym c.is_some.ensures ∙ c.if-is_some.true)) (λ _. refl)
 
 pub returns-then-not-is_current : goal.returns-then-not-is_current
 returns-then-not-is_current g c =
@@ -37,7 +36,9 @@ pub returns-then-not-can_go_on : goal.returns-then-not-can_go_on
 returns-then-not-can_go_on g c = c.park.ensures c.args.worker
 
 pub returns-then-len-self : goal.returns-then-len-self
-returns-then-len-self g c = act_full _ c.self.view_is (none_is c.self.inside.over (sym c.is_some.ensures ∙ c.if-is_some.false)) refl refl refl
+returns-then-len-self g c =
+    let none : c.args.self.now.over ≡ None = rw (← c.self.view_is) (none_is c.self.inside.over (sym c.is_some.ensures ∙ c.if-is_some.false)) in
+    act_over (ap (λ b. b.trace) c.self.view_is) (ap (λ b. b.core) c.self.view_is) refl (not_over _ none)
 
 pub make-requires-clause-running : goal.make-requires-clause-running
 make-requires-clause-running g c = rw (← c.self.view_is) (none_is c.self.inside.over (sym c.is_some.ensures ∙ c.if-is_some.false))

@@ -1,8 +1,7 @@
-use Rattle.std.proofs.Common.{◌≡◌, None, length, refl, sym, ◌∙◌, arith}
-use Rattle.std.proofs.lemmas.Bool.{true≢false}
+use Rattle.std.proofs.Common.{◌≡◌, None, length, refl, ap, sym, ◌∙◌, arith, true≢false}
 use Rattle.lvish_calculus.specs.declared.label.Label.TheVariants.{Hand}
 use Rattle.lvish_core.specs.Core.{IsNext}
-use Rattle.lvish_board.proofs.Comes.{hand_done, hand_drained, hand_full, hand_stale}
+use Rattle.lvish_board.proofs.Comes.{hand_drained, hand_over, hand_stale, not_over}
 use Rattle.lvish_board.proofs.Handing.{hand_open}
 use Rattle.lvish_board.proofs.Steps.{kept_over, none_is}
 use Rattle.lvish_board.proofs.board.Board.hand_once.Goals as goal
@@ -14,10 +13,10 @@ invariant_of-self g c =
     let next : IsNext g.P.Lat.Event.PartialEq.eq c.args.self.now.core.table c.args.handler c.in-Some.event = c.in-Some.ensures in
     let can = hand_open _ (c.hands_one_event.ensures.open g.J.Named.program) _ _ _ sound none c.args.handler c.in-Some.event (rw (← c.self.view_is) at next) in
     let full : length c.self.inside.trace.items ≡ g.J.Named.budget = omega (arith, sound.within, c.self.invariant.0, c.if-len-self.true, c.len.ensures, c.self.inside.trace.ok.0) in
-    (c.self.invariant.0, kept_over _ _ _ _ _ _ _ _ sound (full, (Hand c.args.handler c.in-Some.event, can)))
+    (c.self.invariant.0, kept_over sound (full, (Hand c.args.handler c.in-Some.event, can)) sound.blocked sound.once)
 
 pub returns-then-is_some : goal.returns-then-is_some
-returns-then-is_some g c = hand_done refl (rw (← c.self.view_is) (sym c.is_some.ensures ∙ c.if-is_some.true))
+returns-then-is_some g c = hand_over refl refl refl (rw (← c.self.view_is) (sym c.is_some.ensures ∙ c.if-is_some.true)) (λ _. refl)
 
 pub returns-then-not-holds : goal.returns-then-not-holds
 returns-then-not-holds g c =
@@ -30,7 +29,9 @@ returns-in_default g c =
     hand_drained refl none c.in_default.ensures
 
 pub returns-then-len-self : goal.returns-then-len-self
-returns-then-len-self g c = hand_full _ c.self.view_is (none_is c.self.inside.over (sym c.is_some.ensures ∙ c.if-is_some.false)) refl refl refl refl
+returns-then-len-self g c =
+    let none : c.args.self.now.over ≡ None = rw (← c.self.view_is) (none_is c.self.inside.over (sym c.is_some.ensures ∙ c.if-is_some.false)) in
+    hand_over (ap (λ b. b.trace) c.self.view_is) (ap (λ b. b.core) c.self.view_is) (ap (λ b. b.parked) c.self.view_is) refl (not_over _ none)
 
 pub make_hand-requires-clause-running : goal.make_hand-requires-clause-running
 make_hand-requires-clause-running g c = rw (← c.self.view_is) (none_is c.self.inside.over (sym c.is_some.ensures ∙ c.if-is_some.false))

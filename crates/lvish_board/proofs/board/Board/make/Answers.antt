@@ -1,8 +1,7 @@
 use Rattle.std.proofs.Common.{◌≤◌, ◌++◌, ◌∷◌, [], length, is_some, vec_capacity, refl, sym, ap, subst, ◌∙◌, arith}
 use Rattle.lvish_calculus.specs.Program.{machine_of}
-use Rattle.lvish_calculus.specs.declared.label.Label.TheVariants.{Act}
+use Rattle.lvish_board.specs.Vocabulary.{Act, ErrorStep}
 use Rattle.lvish_core.specs.Core.{IsStep}
-use Rattle.lvish_core.specs.declared.fault.Stepped.TheVariants.{Error as ErrorStep}
 use Rattle.lvish_board.specs.Acts.{IsDone, entry_of}
 use Rattle.lvish_board.specs.Left.{option_list, most_added}
 use Rattle.lvish_board.specs.Standing.{labels_of}

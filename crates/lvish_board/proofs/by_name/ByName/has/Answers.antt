@@ -7,7 +7,6 @@ use Rattle.lvish_board.proofs.by_name.ByName.has.Goals as goal
 
 pub returns : goal.returns
 returns g c =
-    let o = g.met.P.Lat.Event.Ord in
-    let exact = name_cmp-iff g.P.Lat.Event.Ord.cmp g.met.P.Lat.Event.Plain.identical o.matches_eq o.total in
+    let exact = name_cmp-iff g.P.Lat.Event.Ord.cmp g.met.P.Lat.Event.Plain.identical g.met.P.Lat.Event.Ord.matches_eq g.met.P.Lat.Event.Ord.total in
     subst (λ ps. IsTrue c.contains_key.result ↔ IsAmong c.args.name.now (tasks_of ps)) c.self.view_is
     (has_task exact c.args.name.now c.self.inside.asked.entries c.self.invariant.0 c.contains_key.result c.contains_key.ensures)

@@ -10,8 +10,7 @@ use Rattle.lvish_board.proofs.by_name.ByName.insert.Goals as goal
 
 pub invariant_of-self : goal.invariant_of-self
 invariant_of-self g c =
-    let o = g.met.P.Lat.Event.Ord in
-    let exact = name_cmp-iff g.P.Lat.Event.Ord.cmp g.met.P.Lat.Event.Plain.identical o.matches_eq o.total in
+    let exact = name_cmp-iff g.P.Lat.Event.Ord.cmp g.met.P.Lat.Event.Plain.identical g.met.P.Lat.Event.Ord.matches_eq g.met.P.Lat.Event.Ord.total in
     let same : c.in-Ok.name ≡ c.args.asked.task = c.in-Ok.ensures ∙ c.task.ensures in (
       subst (λ es. AreNamed es) (sym c.in-Ok-insert.ensures.entries) (inserted_named exact c.in-Ok.name c.args.asked c.self.inside.asked.entries c.self.invariant.0 same),
       c.insert.ensures.ordered,
@@ -19,8 +18,7 @@ invariant_of-self g c =
 
 pub returns-in-Ok-insert-clause-ok : goal.returns-in-Ok-insert-clause-ok
 returns-in-Ok-insert-clause-ok g c = λ q.
-    let o = g.met.P.Lat.Event.Ord in
-    let exact = name_cmp-iff g.P.Lat.Event.Ord.cmp g.met.P.Lat.Event.Plain.identical o.matches_eq o.total in
+    let exact = name_cmp-iff g.P.Lat.Event.Ord.cmp g.met.P.Lat.Event.Plain.identical g.met.P.Lat.Event.Ord.matches_eq g.met.P.Lat.Event.Ord.total in
     let same : c.in-Ok.name ≡ c.args.asked.task = c.in-Ok.ensures ∙ c.task.ensures in
     let absent : IsAmong c.in-Ok.name (tasks_of (values_of c.self.inside.asked.entries)) → ⊥ = λ i.
     c.requires (subst (λ ps. IsAmong c.args.asked.task (tasks_of ps)) c.self.view_is (subst (λ t. IsAmong t (tasks_of (values_of c.self.inside.asked.entries))) same i)) in

@@ -1,5 +1,4 @@
-use Rattle.std.proofs.Common.{◌≡◌, inl, Some, true, refl, sym, ap, subst, ◌∙◌, vec_capacity}
-use Rattle.std.proofs.lemmas.Bool.{true≢false}
+use Rattle.std.proofs.Common.{◌≡◌, inl, Some, true, refl, sym, ap, subst, ◌∙◌, vec_capacity, true≢false}
 use Rattle.std.proofs.lemmas.Option.{none-some, same_Some}
 use Rattle.std.specs.Map.{lookup, values_of}
 use Rattle.std.specs.BTreeMap.{is_at}
@@ -22,21 +21,18 @@ use Rattle.lvish_board.proofs.by_name.ByName.wake.Goals as goal
 
 pub returns-in_default-clause-wakes : goal.returns-in_default-clause-wakes
 returns-in_default-clause-wakes g c =
-    let o = g.met.P.Lat.Event.Ord in
-    let exact = name_cmp-iff g.P.Lat.Event.Ord.cmp g.met.P.Lat.Event.Plain.identical o.matches_eq o.total in
+    let exact = name_cmp-iff g.P.Lat.Event.Ord.cmp g.met.P.Lat.Event.Plain.identical g.met.P.Lat.Event.Ord.matches_eq g.met.P.Lat.Event.Ord.total in
     wakes_none _ _ _ _ (λ p i same can. none_at exact c.args.name.now c.self.inside.asked.entries c.self.invariant.0 (sym c.in_default.ensures.value) p (subst (λ ps. IsAmong p ps) (sym c.self.view_is) i) same)
 
 pub returns-in_default-clause-gone : goal.returns-in_default-clause-gone
 returns-in_default-clause-gone g c = λ t i.
-    let o = g.met.P.Lat.Event.Ord in
-    let exact = name_cmp-iff g.P.Lat.Event.Ord.cmp g.met.P.Lat.Event.Plain.identical o.matches_eq o.total in
+    let exact = name_cmp-iff g.P.Lat.Event.Ord.cmp g.met.P.Lat.Event.Plain.identical g.met.P.Lat.Event.Ord.matches_eq g.met.P.Lat.Event.Ord.total in
     let r = of_task c.args.name.now c.args.self.now i in
     none_at exact c.args.name.now c.self.inside.asked.entries c.self.invariant.0 (sym c.in_default.ensures.value) r.0 (subst (λ ps. IsAmong r.0 ps) (sym c.self.view_is) r.1) r.2
 
 pub can-requires : goal.can-requires
 can-requires g c = λ l f a p live.
-    let o = g.met.P.Lat.Event.Ord in
-    let exact = name_cmp-iff g.P.Lat.Event.Ord.cmp g.met.P.Lat.Event.Plain.identical o.matches_eq o.total in
+    let exact = name_cmp-iff g.P.Lat.Event.Ord.cmp g.met.P.Lat.Event.Plain.identical g.met.P.Lat.Event.Ord.matches_eq g.met.P.Lat.Event.Ord.total in
     let asked = c.in-Some.asked.now in
     let r = found_at exact c.args.name.now c.self.inside.asked.entries asked c.self.invariant.0 (sym c.in-Some.ensures.value) in
     let here : IsAmong asked c.args.self.now = subst (λ ps. IsAmong asked ps) (sym r.3 ∙ c.self.view_is) (in_middle asked asked r.0 r.1 (inl refl)) in
@@ -59,9 +55,8 @@ invariant_of-self g c =
 pub returns : goal.returns
 returns g c =
     let M = machine_of g.P.Lat.PartialEq.eq g.P.Lat.Event.PartialEq.eq g.P.Lat.Event.Ord.cmp g.P.Lat.Lattice.least g.P.Lat.Lattice.joined g.P.Lat.Lattice.events_of g.P.Lat.Reads.answer_of (g.P.Program.functions c.args.core.now.program) in
-    let o = g.met.P.Lat.Event.Ord in
-    let exact = name_cmp-iff g.P.Lat.Event.Ord.cmp g.met.P.Lat.Event.Plain.identical o.matches_eq o.total in
-    let total = name_total o.total in
+    let exact = name_cmp-iff g.P.Lat.Event.Ord.cmp g.met.P.Lat.Event.Plain.identical g.met.P.Lat.Event.Ord.matches_eq g.met.P.Lat.Event.Ord.total in
+    let total = name_total g.met.P.Lat.Event.Ord.total in
     elim c.match-remove.branch [
       | in-Some-remove w ↦
           let asked = w.in-Some-remove.asked in

@@ -1,5 +1,4 @@
-use Rattle.std.proofs.Common.{◌≡◌, ◌⊎◌, ◌↔◌, inl, inr, true, sym, subst, ◌∙◌, nat_cmp}
-use Rattle.std.proofs.lemmas.Bool.{true≢false}
+use Rattle.std.proofs.Common.{◌≡◌, ◌⊎◌, ◌↔◌, inl, inr, true, sym, subst, ◌∙◌, nat_cmp, true≢false}
 use Rattle.lvish_calculus.specs.declared.request.Request.TheVariants.{Get, Freeze}
 use Rattle.lvish_calculus.specs.Handing.{IsAmong, NoRepeats}
 use Rattle.lvish_board.specs.Shelved.{IsOnItsList, shelf, by_spot}

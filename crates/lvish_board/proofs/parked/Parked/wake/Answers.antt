@@ -1,14 +1,11 @@
 use Rattle.std.proofs.Common.{◌≡◌, [], Option, Some, None, sym, ap, subst, ◌∙◌, arith}
 use Rattle.std.proofs.lemmas.List.Sorted.{IsPermutation-sym}
 use Rattle.lvish_calculus.specs.Program.{machine_of}
-use Rattle.lvish_calculus.specs.declared.label.Label.TheVariants.{Act}
+use Rattle.lvish_board.specs.Vocabulary.{Act, PutOn as Put, Handed, EndedIn as Ended, Other, Request, Touched}
 use Rattle.lvish_core.specs.Core.{CanTake}
-use Rattle.lvish_core.specs.declared.touched.Touched.TheVariants.{Put, Handed, Ended, Other}
 use Rattle.lvish_names.specs.laws.OrderLaws.{name_total}
 use Rattle.lvish_names.proofs.NameLaws.{name_cmp-iff}
 use Rattle.lvish_calculus.specs.Handing.{NoRepeats}
-use Rattle.lvish_calculus.specs.declared.request.Request.{Request}
-use Rattle.lvish_core.specs.declared.touched.Touched.{Touched}
 use Rattle.lvish_board.specs.Place.{TaskPlace}
 use Rattle.lvish_board.specs.Standing.{tasks_of}
 use Rattle.lvish_board.specs.Woken.{MayWake}
@@ -55,9 +52,8 @@ returns-clause-woken g c =
 
 pub returns-clause-by_name : goal.returns-clause-by_name
 returns-clause-by_name g c =
-    let o = g.met.P.Lat.Event.Ord in
-    let exact = name_cmp-iff g.P.Lat.Event.Ord.cmp g.met.P.Lat.Event.Plain.identical o.matches_eq o.total in
-    ascending (name_total o.total) (λ t u. (exact t u).0) c.match-last_touched.woken.items c.sort_by_task.new.woken.items (woken_once _ _ _ _ _ (woken_by g c) (subst (λ ps. NoRepeats (tasks_of ps)) c.self.view_is c.each_waits_once.ensures)).0 c.sort_by_task.ensures.permutation c.sort_by_task.ensures.sorted
+    let exact = name_cmp-iff g.P.Lat.Event.Ord.cmp g.met.P.Lat.Event.Plain.identical g.met.P.Lat.Event.Ord.matches_eq g.met.P.Lat.Event.Ord.total in
+    ascending (name_total g.met.P.Lat.Event.Ord.total) (λ t u. (exact t u).0) c.match-last_touched.woken.items c.sort_by_task.new.woken.items (woken_once _ _ _ _ _ (woken_by g c) (subst (λ ps. NoRepeats (tasks_of ps)) c.self.view_is c.each_waits_once.ensures)).0 c.sort_by_task.ensures.permutation c.sort_by_task.ensures.sorted
 
 pub returns-clause-once : goal.returns-clause-once
 returns-clause-once g c = λ n. (woken_once _ _ _ _ _ (woken_by g c) n).1

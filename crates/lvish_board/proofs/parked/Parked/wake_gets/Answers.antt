@@ -1,9 +1,7 @@
-use Rattle.std.proofs.Common.{rules, ◌≡◌, ◌+◌, suc, inl, inr, ◌∷◌, [], ◌++◌, Some, take, sym, ap, subst, ◌∙◌, arith, take-suc}
-use Rattle.std.proofs.lemmas.List.{take_all}
+use Rattle.std.proofs.Common.{rules, ◌≡◌, ◌+◌, suc, inl, inr, ◌∷◌, [], ◌++◌, Some, take, sym, ap, subst, ◌∙◌, arith, take-suc, take_all}
 use Rattle.lvish_calculus.specs.Program.{machine_of}
-use Rattle.lvish_calculus.specs.declared.label.Label.TheVariants.{Act}
+use Rattle.lvish_board.specs.Vocabulary.{Act, PutOn as Put}
 use Rattle.lvish_core.specs.Core.{CanTake}
-use Rattle.lvish_core.specs.declared.touched.Touched.TheVariants.{Put}
 use Rattle.lvish_board.specs.Shelved.{WaitsAt}
 use Rattle.lvish_board.specs.Woken.{MayWake}
 use Rattle.lvish_board.proofs.Woken.{may_first, may_more}

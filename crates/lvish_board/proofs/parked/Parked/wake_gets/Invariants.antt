@@ -1,7 +1,6 @@
 use Rattle.std.proofs.Common.{◌≡◌, Some, take, vec_capacity}
 use Rattle.lvish_calculus.specs.Program.{machine_of}
-use Rattle.lvish_calculus.specs.declared.label.Label.TheVariants.{Act}
-use Rattle.lvish_core.specs.declared.touched.Touched.TheVariants.{Put}
+use Rattle.lvish_board.specs.Vocabulary.{Act, PutOn as Put}
 use Rattle.lvish_core.specs.Core.{CanTake}
 use Rattle.lvish_board.specs.Waking.{Wakes}
 use Rattle.lvish_board.specs.Woken.{MayWake}

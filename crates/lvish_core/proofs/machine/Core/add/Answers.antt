@@ -8,29 +8,20 @@ use Rattle.lvish_core.proofs.Written.{ok_is_no_error}
 use Rattle.lvish_core.proofs.machine.Core.add.Goals as goal
 
 pub overflow_add-numbers : goal.overflow_add-numbers
-overflow_add-numbers g c =
-    let acts = rw (← c.self.view_is) at c.requires.acting in
-    let room = rw (← c.self.view_is) at c.requires.room in
-    let few = few_numbers _ _ _ _ _ c.self.invariant c.args.name.now _ _ _ _ _ acts room in
-    omega (arith, few)
+overflow_add-numbers g c = omega (arith, few_numbers (rw (← c.self.view_is) at c.requires.acting) c.self.invariant (rw (← c.self.view_is) at c.requires.room))
 
 pub fail-requires-clause-failing : goal.fail-requires-clause-failing
 fail-requires-clause-failing g c =
-    let acts = rw (← c.self.view_is) at c.requires.acting in
-    rw (← c.self.view_is) (record { at = c.args.at.now; forks = c.args.numbers.forks; adds = c.args.numbers.adds; puts = c.args.numbers.puts; request = Add c.args.pool c.args.procedure; acting = acts; errs = (c.in-Err-Deep.ensures.deep.0 (ap Err c.in-Err-Deep.field-0-is), refl) })
+    rw (← c.self.view_is) (record { at = c.args.at.now; forks = c.args.numbers.forks; adds = c.args.numbers.adds; puts = c.args.numbers.puts; request = Add c.args.pool c.args.procedure; acting = (rw (← c.self.view_is) at c.requires.acting); errs = (c.in-Err-Deep.ensures.deep.0 (ap Err c.in-Err-Deep.field-0-is), refl) })
 
 pub unreachable-requires : goal.unreachable-requires
-unreachable-requires g c =
-    let acts = rw (← c.self.view_is) at c.requires.acting in
-    pool_is_there _ (c.lawful.ensures c.self.inside.program.now) _ _ _ _ c.self.invariant (g.met.P.Program.lawful c.self.inside.program.now).known c.args.name.now _ _ _ _ c.args.pool c.args.procedure acts (sym c.pool_variable.ensures ∙ c.in_default.is)
+unreachable-requires g c = pool_is_there (c.lawful.ensures c.self.inside.program.now) c.self.invariant (g.met.P.Program.lawful c.self.inside.program.now).known (rw (← c.self.view_is) at c.requires.acting) (sym c.pool_variable.ensures ∙ c.in_default.is)
 
 pub fail-requires-then-is_late-clause-failing : goal.fail-requires-then-is_late-clause-failing
 fail-requires-then-is_late-clause-failing g c =
-    let acts = rw (← c.self.view_is) at c.requires.acting in
     let late = rw (← c.self.view_is) at c.is_late.ensures in
     rw (← c.self.view_is)
-    (late_fails _ (c.lawful.ensures c.self.inside.program.now) _ _ _ _ c.self.invariant (g.met.P.Program.lawful c.self.inside.program.now).known c.args.name.now _ _ _ _ c.args.pool c.args.procedure acts
-    (false_from_ne_true _ (λ e. ok_is_no_error {f = TooDeep} refl (c.in-Ok.ensures.deep.1 e))) c.in-Some.variable (sym c.pool_variable.ensures ∙ c.in-Some.is) (sym late ∙ c.if-is_late.true))
+    (late_fails (c.lawful.ensures c.self.inside.program.now) c.self.invariant (g.met.P.Program.lawful c.self.inside.program.now).known (rw (← c.self.view_is) at c.requires.acting) (false_from_ne_true _ (λ e. ok_is_no_error {f = TooDeep} refl (c.in-Ok.ensures.deep.1 e))) c.in-Some.variable (sym c.pool_variable.ensures ∙ c.in-Some.is) (sym late ∙ c.if-is_late.true))
 
 pub add_on-requires-clause-acting : goal.add_on-requires-clause-acting
 add_on-requires-clause-acting g c = rw c.new-place.ensures (c.requires.acting)

@@ -1,5 +1,4 @@
-use Rattle.std.proofs.Common.{sym, ap, ◌∙◌}
-use Rattle.std.specs.Option.{option_copied}
+use Rattle.std.proofs.Common.{sym, ap, ◌∙◌, option_copied}
 use Rattle.lvish_core.specs.Tasks.{standing, standing_at}
 use Rattle.lvish_core.proofs.Shown.{live_can}
 use Rattle.lvish_core.proofs.machine.Core.can.Goals as goal

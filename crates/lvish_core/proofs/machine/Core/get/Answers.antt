@@ -9,11 +9,11 @@ go_on-requires-clause-replied g c =
     let known : c.args.variable < (g.P.Program.functions c.self.inside.program.now).variables = ((g.met.P.Program.lawful c.self.inside.program.now).gets acts.local c.args.variable c.args.read.now acts.asking.asked).0 in
     let there : length c.self.inside.variables.items ≡ (g.P.Program.functions c.self.inside.program.now).variables = c.self.invariant.there in
     rw (← c.self.view_is)
-    (get_answered _ _ c.args.name.now _ _ _ _ c.args.variable c.args.read.now acts c.index.result.now (get_some c.self.inside.variables.items c.args.variable c.index.result.now (omega arith) c.index.ensures) c.in-Some.answer (sym c.read.ensures ∙ c.in-Some.is))
+    (get_answered acts c.index.result.now (get_some c.self.inside.variables.items c.args.variable c.index.result.now (omega arith) c.index.ensures) c.in-Some.answer (sym c.read.ensures ∙ c.in-Some.is))
 
 pub unreachable-requires : goal.unreachable-requires
 unreachable-requires g c =
     let acts = rw (← c.self.view_is) at c.requires.acting in
     let known : c.args.variable < (g.P.Program.functions c.self.inside.program.now).variables = ((g.met.P.Program.lawful c.self.inside.program.now).gets acts.local c.args.variable c.args.read.now acts.asking.asked).0 in
     let there : length c.self.inside.variables.items ≡ (g.P.Program.functions c.self.inside.program.now).variables = c.self.invariant.there in
-    get_has _ _ c.args.name.now _ _ _ _ c.args.variable c.args.read.now acts c.index.result.now (get_some c.self.inside.variables.items c.args.variable c.index.result.now (omega arith) c.index.ensures) (sym c.read.ensures ∙ c.in-None.is)
+    get_has acts c.index.result.now (get_some c.self.inside.variables.items c.args.variable c.index.result.now (omega arith) c.index.ensures) (sym c.read.ensures ∙ c.in-None.is)

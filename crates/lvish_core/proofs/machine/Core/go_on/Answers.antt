@@ -1,33 +1,25 @@
-use Rattle.lvish_core.proofs.Acts.{fits_there, is_there, going_on}
+use Rattle.lvish_core.proofs.Acts.{asks, fits_there, is_there, going_on}
 use Rattle.lvish_core.proofs.machine.Core.go_on.Goals as goal
 
 pub resumed-requires-clause-asks : goal.resumed-requires-clause-asks
-resumed-requires-clause-asks g c =
-    let answers = rw (← c.self.view_is) at c.requires.replied in
-    (answers.acting.local, answers.acting.at_is)
+resumed-requires-clause-asks g c = asks (rw (← c.self.view_is) at c.requires.replied).acting
 
 pub resumed-requires-clause-fits : goal.resumed-requires-clause-fits
 resumed-requires-clause-fits g c =
     let answers = rw (← c.self.view_is) at c.requires.replied in
-    fits_there _ (g.met.P.Program.lawful c.self.inside.program.now).repeats _ c.args.name.now _ _ _ _ _ answers.acting c.args.reply answers.fits
+    fits_there answers.acting (g.met.P.Program.lawful c.self.inside.program.now).repeats c.args.reply answers.fits
 
 pub close-requires-clause-there : goal.close-requires-clause-there
-close-requires-clause-there g c =
-    let answers = rw (← c.self.view_is) at c.requires.replied in
-    is_there _ _ c.args.name.now _ _ _ _ _ answers.acting
+close-requires-clause-there g c = is_there (rw (← c.self.view_is) at c.requires.replied).acting
 
 pub invariant_of-self : goal.invariant_of-self
 invariant_of-self g c =
-    let answers = rw (← c.self.view_is) at c.requires.replied in
-    let room = rw (← c.self.view_is) at c.requires.room in
     let sets = rw c.in_ok-stage.ensures.stage at c.close.ensures.tasks in
     rw (c.close.ensures.steps, c.close.ensures.touched)
-    (going_on _ (c.lawful.ensures c.self.inside.program.now) _ _ _ _ c.self.invariant c.args.name.now _ _ _ _ _ answers room (c.plain_kept.ensures c.self.inside.program.now) (c.counts_kept.ensures.plain c.self.inside.program.now) (c.counts_follow.ensures.rest c.self.inside.program.now) _ sets).1
+    (going_on (c.lawful.ensures c.self.inside.program.now) c.self.invariant (rw (← c.self.view_is) at c.requires.replied) (rw (← c.self.view_is) at c.requires.room) (c.plain_kept.ensures c.self.inside.program.now) (c.counts_kept.ensures.plain c.self.inside.program.now) (c.counts_follow.ensures.rest c.self.inside.program.now) sets).1
 
 pub returns : goal.returns
 returns g c =
-    let answers = rw (← c.self.view_is) at c.requires.replied in
-    let room = rw (← c.self.view_is) at c.requires.room in
     let sets = rw c.in_ok-stage.ensures.stage at c.close.ensures.tasks in
     rw (← c.self.view_is, c.own.ensures, c.in_ok-stage.ensures.own, c.close.ensures.steps, c.close.ensures.touched)
-    (going_on _ (c.lawful.ensures c.self.inside.program.now) _ _ _ _ c.self.invariant c.args.name.now _ _ _ _ _ answers room (c.plain_kept.ensures c.self.inside.program.now) (c.counts_kept.ensures.plain c.self.inside.program.now) (c.counts_follow.ensures.rest c.self.inside.program.now) _ sets).0
+    (going_on (c.lawful.ensures c.self.inside.program.now) c.self.invariant (rw (← c.self.view_is) at c.requires.replied) (rw (← c.self.view_is) at c.requires.room) (c.plain_kept.ensures c.self.inside.program.now) (c.counts_kept.ensures.plain c.self.inside.program.now) (c.counts_follow.ensures.rest c.self.inside.program.now) sets).0

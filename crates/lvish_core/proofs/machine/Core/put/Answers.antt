@@ -1,26 +1,18 @@
 use Rattle.std.proofs.Common.{◌≡◌, ◌<◌, length, arith, add-one}
 use Rattle.lvish_calculus.specs.declared.request.Reply.TheVariants.{Done}
 use Rattle.lvish_core.proofs.Errors.{refused}
-use Rattle.lvish_core.proofs.Acts.{few_numbers, fits_there, is_there, putting}
+use Rattle.lvish_core.proofs.Acts.{asks, few_numbers, fits_there, is_there, putting}
 use Rattle.lvish_core.proofs.Written.{put_written}
 use Rattle.lvish_core.proofs.machine.Core.put.Goals as goal
 
 pub overflow_add-puts : goal.overflow_add-puts
-overflow_add-puts g c =
-    let acts = rw (← c.self.view_is) at c.requires.acting in
-    let room = rw (← c.self.view_is) at c.requires.room in
-    let few = few_numbers _ _ _ _ _ c.self.invariant c.args.name.now _ _ _ _ _ acts room in
-    omega (arith, few)
+overflow_add-puts g c = omega (arith, few_numbers (rw (← c.self.view_is) at c.requires.acting) c.self.invariant (rw (← c.self.view_is) at c.requires.room))
 
 pub resumed-requires-clause-asks : goal.resumed-requires-clause-asks
-resumed-requires-clause-asks g c =
-    let acts = rw (← c.self.view_is) at c.requires.acting in
-    (acts.local, acts.at_is)
+resumed-requires-clause-asks g c = asks (rw (← c.self.view_is) at c.requires.acting)
 
 pub resumed-requires-clause-fits : goal.resumed-requires-clause-fits
-resumed-requires-clause-fits g c =
-    let acts = rw (← c.self.view_is) at c.requires.acting in
-    fits_there _ (g.met.P.Program.lawful c.self.inside.program.now).repeats _ c.args.name.now _ _ _ _ _ acts Done tt
+resumed-requires-clause-fits g c = fits_there (rw (← c.self.view_is) at c.requires.acting) (g.met.P.Program.lawful c.self.inside.program.now).repeats Done tt
 
 pub put_at-requires : goal.put_at-requires
 put_at-requires g c =
@@ -31,29 +23,21 @@ put_at-requires g c =
 
 pub refuse-requires-clause-refused : goal.refuse-requires-clause-refused
 refuse-requires-clause-refused g c =
-    let acts = rw (← c.self.view_is) at c.requires.acting in
-    refused _ _ c.args.name.now _ _ _ _ c.args.variable c.args.state.now acts c.deref_mut.result.now c.put_at.new.variables c.self.inside.variables.len c.deref_mut.ensures.value c.self.inside.variables.ok.0 c.in-Err.ensures.refused
-    c.in-Err.refused c.in-Err.ensures.why
+    refused (rw (← c.self.view_is) at c.requires.acting) c.deref_mut.ensures.value c.self.inside.variables.ok.0 c.in-Err.ensures.refused c.in-Err.refused c.in-Err.ensures.why
 
 pub close-requires-clause-there : goal.close-requires-clause-there
-close-requires-clause-there g c =
-    let acts = rw (← c.self.view_is) at c.requires.acting in
-    is_there _ _ c.args.name.now _ _ _ _ _ acts
+close-requires-clause-there g c = is_there (rw (← c.self.view_is) at c.requires.acting)
 
 pub invariant_of-self-2 : goal.invariant_of-self-2
 invariant_of-self-2 g c =
-    let acts = rw (← c.self.view_is) at c.requires.acting in
-    let room = rw (← c.self.view_is) at c.requires.room in
-    let w = rw add-one at (put_written g.P.Lat.Lattice.joined g.P.Lat.Event.PartialEq.eq g.P.Lat.Lattice.events_of c.args.name.now _ c.args.state.now c.args.variable c.deref_mut.result.now c.self.inside.variables.items c.put_at.new.variables c.self.inside.variables.len c.deref_mut.ensures.value c.self.inside.variables.ok.0 c.in_default.ensures.ok) in
+    let w = rw add-one at (put_written c.deref_mut.ensures.value c.self.inside.variables.ok.0 c.in_default.ensures.ok) in
     let sets = rw (c.in_ok-stage.ensures.stage, add-one) at c.close.ensures.tasks in
     rw (c.close.ensures.steps, c.close.ensures.touched)
-    (putting _ (c.lawful.ensures c.self.inside.program.now) _ _ _ _ c.self.invariant c.args.name.now _ _ _ _ _ _ acts room (c.put_kept.ensures c.self.inside.program.now) (c.counts_kept.ensures.put c.self.inside.program.now) _ w _ sets).1
+    (putting (c.lawful.ensures c.self.inside.program.now) c.self.invariant (rw (← c.self.view_is) at c.requires.acting) (rw (← c.self.view_is) at c.requires.room) (c.put_kept.ensures c.self.inside.program.now) (c.counts_kept.ensures.put c.self.inside.program.now) w sets).1
 
 pub returns : goal.returns
 returns g c =
-    let acts = rw (← c.self.view_is) at c.requires.acting in
-    let room = rw (← c.self.view_is) at c.requires.room in
-    let w = rw add-one at (put_written g.P.Lat.Lattice.joined g.P.Lat.Event.PartialEq.eq g.P.Lat.Lattice.events_of c.args.name.now _ c.args.state.now c.args.variable c.deref_mut.result.now c.self.inside.variables.items c.put_at.new.variables c.self.inside.variables.len c.deref_mut.ensures.value c.self.inside.variables.ok.0 c.in_default.ensures.ok) in
+    let w = rw add-one at (put_written c.deref_mut.ensures.value c.self.inside.variables.ok.0 c.in_default.ensures.ok) in
     let sets = rw (c.in_ok-stage.ensures.stage, add-one) at c.close.ensures.tasks in
     rw (← c.self.view_is, c.own.ensures, c.in_ok-stage.ensures.own, c.close.ensures.steps, c.close.ensures.touched)
-    (putting _ (c.lawful.ensures c.self.inside.program.now) _ _ _ _ c.self.invariant c.args.name.now _ _ _ _ _ _ acts room (c.put_kept.ensures c.self.inside.program.now) (c.counts_kept.ensures.put c.self.inside.program.now) _ w _ sets).0
+    (putting (c.lawful.ensures c.self.inside.program.now) c.self.invariant (rw (← c.self.view_is) at c.requires.acting) (rw (← c.self.view_is) at c.requires.room) (c.put_kept.ensures c.self.inside.program.now) (c.counts_kept.ensures.put c.self.inside.program.now) w sets).0

@@ -5,7 +5,7 @@ use Rattle.lvish_core.proofs.machine.Core.refuse.Goals.{in-Conflict, in-Frozen}
 
 pub fail-requires-clause-failing : goal.fail-requires-clause-failing
 fail-requires-clause-failing g c =
-    refused_fails _ _ c.args.name.now c.args.variable c.args.refused c.match-refused.kind c.requires.refused (elim c.match-refused.branch [
+    refused_fails c.requires.refused (elim c.match-refused.branch [
       | in-Conflict w ↦ inl (w.in-Conflict.is, w.kind-is)
       | in-Frozen w ↦ inr (w.in-Frozen.is, w.kind-is)
     ])

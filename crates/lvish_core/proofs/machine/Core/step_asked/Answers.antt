@@ -1,6 +1,5 @@
-use Rattle.std.proofs.Common.{sym, ap, ◌∙◌, refl}
+use Rattle.std.proofs.Common.{sym, ap, ◌∙◌, refl, option_copied}
 use Rattle.std.proofs.lemmas.Bool.{false≢true}
-use Rattle.std.specs.Option.{option_copied}
 use Rattle.lvish_core.specs.Tasks.{standing, standing_at}
 use Rattle.lvish_core.proofs.Shown.{acting, is_full, not_full, live_can}
 use Rattle.lvish_core.proofs.machine.Core.step_asked.Goals as goal
