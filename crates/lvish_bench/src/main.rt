@@ -1,9 +1,10 @@
 //! Grows a state one element at a time, and says how long that took.
 //!
 //! The words are what grows (`set`, `map`, or `btree`, std's set, to compare with), in which order the
-//! elements come (`ascending`, `descending`, `mixed`), and how many there are. Standard output has
-//! the number of elements at the end, standard error the microseconds. `bench/states` runs it for a
-//! table of words.
+//! elements come (`ascending`, `descending`, `mixed`), and how many there are. With `one` nothing
+//! grows: each element has a set of its own, which is made, copied, compared and dropped. Standard
+//! output has the number of elements at the end, standard error the microseconds. `table` runs it
+//! for a table of words.
 #![tactic(auto)]
 
 mod element_order;
@@ -11,7 +12,7 @@ mod states;
 
 use anyhow::{Context, Result, bail};
 use element_order::ElementOrder;
-use states::{grow_btree, grow_map, grow_set};
+use states::{copy_ones, grow_btree, grow_map, grow_set};
 use std::alloc::Global;
 use std::env;
 use std::process::ExitCode;
@@ -32,7 +33,7 @@ fn run(rt: &HostRuntime) -> Result<()> {
     let words = env::args(rt)?.skip(1).collect::<Vec<String>>(rt.alloc())?;
     let [kind, element_order, count] = words.as_slice() else {
         bail!(
-            "three words are wanted: set, map or btree; ascending, descending or mixed; a number"
+            "three words are wanted: set, map, btree or one; ascending, descending or mixed; a number"
         );
     };
     let element_order = ElementOrder::from_word(element_order.as_str()).context("no such order")?;
@@ -49,6 +50,7 @@ fn grow(alloc: Global, kind: &str, element_order: ElementOrder, count: u32) -> R
     match kind {
         "set" => Ok(grow_set(alloc, element_order, count)?),
         "map" => Ok(grow_map(alloc, element_order, count)?),
+        "one" => Ok(copy_ones(alloc, element_order, count)?),
         "btree" => Ok(grow_btree(alloc, element_order, count)?),
         _ => bail!("no such state"),
     }

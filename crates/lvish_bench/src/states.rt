@@ -14,6 +14,21 @@ pub fn grow_set(alloc: Global, order: ElementOrder, count: u32) -> Result<usize,
     Ok(set.items().count())
 }
 
+/// How many of these elements have a set of their own that is equal to its copy.
+///
+/// Each set is made, copied, compared and dropped, as the puts of a script are.
+pub fn copy_ones(alloc: Global, order: ElementOrder, count: u32) -> Result<usize, AllocError> {
+    let mut equal = 0_usize;
+    for place in 0..count {
+        let set = GrowSet::of(alloc, &[order.element(place)])?;
+        let copy = set.copy(alloc)?;
+        if set.leq(&copy) && set == copy {
+            equal = equal.saturating_add(1);
+        }
+    }
+    Ok(equal)
+}
+
 /// The size of a map to which this many keys were joined, one at a time.
 pub fn grow_map(alloc: Global, order: ElementOrder, count: u32) -> Result<usize, AllocError> {
     let mut map = MapOf::new(alloc);
