@@ -133,9 +133,6 @@ all_same p q h (x ∷ xs) e = and_from (q x) _ (h x (left_holds (p x) _ e)) (all
 plain_no : (b : ℕ) → is_plain_byte b ≡ true → is_separator b ≡ false
 plain_no b e = grind (arith, nat_tests)
 
-plain_feed : (b : ℕ) → is_plain_byte b ≡ true → (b == 10) ≡ false
-plain_feed b e = grind (arith, nat_tests)
-
 module _ (p : ℕ → Bool) (h : (b : ℕ) → is_plain_byte b ≡ true → p b ≡ false) where
   pub none_in : (w : List ℕ) → list_all is_plain_byte w ≡ true → list_any p w ≡ false
   none_in [] e = refl
@@ -195,11 +192,8 @@ module _ (p : ℕ → Bool) (h : (b : ℕ) → is_plain_byte b ≡ true → p b 
   none_joined [] e = refl
   none_joined (w ∷ ws) e = list_any-append p w (spaced ws) ∙ or_from (list_any p w) _ (none_in p h w (bytes_of w (left_holds (is_plain w) _ e))) (none_spaced ws (right_holds (is_plain w) _ e))
 
-plain_known : (b : ℕ) → is_plain_byte b ≡ true → is_foreign b ≡ false
-plain_known b e = grind (arith, nat_tests)
-
 pub no_foreign : (ws : List Word) → list_all is_plain ws ≡ true → list_any is_foreign (words_joined ws) ≡ false
-no_foreign ws e = none_joined is_foreign plain_known refl ws e
+no_foreign ws e = none_joined is_foreign (λ b plain. grind (arith, nat_tests)) refl ws e
 
 pub no_feed : (ws : List Word) → list_all is_plain ws ≡ true → list_any (λ b. b == 10) (words_joined ws) ≡ false
-no_feed ws e = none_joined (λ b. b == 10) plain_feed refl ws e
+no_feed ws e = none_joined (λ b. b == 10) (λ b plain. grind (arith, nat_tests)) refl ws e

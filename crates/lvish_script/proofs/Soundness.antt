@@ -4,7 +4,7 @@ use Rattle.std.specs.Option.{option_map_or}
 use Rattle.std.specs.List.{list_any, list_all, flat_map}
 use Rattle.std.specs.Str.{bytes_eq}
 use Rattle.std.proofs.Math.Bool.{or-true}
-use Rattle.std.proofs.lemmas.Bool.{and_from, and_parts, or_from, not-false}
+use Rattle.std.proofs.lemmas.Bool.{and_from, and_parts, or_from, or_parts, not-false}
 use Rattle.std.proofs.lemmas.List.{append-nil, map-append}
 use Rattle.std.proofs.lemmas.List.Folds.{list_any-append}
 use Rattle.std.proofs.lemmas.Grind.{flat_map-append}
@@ -57,11 +57,8 @@ binds_same (o.While t a) = refl
 body_binds : (ss : List Statement) → flat_map binds (body_lines ss) ≡ sound.binds ss
 body_binds ss = flat_of_body binds own_binds binds_same refl refl ss
 
-front_none : (p : Line → Bool) (xs ys : List Line) → list_any p (xs ++ ys) ≡ false → list_any p xs ≡ false
-front_none p xs ys e = left_fails (list_any p xs) (list_any p ys) (sym (list_any-append p xs ys) ∙ e)
-
-back_none : (p : Line → Bool) (xs ys : List Line) → list_any p (xs ++ ys) ≡ false → list_any p ys ≡ false
-back_none p xs ys e = right_fails (list_any p xs) (list_any p ys) (sym (list_any-append p xs ys) ∙ e)
+none_parts : (p : Line → Bool) (xs ys : List Line) → list_any p (xs ++ ys) ≡ false → (list_any p xs ≡ false) × (list_any p ys ≡ false)
+none_parts p xs ys e = or_parts (list_any p xs) (list_any p ys) (sym (list_any-append p xs ys) ∙ e)
 
 -- the lines up to a procedure's, and those after its body
 abbrev pub lines_to : List Declaration → List Procedure → Procedure → List Line
@@ -84,10 +81,10 @@ module _ (ds : List Declaration) (q : List Procedure) (r : Procedure) (more : Li
   locals_before =
       ap (locals_after None) (append_assoc (script_lines ds q) (Proc r.name r.parameters ∷ []) b)
       ∙ locals_append None (script_lines ds q) (Proc r.name r.parameters ∷ b)
-      ∙ locals_inside r.parameters b (front_none is_procedure b (l ∷ a) none_here)
+      ∙ locals_inside r.parameters b (none_parts is_procedure b (l ∷ a) none_here).0
 
   binds_here : binds_until_procedure (l ∷ (a ++ lines_from more)) ≡ binds l ++ flat_map binds a
-  binds_here = binds_inside (l ∷ a) (lines_from more) (back_none is_procedure b (l ∷ a) none_here) ∙ ap (λ t. (binds l ++ flat_map binds a) ++ t) (nothing_after more) ∙ append-nil (binds l ++ flat_map binds a)
+  binds_here = binds_inside (l ∷ a) (lines_from more) (none_parts is_procedure b (l ∷ a) none_here).1 ∙ ap (λ t. (binds l ++ flat_map binds a) ++ t) (nothing_after more) ∙ append-nil (binds l ++ flat_map binds a)
 
   -- the locals at a line of a body are those of its procedure
   pub locals_here : locals_in (lines_to ds q r ++ b) (l ∷ (a ++ lines_from more)) ≡ locals_of r

@@ -1,9 +1,8 @@
 ghost use Rattle.std.specs.Prelude.{◌≡◌, ◌++◌, ◌∷◌, [], ℕ, false, true, filter, Some, None, IfOk, OnOk, if◌then◌else◌};
-ghost use Rattle.std.specs.List.{flat_map};
 ghost use Rattle.lvish_checks.specs.Checks.{on_line, line_fails, open_step, is_procedure, is_nil, takes_else};
 ghost use Rattle.lvish_checks.specs.declared.fault.Fault.TheVariants.{BadLine, OpenBlock as UnclosedBlock};
 ghost use Rattle.lvish_script.specs.Spells.{script_lines, statement_lines, procedure_lines, says_something};
-ghost use Rattle.lvish_script.specs.Nested.{block_lines, opener, opened_lines, open_lines, draft_lines, openers, what_is_said, HasNone, TakesLine};
+ghost use Rattle.lvish_script.specs.Nested.{block_lines, opener, opened_lines, draft_lines, openers, what_is_said, HasNone, TakesLine};
 ghost use Rattle.lvish_checks.specs.declared.line.Line.TheVariants as line;
 
 use crate::open::{OpenBlock, add_statement, empty};
