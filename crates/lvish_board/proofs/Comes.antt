@@ -1,5 +1,6 @@
 -- All that a board says of its answer, for each answer, over any machine.
-use Rattle.std.proofs.Common.{◌≡◌, ◌++◌, ◌∷◌, [], Bool, true, false, ℕ, Ordering, Option, None, IsSome, refl, sym, ap, subst, ◌∙◌, Vec}
+use Rattle.std.proofs.Common.{◌≡◌, ◌++◌, ◌∷◌, [], Bool, true, false, ℕ, Ordering, Option, None, IsSome, refl, sym, ap, subst, ◌∙◌}
+use Rattle.std.specs.Global.{Vec}
 use Rattle.std.proofs.lemmas.Bool.{false≢true, true≢false}
 use Rattle.lvish_board.specs.Vocabulary.{Act, Hand, Acted, Over, Stale, Parked, Next, Gone, Work}
 use Rattle.lvish_calculus.specs.Machine.{Machine}

@@ -1,5 +1,6 @@
 -- On which list a parked task is, and whom the asking of a list wakes.
-use Rattle.std.proofs.Common.{◌≡◌, ℕ, List, Option, Some, Ordering, ap, subst, ◌∙◌, nat_cmp, Vec, BTreeMap}
+use Rattle.std.proofs.Common.{◌≡◌, ℕ, List, Option, Some, Ordering, ap, subst, ◌∙◌, nat_cmp, BTreeMap}
+use Rattle.std.specs.Global.{Vec}
 use Rattle.std.specs.Cmp.{IsTotalOrder}
 use Rattle.std.specs.Cmp.Lexicographic.{options_total}
 use Rattle.std.proofs.lemmas.Cmp.{nat_cmp_total, on_total, then_total}

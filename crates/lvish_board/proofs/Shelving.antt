@@ -1,5 +1,6 @@
 -- A list under a key is written, and the others stay.
-use Rattle.std.proofs.Common.{◌≡◌, inl, inr, true, cond, List, [], ◌∷◌, ◌++◌, Some, Ordering, refl, sym, ap, subst, ◌∙◌, Less, Equal, Greater, is_eq, Vec}
+use Rattle.std.proofs.Common.{◌≡◌, inl, inr, true, cond, List, [], ◌∷◌, ◌++◌, Some, Ordering, refl, sym, ap, subst, ◌∙◌, Less, Equal, Greater, is_eq}
+use Rattle.std.specs.Global.{Vec}
 use Rattle.std.specs.Cmp.{IsTotalOrder}
 use Rattle.std.specs.Map.{lookup}
 use Rattle.std.specs.BTreeMap.{BTreeMap, get, is_at}

@@ -1,5 +1,5 @@
 -- The adding of a handler, over any machine.
-use Rattle.std.proofs.Common.{◌≡◌, ◌+◌, ◌<◌, ◌++◌, ℕ, suc, Bool, true, false, if◌then◌else◌, List, length, take, drop, Option, Some, None, slice_get, unwrap_or, option_map, Result, Ok, Err, IsErrAnd, refl, sym, ap, subst, ◌∙◌, arith}
+use Rattle.std.proofs.Common.{◌≡◌, ◌<◌, ◌++◌, ℕ, suc, Bool, true, false, if◌then◌else◌, List, length, take, drop, Option, Some, None, slice_get, unwrap_or, option_map, Result, Ok, Err, IsErrAnd, refl, sym, ap, subst, ◌∙◌, arith}
 use Rattle.std.proofs.lemmas.Option.{same_Some}
 use Rattle.lvish_core.specs.Vocabulary.{Add, Done, Late, Deep, Act, Held, MOST_STEPS, HandlerPlace, Other, Stepped, StepFault, Memory, Moved}
 use Rattle.lvish_calculus.specs.Machine.{Machine, IsLawful}

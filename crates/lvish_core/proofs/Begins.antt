@@ -12,7 +12,7 @@ use Rattle.lvish_handlers.specs.Handlers.{HandlersView as Handlers}
 use Rattle.lvish_picture.specs.Steps.{IsTableBegun as IsBegunTable}
 use Rattle.lvish_picture.specs.Counts.{BegunIsPictured}
 use Rattle.lvish_core.specs.declared.handler_place.HandlerPlace.{HandlerPlace}
-use Rattle.lvish_core.specs.Core.{CoreView, state, IsBegun}
+use Rattle.lvish_core.specs.Core.{CoreView, IsBegun}
 use Rattle.lvish_core.specs.Places.{place_at, post_of}
 use Rattle.lvish_core.specs.Tasks.{Sets}
 use Rattle.lvish_core.specs.Kept.{IsKept, AreFew}

@@ -13,7 +13,7 @@ invariant_of-self g c =
     let full : c.self.inside.budget ≤ length c.self.inside.trace.items = search rules in
     let within = sound.within in
     let used : length c.self.inside.trace.items ≡ g.J.Named.budget = omega (arith, full, within, budget) in
-    (budget, kept_over sound (used, (Act c.args.asked.task, can_here)) sound.blocked sound.once)
+    (budget, kept_over _ sound (used, (Act c.args.asked.task, can_here)) sound.blocked sound.once)
 
 pub returns-then-is_some : goal.returns-then-is_some
 returns-then-is_some g c = act_over refl refl (rw (← c.self.view_is) (sym c.is_some.ensures ∙ c.if-is_some.true)) (λ _. refl)

@@ -13,7 +13,7 @@ invariant_of-self g c =
     let next : IsNext g.P.Lat.Event.PartialEq.eq c.args.self.now.core.table c.args.handler c.in-Some.event = c.in-Some.ensures in
     let can = hand_open _ (c.hands_one_event.ensures.open g.J.Named.program) _ _ _ sound none c.args.handler c.in-Some.event (rw (← c.self.view_is) at next) in
     let full : length c.self.inside.trace.items ≡ g.J.Named.budget = omega (arith, sound.within, c.self.invariant.0, c.if-len-self.true, c.len.ensures, c.self.inside.trace.ok.0) in
-    (c.self.invariant.0, kept_over sound (full, (Hand c.args.handler c.in-Some.event, can)) sound.blocked sound.once)
+    (c.self.invariant.0, kept_over _ sound (full, (Hand c.args.handler c.in-Some.event, can)) sound.blocked sound.once)
 
 pub returns-then-is_some : goal.returns-then-is_some
 returns-then-is_some g c = hand_over refl refl refl (rw (← c.self.view_is) (sym c.is_some.ensures ∙ c.if-is_some.true)) (λ _. refl)
