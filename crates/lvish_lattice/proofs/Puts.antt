@@ -25,6 +25,10 @@ insert_is_merge {R = R} same x (y ∷ ys) =
       | Greater ↦ λ _. ap (λ zs. y ∷ zs) (insert_is_merge same x ys)
     ] refl
 
+pub tail_rises : {K : Type 0} (R : K → K → Ordering) (x : K) (xs : List K) → IsStrictlySortedBy R (x ∷ xs) → IsStrictlySortedBy R xs
+unfolding IsStrictlySortedBy
+tail_rises R x xs s = s.1
+
 module _ {K : Type 0} {R : K → K → Ordering} (o : IsTotalOrder R) where
   regrouped : (a b c : Bool) → ((a || b) || c) ≡ (b || ((a || false) || c))
   regrouped true true c = refl
@@ -33,14 +37,10 @@ module _ {K : Type 0} {R : K → K → Ordering} (o : IsTotalOrder R) where
   regrouped false false c = refl
 
   -- the first element of a list goes in before the others
-  pub put_first : ((x y : K) → R x y ≡ Equal → x ≡ y) → (x : K) (xs ys : List K) → IsStrictlySortedBy R (x ∷ xs) → IsStrictlySortedBy R xs → IsStrictlySortedBy R ys → sorted_merge R true xs (sorted_merge R true (x ∷ []) ys) ≡ sorted_merge R true (x ∷ xs) ys
-  put_first same x xs ys s r t = sym (same_members o same _ _ (merge_rises o (x ∷ xs) ys s t) (merge_rises o xs _ r (merge_rises o (x ∷ []) ys (one_rises R x) t)) (λ q.
+  pub put_first : ((x y : K) → R x y ≡ Equal → x ≡ y) → (x : K) (xs ys : List K) → IsStrictlySortedBy R (x ∷ xs) → IsStrictlySortedBy R ys → sorted_merge R true xs (sorted_merge R true (x ∷ []) ys) ≡ sorted_merge R true (x ∷ xs) ys
+  put_first same x xs ys s t = sym (same_members o same _ _ (merge_rises o (x ∷ xs) ys s t) (merge_rises o xs _ (tail_rises R x xs s) (merge_rises o (x ∷ []) ys (one_rises R x) t)) (λ q.
       merge_has o q (x ∷ xs) ys ∙ regrouped (eq_by_cmp R q x) (is_member (eq_by_cmp R) xs q) (is_member (eq_by_cmp R) ys q)
       ∙ sym (merge_has o q xs (sorted_merge R true (x ∷ []) ys) ∙ ap (λ b. is_member (eq_by_cmp R) xs q || b) (merge_has o q (x ∷ []) ys))))
-
-pub tail_rises : {K : Type 0} (R : K → K → Ordering) (x : K) (xs : List K) → IsStrictlySortedBy R (x ∷ xs) → IsStrictlySortedBy R xs
-unfolding IsStrictlySortedBy
-tail_rises R x xs s = s.1
 
 -- a test of each element
 module _ {K : Type 0} (p : K → Bool) where
@@ -54,9 +54,6 @@ module _ {K : Type 0} (p : K → Bool) where
 
   pub one_fails : (x : K) (xs : List K) → p x ≡ false → list_all p (x ∷ xs) ≡ false
   one_fails x xs h = ap (λ b. b && list_all p xs) h
-
-  pub one_passes : (x : K) (xs : List K) → p x ≡ true → list_all p (x ∷ xs) ≡ list_all p xs
-  one_passes x xs h = ap (λ b. b && list_all p xs) h
 
 -- whether each element of a list is in another
 pub within_by_test : {K : Type 0} {R : K → K → Ordering} (o : IsTotalOrder R) (same : (x y : K) → R x y ≡ Equal → x ≡ y) (eq : K → K → Bool) → ((x y : K) → eq x y ≡ is_eq (R x y)) → (xs ys : List K) → IsStrictlySortedBy R xs → IsStrictlySortedBy R ys

@@ -16,11 +16,10 @@ loop-x-preserved g c =
     let held = c.loop-x.self in
     let all : c.loop-x.x-iterator ≡ x ∷ more = rest_more deref c.loop-x.x-iterator more _ c.in-Some.x c.in-Some.is c.next.ensures.steps in
     let rises : IsStrictlySortedBy R (x ∷ more) = subst (IsStrictlySortedBy R) all c.loop-x.invariant.left in
-    let left = tail_rises R x more rises in
     let put = c.in_ok-put.ensures.put in
     record {
-      left = left;
+      left = tail_rises R x more rises;
       ascending = subst (IsStrictlySortedBy R) (sym put) (merge_rises v.Ord.total (x ∷ []) held (one_rises R x) c.loop-x.invariant.ascending);
-      merged = ap (sorted_merge R true more) put ∙ put_first v.Ord.total (ties_are_same R v.Plain.identical v.Ord.matches_eq) x more held rises left c.loop-x.invariant.ascending
+      merged = ap (sorted_merge R true more) put ∙ put_first v.Ord.total (ties_are_same R v.Plain.identical v.Ord.matches_eq) x more held rises c.loop-x.invariant.ascending
           ∙ ap (λ l. sorted_merge R true l held) (sym all) ∙ c.loop-x.invariant.merged;
     }
