@@ -37,13 +37,13 @@ pub fn values_of(
 }
 
 /// What a `let` gives its local, or how it fails.
-pub fn evaluate(values: &Values, expression: Expression) -> Result<i64, ErrorKind>
-    ensures { result ≡ expression_value values.now expression }
+pub fn evaluate(values: &Values, expression: &Expression) -> Result<i64, ErrorKind>
+    ensures { result ≡ expression_value values.now expression.now }
 {
     match expression {
-        Expression::Same(operand) => Ok(value_of(values, operand)),
+        Expression::Same(operand) => Ok(value_of(values, *operand)),
         Expression::Combined(left, operator, right) => {
-            combine(operator, value_of(values, left), value_of(values, right))
+            combine(*operator, value_of(values, *left), value_of(values, *right))
         }
     }
 }

@@ -2,6 +2,7 @@
 #![tactic(auto)]
 
 mod arithmetic;
+mod equal;
 mod evaluate;
 mod fits;
 mod frame;

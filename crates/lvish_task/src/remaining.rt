@@ -1,6 +1,7 @@
 ghost use Rattle.std.specs.Prelude.{◌≡◌, IfOk, [], ◌∷◌, ◌==◌, length, List, MatchOption};
 ghost use Rattle.lvish_compound.specs.declared.event.Event.{Event};
 
+use crate::equal::are_equal;
 use lvish_compound::Event;
 use std::alloc::{AllocError, Global};
 use std::marker::Model;
@@ -44,7 +45,7 @@ impl PartialEq for Remaining {
     ghost laws = { lists_per laws-law };
 
     fn eq(&self, other: &Remaining) -> bool {
-        self.as_slice() == other.as_slice()
+        are_equal(self.as_slice(), other.as_slice())
     }
 }
 

@@ -13,11 +13,11 @@ use std::alloc::{AllocError, Global};
 
 impl Stack {
     /// A `let`, which fails or gives its local a value.
-    fn assign(&mut self, local: usize, expression: Expression) -> Option<Ask>
+    fn assign(&mut self, local: usize, expression: &Expression) -> Option<Ask>
         requires left { 0 < self.old.left }
         requires within { self.old.top.place + 1 < 2 ^ 64 }
-        ensures asks { result ≡ requested (assigned self.old.top self.old.below local (expression_value self.old.top.values expression)) }
-        ensures moves { self.new ≡ moved self.old (assigned self.old.top self.old.below local (expression_value self.old.top.values expression)) }
+        ensures asks { result ≡ requested (assigned self.old.top self.old.below local (expression_value self.old.top.values expression.now)) }
+        ensures moves { self.new ≡ moved self.old (assigned self.old.top self.old.below local (expression_value self.old.top.values expression.now)) }
     {
         match evaluate(&self.top.values, expression) {
             Err(kind) => Some(Request::Fault(kind)),
@@ -62,7 +62,7 @@ impl ScriptCode {
             Instruction::Ask(action) => {
                 Ok(Some(self.request(alloc, &local.top.values, action)?))
             }
-            Instruction::Let(x, expression) => Ok(local.assign(*x, *expression)),
+            Instruction::Let(x, expression) => Ok(local.assign(*x, expression)),
             Instruction::Call(procedure, operands) => {
                 self.call(alloc, local, *procedure, operands.as_slice())
             }

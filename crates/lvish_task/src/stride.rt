@@ -21,11 +21,11 @@ pub fn next(instructions: &[Instruction], place: usize) -> Option<&Instruction>
 
 impl Stack {
     /// A `let` that succeeds. Where it fails, nothing is changed, and the answer is false.
-    fn give(&mut self, local: usize, expression: Expression) -> bool
+    fn give(&mut self, local: usize, expression: &Expression) -> bool
         requires left { 0 < self.old.left }
         requires within { self.old.top.place + 1 < 2 ^ 64 }
-        ensures takes { result ≡ is_some (let_taken self.old local (expression_value self.old.top.values expression)) }
-        ensures moves { self.new ≡ unwrap_or (let_taken self.old local (expression_value self.old.top.values expression)) self.old }
+        ensures takes { result ≡ is_some (let_taken self.old local (expression_value self.old.top.values expression.now)) }
+        ensures moves { self.new ≡ unwrap_or (let_taken self.old local (expression_value self.old.top.values expression.now)) self.old }
     {
         match evaluate(&self.top.values, expression) {
             Ok(value) => {
@@ -48,7 +48,7 @@ impl Stack {
     {
         let place = self.top.place;
         match next(instructions, place) {
-            Some(Instruction::Let(x, expression)) => self.give(*x, *expression),
+            Some(Instruction::Let(x, expression)) => self.give(*x, expression),
             Some(Instruction::SkipIfZero(operand, n)) => {
                 self.test(*operand, place + 1, place + 1 + *n);
                 true

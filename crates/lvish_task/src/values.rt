@@ -1,6 +1,7 @@
 ghost use Rattle.std.specs.Prelude.{◌≡◌, IfOk, OnOk, ◌++◌, replicate, length, pos, ◌-◌, ◌≤◌};
 ghost use Rattle.std.specs.List.{slice_set, slice_index_or};
 
+use crate::equal::are_equal;
 use std::alloc::{AllocError, Global};
 use std::marker::Model;
 
@@ -35,7 +36,7 @@ impl PartialEq for Values {
     ghost laws = { partial_equiv_from_equiv (lists_equiv int_eq_equiv) };
 
     fn eq(&self, other: &Values) -> bool {
-        self.items.as_slice() == other.items.as_slice()
+        are_equal(&self.items, &other.items)
     }
 }
 
