@@ -160,13 +160,7 @@ counters_answer r checked s a = (
 
 -- a level that is reached in one state and not in another is an event of the one and not of the other
 pub level_is_there : (old new : MaxCounter) (n : ℤ) → int_le n (number_of new) ≡ true → int_le n (number_of old) ≡ false → (is_member int_eq (events_of new) n ≡ true) × (is_member int_eq (events_of old) n ≡ false)
-level_is_there old new (pos k) there missing = (has_level 1 (level new) (pos k) ∙ among, has_level 1 (level old) (pos k) ∙ beyond)
-  where
-    among : is_among 1 (level new) (pos k) ≡ true
-    among = grind (arith, nat_tests)
-
-    beyond : is_among 1 (level old) (pos k) ≡ false
-    beyond = grind (arith, nat_tests)
+level_is_there old new (pos k) there missing = (has_level 1 (level new) (pos k) ∙ grind (arith, nat_tests), has_level 1 (level old) (pos k) ∙ grind (arith, nat_tests))
 level_is_there old new (negsuc k) there missing = absurd cc
 
 pub counters_wait : (eq : MaxCounter → MaxCounter → Bool) → IsIdentity eq → IsWatched int_eq events_of spot_of (watched eq) answer_of
@@ -177,9 +171,5 @@ counters_wait eq same r w is old new a none some =
     let f = found (λ l. nat_le (level l) (level new)) (listed r) m.0 m.1 in
     let got : nat_le (level h.0) (level new) ≡ true = ap (λ x. nat_le (level x) (level new)) (one.1 m.0 f.0) ∙ f.1 in
     let late : nat_le (level h.0) (level old) ≡ false = missed (λ l. nat_le (level l) (level old)) (listed r) h.0 (unmapped number_of _ none) one.0 in
-    record {
-      event = pos (level h.0);
-      there = has_level 1 (level new) (pos (level h.0)) ∙ grind (arith, nat_tests);
-      missing = has_level 1 (level old) (pos (level h.0)) ∙ grind (arith, nat_tests);
-      at = h.2;
-    }
+    let l = level_is_there old new (number_of h.0) got late in
+    record { event = number_of h.0; there = l.0; missing = l.1; at = h.2 }

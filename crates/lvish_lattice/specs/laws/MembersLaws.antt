@@ -23,14 +23,11 @@ module _ {V : Type 0} {o : ord.Ghosts V} {e : partial_eq.Ghosts V} {p : partial_
   never_top a b h = some_is_not_none (joined a b) _ (joined-union total a b) h
 
   -- a read is checked exactly where any two listed elements are the same
-  one_is_checked : (r : Members V) → ((x y : V) → Contains (listed r) x → Contains (listed r) y → x ≡ y) → IsChecked joined (Member {o = o} {e = e} {p = p} r)
-  one_is_checked r one m n a b s t = inl (one a b s.0 t.0)
-
   checked_is_one : (r : Members V) → IsChecked joined (Member {o = o} {e = e} {p = p} r) → (x y : V) → Contains (listed r) x → Contains (listed r) y → x ≡ y
   checked_is_one r checked x y s t = ⊎_elim (λ h. h) (λ h. absurd (never_top (single x) (single y) h)) (checked (single x) (single y) x y (s, refl) (t, refl))
 
   pub sets_checked : (r : Members V) → ((x y : V) → Contains (listed r) x → Contains (listed r) y → x ≡ y) ↔ IsChecked joined (Member {o = o} {e = e} {p = p} r)
-  sets_checked r = (one_is_checked r, checked_is_one r)
+  sets_checked r = ((λ one m n a b s t. inl (one a b s.0 t.0)), checked_is_one r)
 
   module _ (eq : V → V → Bool) (ties : (x y : V) → eq x y ≡ is_eq (o.cmp x y)) (same : IsIdentity eq) where
     -- a set of one element is at or below those that have it
