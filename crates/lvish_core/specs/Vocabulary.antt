@@ -1,4 +1,4 @@
--- The declared words of the calculus, of variables and handlers, and of cores, for one `use` line.
+-- The words that Rattle makes of types of the calculus, of variables, handlers and cores, for one `use` line.
 pub use Rattle.lvish_calculus.specs.declared.label.Label.{Label}
 pub use Rattle.lvish_calculus.specs.declared.label.Label.TheVariants.{Act, Hand}
 pub use Rattle.lvish_calculus.specs.declared.request.ErrorKind.{ErrorKind}
