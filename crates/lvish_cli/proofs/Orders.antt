@@ -13,7 +13,7 @@ use Rattle.lvish_cli.specs.declared.order.Order.TheVariants.{Check, Run, Pick}
 use Rattle.lvish_cli.specs.declared.status.Status.{Status}
 use Rattle.lvish_cli.specs.declared.status.Status.TheVariants.{Done, Blocked, Refused, Unwritten}
 use Rattle.lvish_cli.specs.Answers.{outcome_status, IsAnswer, IsUnanswered, IsScriptAnswer}
-use Rattle.lvish_cli.specs.Performs.{WritesAnswer, WritesFront, Performs}
+use Rattle.lvish_cli.specs.Performs.{WritesAnswer, Performs}
 use Rattle.lvish_cli.specs.Statuses.{fault_status}
 use Rattle.lvish_cli.specs.Streams.{TakesFront, text_seen}
 
@@ -30,7 +30,7 @@ module _ (of : runs.Ghosts Script) (order : Order) (given old new : Option (List
 
   module _ (input : List ℕ) (read : IfSome given (λ bytes. input ≡ text_seen bytes)) where
     -- where there is an answer, it is written
-    pub performed : (status : Status) (text : List ℕ) → Appends old new text → IsAnswer of order input status text → Performs of order given old new status
+    performed : (status : Status) (text : List ℕ) → Appends old new text → IsAnswer of order input status text → Performs of order given old new status
     performed status text put answer = by answer
       where
         at : (s : Status) → status ≡ s → (WritesAnswer of order given old new s → Performs of order given old new s) → Performs of order given old new status
@@ -45,6 +45,11 @@ module _ (of : runs.Ghosts Script) (order : Order) (given old new : Option (List
         by (inl h) = by_script h.0 order h.2
         by (inr h) = at Refused h.2.1 (λ w. w)
 
+    -- as far as the writer takes it
+    pub answered : (status told : Status) (text : List ℕ) → IsAnswer of order input status text → ((told ≡ status) × Appends old new text) ⊎ ((told ≡ Unwritten) × TakesFront old new text) → Performs of order given old new told
+    answered status told text answer (inl w) = subst (Performs of order given old new) (sym w.0) (performed status text w.1 answer)
+    answered status told text answer (inr w) = subst (Performs of order given old new) (sym w.0) (status, text, record { input = input; read = read; answer = answer }, w.1)
+
     -- where there is none nothing is written, and the status says why
     pub failed : (fault : RunFault) → IsUnanswered order input fault → Keeps old new → Performs of order given old new (fault_status fault)
     failed run.NoThread (inl e) kept = absurd (let y : ⊥ = cc in y)
@@ -54,20 +59,3 @@ module _ (of : runs.Ghosts Script) (order : Order) (given old new : Option (List
     failed run.Stopped (inr h) kept = absurd h.2
     failed run.Mixed (inl e) kept = absurd (let y : ⊥ = cc in y)
     failed run.Mixed (inr h) kept = (input, read, (h.0, h.1), h.2, kept)
-
-  -- the same, where the bytes that were read and those that were to be written are known by equations
-  module _ (input seen text written : List ℕ) (is : seen ≡ input) (same : written ≡ text) (read : IfSome given (λ bytes. input ≡ text_seen bytes)) where
-    pub performed_of : (status : Status) → IsAnswer of order seen status text → Appends old new written → Performs of order given old new status
-    performed_of status h put = performed input read status text (subst (λ xs. Appends old new xs) same put) (subst (λ xs. IsAnswer of order xs status text) is h)
-
-    pub unwritten_of : (status : Status) → IsAnswer of order seen status text → TakesFront old new written → WritesFront of order given old new
-    unwritten_of status h front = (status, text, record { input = input; read = read; answer = subst (λ xs. IsAnswer of order xs status text) is h }, subst (λ xs. TakesFront old new xs) same front)
-
-    pub answered_of : (status told : Status) → IsAnswer of order seen status text → ((told ≡ status) × Appends old new written) ⊎ ((told ≡ Unwritten) × TakesFront old new written) → Performs of order given old new told
-    answered_of status told h (inl w) = subst (Performs of order given old new) (sym w.0) (performed_of status h w.1)
-    answered_of status told h (inr w) = subst (Performs of order given old new) (sym w.0) (unwritten_of status h w.1)
-
-  pub failed_of : (input seen : List ℕ) (fault : RunFault) (status : Status) → seen ≡ input → status ≡ fault_status fault
-      → IfSome given (λ bytes. input ≡ text_seen bytes) → IsUnanswered order seen fault → Keeps old new → Performs of order given old new status
-  failed_of input seen fault status is says read h kept =
-      subst (Performs of order given old new) (sym says) (failed input read fault (subst (λ xs. IsUnanswered order xs fault) is h) kept)

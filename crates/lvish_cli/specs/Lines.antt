@@ -1,6 +1,5 @@
 -- The lines that the program prints where it prints no report.
-use Rattle.std.specs.Prelude.{ℕ, List, [], ◌∷◌, ◌++◌, Option, Some, None, codes}
-use Rattle.std.specs.Fmt.{decimal}
+use Rattle.std.specs.Prelude.{ℕ, List, [], ◌∷◌, ◌++◌, Option, Some, None, codes, decimal}
 
 -- the text, and the end of its line
 abbrev pub text_line : List ℕ → List ℕ

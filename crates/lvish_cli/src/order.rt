@@ -5,7 +5,7 @@ use std::alloc::AllocError;
 use thiserror::Error;
 
 /// What the words ask for.
-#[derive(Debug, PartialEq, Drop)]
+#[derive(Debug, PartialEq)]
 pub enum Order {
     /// Say whether the text is a script.
     Check {
@@ -32,6 +32,25 @@ pub enum Order {
         /// Whether every variable is reported, or frozen ones alone.
         all: bool,
     },
+}
+
+// Written out, so that it is proved once, and not at each exit of a function that owns one.
+impl Drop for Order {
+    fn drop(self) {
+        match self {
+            Order::Check { ends: _, budget: _ } => {}
+            Order::Run {
+                workers: _,
+                budget: _,
+                all: _,
+            } => {}
+            Order::Pick {
+                picks: _,
+                budget: _,
+                all: _,
+            } => {}
+        }
+    }
 }
 
 /// Where the script is.

@@ -5,7 +5,7 @@ ghost use Rattle.lvish_cli.specs.Statuses.{status_number, status_message};
 use lvish_run::RunFault;
 
 /// How the program ends.
-#[derive(Debug, PartialEq, Drop)]
+#[derive(Debug, PartialEq)]
 pub enum Status {
     /// What was asked for is done; a run ended with no blocked task.
     Done,
@@ -31,6 +31,26 @@ pub enum Status {
     Mixed,
     /// Standard output refused the text.
     Unwritten,
+}
+
+// Written out, so that it is proved once, and not at each exit of a function that owns one.
+impl Drop for Status {
+    fn drop(self) {
+        match self {
+            Status::Usage(_) => {}
+            Status::Done
+            | Status::Blocked
+            | Status::Unreadable
+            | Status::Refused
+            | Status::Error
+            | Status::Budget
+            | Status::Memory
+            | Status::NoThread
+            | Status::Stopped
+            | Status::Mixed
+            | Status::Unwritten => {}
+        }
+    }
 }
 
 impl Status {

@@ -1,14 +1,13 @@
 -- Work that is added to an agenda.
-use Rattle.std.proofs.Common.{◌≡◌, ◌⊎◌, ◌↔◌, inl, inr, true, cond, List, [], ◌∷◌, Option, Some, None, Ordering, sym, ap, ◌∙◌, subst}
+use Rattle.std.proofs.Common.{◌≡◌, ◌⊎◌, ◌↔◌, inl, inr, true, cond, List, [], ◌∷◌, ◌++◌, Option, Some, None, Ordering, sym, ap, ◌∙◌, subst, Equal, is_eq}
 use Rattle.std.proofs.lemmas.Bool.{cases_Bool, both_ways}
-use Rattle.std.specs.declared.cmp.Ordering.TheVariants.{Equal}
-use Rattle.std.specs.Ordering.{is_eq}
 use Rattle.std.specs.Cmp.{Equal-is}
 use Rattle.lvish_names.specs.NameOrder.{name_cmp, handler_cmp}
 use Rattle.lvish_names.specs.Names.{Name, Handler}
 use Rattle.lvish_board.specs.declared.work.Work.{Work}
 use Rattle.lvish_board.specs.declared.work.Work.TheVariants.{Stretch, Act as ActOn, Hand as HandTo}
 use Rattle.lvish_board.specs.Place.{TaskPlace}
+use Rattle.lvish_core.specs.laws.Lists.{either_among, among_first, among_last}
 use Rattle.lvish_run.specs.Agenda.{Open, SetsOpenTask, HasHandler, IsTaskOf, Adds}
 
 module _ {K V : Type 0} (c : K → K → Ordering) (exact : (t u : K) → (c t u ≡ Equal) ↔ (t ≡ u)) (old new : K → V) (t : K) (x : V) (has : (u : K) → new u ≡ cond (is_eq (c t u)) x (old u)) where
@@ -87,25 +86,19 @@ module _ {P J S L R A W E : Type 0} where
     hands = λ h none. (none, λ z. z);
   }
 
-  -- one piece of work, and then the others
-  module _ (w : Work P J S L R A W E) (ws : List (Work P J S L R A W E)) (a b c : Open E L) where
-    first_of : (p : TaskPlace E L) → IsTaskOf (w ∷ []) p → IsTaskOf (w ∷ ws) p
-    first_of p (inl (inl e)) = inl (inl e)
-    first_of p (inl (inr z)) = absurd z
-    first_of p (inr (inl e)) = inr (inl e)
-    first_of p (inr (inr z)) = absurd z
+  -- some work, and then more
+  module _ (us ws : List (Work P J S L R A W E)) (a b c : Open E L) where
+    first_of : (p : TaskPlace E L) → IsTaskOf us p → IsTaskOf (us ++ ws) p
+    first_of p i = elim i [ inl j ↦ inl (among_first (Stretch p) us ws j) | inr j ↦ inr (among_first (ActOn p) us ws j) ]
 
-    later_of : (p : TaskPlace E L) → IsTaskOf ws p → IsTaskOf (w ∷ ws) p
-    later_of p (inl i) = inl (inr i)
-    later_of p (inr i) = inr (inr i)
+    later_of : (p : TaskPlace E L) → IsTaskOf ws p → IsTaskOf (us ++ ws) p
+    later_of p i = elim i [ inl j ↦ inl (among_last (Stretch p) us ws j) | inr j ↦ inr (among_last (ActOn p) us ws j) ]
 
-    either_of : (p : TaskPlace E L) → IsTaskOf (w ∷ ws) p → IsTaskOf (w ∷ []) p ⊎ IsTaskOf ws p
-    either_of p (inl (inl e)) = inl (inl (inl e))
-    either_of p (inl (inr i)) = inr (inl i)
-    either_of p (inr (inl e)) = inl (inr (inl e))
-    either_of p (inr (inr i)) = inr (inr i)
+    either_of : (p : TaskPlace E L) → IsTaskOf (us ++ ws) p → IsTaskOf us p ⊎ IsTaskOf ws p
+    either_of p (inl i) = elim (either_among (Stretch p) us ws i) [ inl j ↦ inl (inl j) | inr j ↦ inr (inl j) ]
+    either_of p (inr i) = elim (either_among (ActOn p) us ws i) [ inl j ↦ inl (inr j) | inr j ↦ inr (inr j) ]
 
-    pub adds_more : Adds (w ∷ []) a b → Adds ws b c → Adds (w ∷ ws) a c
+    pub adds_more : Adds us a b → Adds ws b c → Adds (us ++ ws) a c
     adds_more one others = record {
       from = λ t p e. elim (others.from t p e) [
         | inl was ↦ elim (one.from t p was) [ inl before ↦ inl before | inr z ↦ inr (z.0, first_of p z.1) ]
@@ -118,5 +111,5 @@ module _ {P J S L R A W E : Type 0} where
       hands = λ h none.
           let z = others.hands h none in
           let y = one.hands h z.0 in
-          (y.0, λ i. elim i [ inl e ↦ y.1 (inl e) | inr j ↦ z.1 j ]);
+          (y.0, λ i. elim (either_among (HandTo h) us ws i) [ inl j ↦ y.1 j | inr j ↦ z.1 j ]);
     }

@@ -1,11 +1,12 @@
 -- An agenda stays beside its board.
-use Rattle.std.proofs.Common.{◌≡◌, ◌⊎◌, inl, inr, ℕ, false, List, [], ◌∷◌, ◌++◌, Option, Some, None, Ordering, refl, sym, ap, ◌∙◌, subst}
+use Rattle.std.proofs.Common.{◌≡◌, ◌⊎◌, inl, inr, ℕ, false, List, [], ◌∷◌, ◌++◌, Option, Some, None, Ordering, refl, sym, ap, ◌∙◌, subst, IsSome, if◌then◌else◌}
 use Rattle.std.proofs.lemmas.List.{map_push}
+use Rattle.std.proofs.lemmas.Option.{none-some}
 use Rattle.lvish_calculus.specs.declared.label.Label.{Label}
 use Rattle.lvish_calculus.specs.declared.label.Label.TheVariants.{Act, Hand}
 use Rattle.lvish_calculus.specs.Machine.{Machine, IsLawful}
-use Rattle.lvish_calculus.specs.Calculus.{State, Running, Error, Change, Effect, Changes, Fails, Nothing, CanStep, IsEnabled, IsRun, after, changed, effect, start}
-use Rattle.lvish_names.specs.Names.{Name, Handler}
+use Rattle.lvish_calculus.specs.Calculus.{State, Running, Error, Change, Effect, Changes, Fails, Nothing, CanStep, IsEnabled, IsRun, after, changed, effect, start, Absent, Live}
+use Rattle.lvish_names.specs.Names.{Name, Handler, main, same_name}
 use Rattle.lvish_calculus.specs.Laws.{Reaches}
 use Rattle.lvish_calculus.specs.Handing.{IsAmong}
 use Rattle.lvish_calculus.proofs.Runs.{reached, nothing}
@@ -18,16 +19,21 @@ use Rattle.lvish_board.specs.declared.trace_entry.TraceEntry.{TraceEntry}
 use Rattle.lvish_board.specs.declared.work.Work.{Work}
 use Rattle.lvish_board.specs.declared.work.Work.TheVariants.{Stretch, Act as ActOn, Hand as HandTo}
 use Rattle.lvish_board.specs.Place.{TaskPlace}
-use Rattle.lvish_board.specs.Standing.{Standing, tasks_of, labels_of, IsCurrent, IsBoardSound}
+use Rattle.lvish_board.specs.Standing.{Standing, tasks_of, labels_of, IsCurrent, IsBoardSound, IsOpened}
 use Rattle.lvish_board.specs.Listed.{IsListed, Concerns, by_handing, HasNext, tickets, stretches, acts, handings}
 use Rattle.lvish_board.specs.Woken.{IsParkedBeside}
-use Rattle.lvish_run.specs.Agenda.{Open, Adds, IsTaskOf, IsBeside}
+use Rattle.lvish_run.specs.Agenda.{Open, Adds, IsTaskOf, IsBeside, IsEmpty}
 use Rattle.lvish_run.specs.Walk.{IsEntered}
 use Rattle.lvish_core.specs.laws.Lists.{either_among, among_first, among_last}
+use Rattle.lvish_board.proofs.Among.{among_map, of_map}
 use Rattle.lvish_board.proofs.Steps.{of_task, no_fault}
-use Rattle.lvish_run.proofs.Agendas.{place_in}
-use Rattle.lvish_run.proofs.Placed.{place, mapped_from, mapped_into, stays_at, came_by, ticket_at}
+use Rattle.lvish_run.proofs.Agendas.{place_in, task_of_one}
+use Rattle.lvish_run.proofs.Placed.{place, stays_at, came_by, ticket_at}
 use Rattle.lvish_run.proofs.Upcoming.{to_hand_before, has_next}
+use Rattle.std.proofs.lemmas.Bool.{cases_Bool, false≢true}
+use Rattle.lvish_calculus.proofs.Names.{same_name-true}
+use Rattle.lvish_core.specs.laws.Runs.{running_same, at_state}
+use Rattle.lvish_run.proofs.Firsts.{handler_there}
 
 -- the task and the handler of a label's work
 abbrev pub task_in : {E : Type 0} → Label E → Option (Name E)
@@ -57,9 +63,9 @@ module _ {P J S L R A W E : Type 0} (ws : List (Work P J S L R A W E)) (ts woken
 
   of_work : (w : Work P J S L R A W E) (p : TaskPlace E L) → place_in w ≡ Some p → IsAmong w ws → IsAmong p ts ⊎ IsAmong p woken
   of_work w p at i = elim (parts w i) [
-    | inl j ↦ let z = mapped_from {Y = Work P J S L R A W E} (λ q. Stretch q) w ts j in inl (subst (λ q. IsAmong q ts) (same z.0 (sym (ap place_in z.2) ∙ at)) z.1)
-    | inr (inl j) ↦ let z = mapped_from {Y = Work P J S L R A W E} (λ q. ActOn q) w woken j in inr (subst (λ q. IsAmong q woken) (same z.0 (sym (ap place_in z.2) ∙ at)) z.1)
-    | inr (inr j) ↦ let z = mapped_from {Y = Work P J S L R A W E} (λ h. HandTo h) w hs j in absurd (let no : None ≡ Some p = sym (ap place_in z.2) ∙ at in let n : ⊥ = cc in n)
+    | inl j ↦ let z = of_map {Y = Work P J S L R A W E} (λ q. Stretch q) w ts j in inl (subst (λ q. IsAmong q ts) (same z.0 (ap place_in z.2 ∙ at)) z.1)
+    | inr (inl j) ↦ let z = of_map {Y = Work P J S L R A W E} (λ q. ActOn q) w woken j in inr (subst (λ q. IsAmong q woken) (same z.0 (ap place_in z.2 ∙ at)) z.1)
+    | inr (inr j) ↦ let z = of_map {Y = Work P J S L R A W E} (λ h. HandTo h) w hs j in absurd (none-some p (ap place_in z.2 ∙ at))
   ]
     where
       same : (q : TaskPlace E L) → Some q ≡ Some p → q ≡ p
@@ -77,17 +83,17 @@ module _ {P J S L R A W E : Type 0} (ws : List (Work P J S L R A W E)) (ts woken
   ])
 
   ticket_listed : (p : TaskPlace E L) → IsAmong p ts → IsTaskOf ws p
-  ticket_listed p i = inl (listed (Stretch p) (inl (mapped_into {Y = Work P J S L R A W E} (λ q. Stretch q) p ts i)))
+  ticket_listed p i = inl (listed (Stretch p) (inl (among_map {Y = Work P J S L R A W E} (λ q. Stretch q) p ts i)))
 
   woken_listed : (p : TaskPlace E L) → IsAmong p woken → IsTaskOf ws p
-  woken_listed p i = inr (listed (ActOn p) (inr (inl (mapped_into {Y = Work P J S L R A W E} (λ q. ActOn q) p woken i))))
+  woken_listed p i = inr (listed (ActOn p) (inr (inl (among_map {Y = Work P J S L R A W E} (λ q. ActOn q) p woken i))))
 
   handler_listed : (h : Handler E) → IsAmong h hs → IsAmong (HandTo h) ws
-  handler_listed h i = listed (HandTo h) (inr (inr (mapped_into {Y = Work P J S L R A W E} (λ k. HandTo k) h hs i)))
+  handler_listed h i = listed (HandTo h) (inr (inr (among_map {Y = Work P J S L R A W E} (λ k. HandTo k) h hs i)))
 
 -- ---- one step of a board
 
-module _ {P S E R A L : Type 0} (M : Machine S E R A L) (program : P) (budget : ℕ) (s r : Standing P S E L) (l : Label E) (sound : IsBoardSound M program budget s) (then : IsBoardSound M program budget r) (over : s.over ≡ None) (entered : IsEntered s l r) where
+module _ {P S E R A L : Type 0} (M : Machine S E R A L) (program : P) (budget : ℕ) (s r : Standing P S E L) (l : Label E) (sound : IsBoardSound M program budget s) (later : IsBoardSound M program budget r) (over : s.over ≡ None) (entered : IsEntered s l r) where
   abbrev c : State S E L
   c = state M s.core
 
@@ -101,7 +107,7 @@ module _ {P S E R A L : Type 0} (M : Machine S E R A L) (program : P) (budget : 
   fine = no_fault M program budget s sound over
 
   on : IsRunTo M r.core (xs ++ l ∷ [])
-  on = subst (λ ls. IsRunTo M r.core ls) (ap labels_of entered ∙ map_push (λ (e : TraceEntry E). e.label) s.trace (record { worker = 0; label = l })) then.leads
+  on = subst (λ ls. IsRunTo M r.core ls) (ap labels_of entered ∙ map_push (λ (e : TraceEntry E). e.label) s.trace (record { worker = 0; label = l })) later.leads
 
   reach : Reaches M xs c
   reach = subst (λ f. IsRun M (Running (start M)) xs (at_fault c f)) fine sound.leads.reached
@@ -115,7 +121,7 @@ module _ {P S E R A L : Type 0} (M : Machine S E R A L) (program : P) (budget : 
 
   module _ (still : r.over ≡ None) (ok : IsLawful M) where
     still_fine : r.core.fault ≡ None
-    still_fine = no_fault M program budget r then still
+    still_fine = no_fault M program budget r later still
 
     one : IsRun M (Running c) (l ∷ []) (Running d)
     one = subst (λ f. IsRun M (Running c) (l ∷ []) (at_fault d f)) still_fine made
@@ -185,7 +191,7 @@ module _ {P S E R A L : Type 0} (M : Machine S E R A L) (program : P) (budget : 
             was_parked i =
                 let p = of_task t s.parked i in
                 let waits : CanTake M r.core (Act p.0.task) → ⊥ = λ can. gone.1 p.0 (woken_listed ws ts w.woken w.hands w.is p.0 ((w.woken_are p.0).1 (p.1, can))) p.2 in
-                not_parked (subst (λ u. IsAmong u (tasks_of r.parked)) p.2 (mapped_into (λ (x : TaskPlace E L). x.task) p.0 r.parked ((w.still p.0).1 (p.1, waits))))
+                not_parked (subst (λ u. IsAmong u (tasks_of r.parked)) p.2 (among_map (λ (x : TaskPlace E L). x.task) p.0 r.parked ((w.still p.0).1 (p.1, waits))))
 
         hands : (h : Handler E) → HasNext M r.core h → b.has h ≡ false → None ≡ Some h
         hands h z none = absurd (
@@ -215,10 +221,50 @@ module _ {P S E R A L : Type 0} (M : Machine S E R A L) (s r : Standing P S E L)
   }
     where
       beside : (t : Name E) → (IsAmong t (tasks_of r.parked) → ⊥) → p.task ≡ t → ⊥
-      beside t not_parked e = not_parked (subst (λ u. IsAmong u (tasks_of r.parked)) e (mapped_into (λ (x : TaskPlace E L). x.task) p r.parked ((parks.each p).1 (inl refl))))
+      beside t not_parked e = not_parked (subst (λ u. IsAmong u (tasks_of r.parked)) e (among_map (λ (x : TaskPlace E L). x.task) p r.parked ((parks.each p).1 (inl refl))))
 
       was_parked : (t : Name E) → (IsAmong t (tasks_of r.parked) → ⊥) → IsAmong t (tasks_of s.parked) → ⊥
       was_parked t not_parked i =
           let q = of_task t s.parked i in
           let other : q.0.task ≡ p.task → ⊥ = λ e. beside t not_parked (sym e ∙ q.2) in
-          not_parked (subst (λ u. IsAmong u (tasks_of r.parked)) q.2 (mapped_into (λ (x : TaskPlace E L). x.task) q.0 r.parked ((parks.each q.0).1 (inr (q.1, other)))))
+          not_parked (subst (λ u. IsAmong u (tasks_of r.parked)) q.2 (among_map (λ (x : TaskPlace E L). x.task) q.0 r.parked ((parks.each q.0).1 (inr (q.1, other)))))
+
+-- ---- before any step
+
+module _ {P' P J S L R A W E Ans : Type 0} (M : Machine S E R Ans L) (ok : IsLawful M) (program : P') (budget : ℕ) (s : Standing P' S E L) (sound : IsBoardSound M program budget s) (opened : IsOpened M program s) (comes : HandsWhatComes P' M)
+    (a b : Open E L) (empty : IsEmpty a) (w : Work P J S L R A W E) (is : w ≡ Stretch (record { task = main; from = M.start })) (adds : Adds (w ∷ []) a b) where
+  abbrev first : TaskPlace E L
+  first = record { task = main; from = M.start }
+
+  at_start : state M s.core ≡ start M
+  at_start = running_same (sym (at_state M s.core (no_fault M program budget s sound opened.over)) ∙ opened.core.at_start)
+
+  is_first : (p : TaskPlace E L) → IsTaskOf (w ∷ []) p → p ≡ first
+  is_first p i = let both : Some p ≡ Some first = sym (task_of_one w p i) ∙ ap place_in is in let same : p ≡ first = cc in same
+
+  main_listed : IsTaskOf (w ∷ []) first
+  main_listed = inl (inl (sym is))
+
+  first_current : IsCurrent M s.core first
+  first_current = subst (λ (c : State S E L). local_of (c.tasks main) ≡ Some M.start) (sym at_start) refl
+
+  opened_current : (t : Name E) (p : TaskPlace E L) → b.at t ≡ Some p → (p.task ≡ t) × IsCurrent M s.core p × (None ≡ Some t → ⊥)
+  opened_current t p e = elim (adds.from t p e) [
+    | inl was ↦ absurd (none-some p (sym (empty.at t) ∙ was))
+    | inr z ↦ (z.0, subst (λ q. IsCurrent M s.core q) (sym (is_first p z.1)) first_current, none-some t)
+  ]
+
+  only_main : (t : Name E) (l : L) → local_of ((start M).tasks t) ≡ Some l → t ≡ main
+  only_main t l e = elim (cases_Bool (same_name M.event_same t main)) [
+    | inl same ↦ same_name-true M.event_same ok.event_same_is t main same
+    | inr other ↦ absurd (none-some l (sym (ap (λ q. local_of (if q then Live M.start 0 0 0 else Absent)) other) ∙ e))
+  ]
+
+  opened_tasks : (t : Name E) (l : L) → local_of ((state M s.core).tasks t) ≡ Some l → b.at t ≡ None → (IsAmong t (tasks_of s.parked) → ⊥) → None ≡ Some t
+  opened_tasks t l e none not_parked = absurd ((adds.kept t none).1 first main_listed (sym (only_main t l (subst (λ (c : State S E L). local_of (c.tasks t) ≡ Some l) at_start e))))
+
+  opened_hands : (h : Handler E) → HasNext M s.core h → b.has h ≡ false → None ≡ Some h
+  opened_hands h z none = absurd (false≢true (subst (λ (c : State S E L). IsSome (c.handlers h)) at_start (handler_there M program budget s sound opened.over comes h z)))
+
+  pub opened_beside : IsBeside M s None None b
+  opened_beside = record { current = opened_current; tasks = opened_tasks; hands = opened_hands }

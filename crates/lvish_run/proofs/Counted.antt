@@ -1,37 +1,31 @@
 -- Counting each worker's entries of a trace, worker by worker.
-use Rattle.std.proofs.Common.{◌≡◌, ◌⊎◌, inl, inr, ◌+◌, ◌<◌, ◌≤◌, ◌==◌, ℕ, zero, suc, List, [], ◌∷◌, ◌++◌, length, length-append, sum, Some, slice_get, refl, sym, ap, subst, ◌∙◌, arith}
-use Rattle.std.specs.List.{count_by}
+use Rattle.std.proofs.Common.{◌≡◌, ◌+◌, ◌==◌, ℕ, List, [], ◌∷◌, ◌++◌, map, length, sum, count_by, Some, slice_get, sym, ap, ap₂, ◌∙◌, arith}
+use Rattle.std.specs.List.{range_with_len}
+use Rattle.std.proofs.lemmas.List.FromFn.{length-map-range_with_len, get_or-map-range_with_len, map-range_with_len_more}
 use Rattle.std.proofs.lemmas.List.Sums.{sum_by-append}
+use Rattle.std.proofs.lemmas.Option.{slice_get-get_or}
 use Rattle.lvish_board.specs.declared.trace_entry.TraceEntry.{TraceEntry}
 use Rattle.lvish_run.specs.Honest.{IsCountByWorker}
 
--- of a list and one more, an element before the last, or the last
-at_pushed : (xs : List ℕ) (n w : ℕ) → w < length xs + 1 → ((w < length xs) × (slice_get (xs ++ n ∷ []) w ≡ slice_get xs w)) ⊎ ((w ≡ length xs) × (slice_get (xs ++ n ∷ []) w ≡ Some n))
-at_pushed [] n zero small = inr (refl, refl)
-at_pushed [] n (suc w) small = absurd (omega arith)
-at_pushed (x ∷ xs) n zero small = inl (omega arith, refl)
-at_pushed (x ∷ xs) n (suc w) small = elim (at_pushed xs n w (omega arith)) [ inl z ↦ inl (omega (arith, z.0), z.1) | inr z ↦ inr (ap suc z.0, z.1) ]
-
 module _ {E : Type 0} (trace : List (TraceEntry E)) where
-  abbrev pub Each : ℕ → List ℕ → Type 0
-  Each k xs = (w : ℕ) → w < k → slice_get xs w ≡ Some (count_by (λ e. e.worker == w) trace)
+  -- the numbers of the first k workers' entries
+  abbrev pub counts_of : ℕ → List ℕ
+  counts_of k = map (λ w. count_by (λ e. e.worker == w) trace) (range_with_len 0 k)
 
   -- the next worker's number is added
-  pub one_more : (xs ys : List ℕ) (n k total more : ℕ) → length xs ≡ k → Each k xs → sum xs ≡ total → n ≡ count_by (λ e. e.worker == k) trace → ys ≡ xs ++ n ∷ [] → more ≡ total + n
-      → (length ys ≡ k + 1) × Each (k + 1) ys × (sum ys ≡ more)
-  one_more xs ys n k total more long each adds counted grown is = (
-    ap length grown ∙ length-append xs (n ∷ []) ∙ ap (λ j. j + 1) long,
-    λ w small. ap (λ l. slice_get l w) grown ∙ elim (at_pushed xs n w (omega (arith, long, small))) [
-      | inl z ↦ z.1 ∙ each w (omega (arith, long, z.0))
-      | inr z ↦ z.1 ∙ ap (λ (j : ℕ). Some j) counted ∙ ap (λ j. Some (count_by (λ (e : TraceEntry E). e.worker == j) trace)) (sym (z.0 ∙ long))
-    ],
-    ap sum grown ∙ sum_by-append (λ x. x) xs (n ∷ []) ∙ omega (arith, adds, is),
+  pub one_more : (xs ys : List ℕ) (n k : ℕ) → xs ≡ counts_of k → n ≡ count_by (λ e. e.worker == k) trace → ys ≡ xs ++ n ∷ [] → (ys ≡ counts_of (k + 1)) × (sum ys ≡ sum xs + n)
+  one_more xs ys n k are is grown = (
+    grown ∙ ap₂ (λ l j. l ++ j ∷ []) are is ∙ sym (map-range_with_len_more (λ w. count_by (λ (e : TraceEntry E). e.worker == w) trace) 0 k k (omega arith)),
+    ap sum grown ∙ sum_by-append (λ x. x) xs (n ∷ []) ∙ omega arith,
   )
 
   -- all workers' numbers
-  pub all_told : (xs counts : List ℕ) (k workers total : ℕ) → counts ≡ xs → length xs ≡ k → Each k xs → sum xs ≡ total → total ≡ length trace → workers ≤ k → k ≤ workers → IsCountByWorker workers trace counts
-  all_told xs counts k workers total same long each adds all few enough = subst (λ l. IsCountByWorker workers trace l) (sym same) (record {
-    count = omega (arith, long);
-    each = λ w small. each w (omega (arith, small));
-    adds_up = adds ∙ all;
-  })
+  pub all_told : (counts : List ℕ) (workers : ℕ) → counts ≡ counts_of workers → sum counts ≡ length trace → IsCountByWorker workers trace counts
+  all_told counts workers are adds_up = record {
+    count = ap length are ∙ length-map-range_with_len f 0 workers;
+    each = λ w small. ap (λ l. slice_get l w) are ∙ slice_get-get_or (counts_of workers) w 0 (omega (arith, small, length-map-range_with_len f 0 workers)) ∙ ap (λ (n : ℕ). Some n) (get_or-map-range_with_len f 0 workers w w 0 small (omega arith));
+    adds_up = adds_up;
+  }
+    where
+      f : ℕ → ℕ
+      f w = count_by (λ (e : TraceEntry E). e.worker == w) trace

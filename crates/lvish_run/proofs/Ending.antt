@@ -1,8 +1,8 @@
 -- What one run without picks shows of all runs.
-use Rattle.std.proofs.Common.{◌≡◌, ◌<◌, ◌≤◌, ◌↔◌, ◌⊎◌, inl, inr, ℕ, Bool, true, false, List, [], ◌∷◌, ◌++◌, length, Option, Some, None, refl, sym, ap, ◌∙◌, subst, arith}
+use Rattle.std.proofs.Common.{◌≡◌, ◌<◌, ◌≤◌, ◌↔◌, ◌⊎◌, inl, inr, ℕ, Bool, true, false, List, [], ◌∷◌, ◌++◌, length, Option, Some, None, refl, sym, ap, ◌∙◌, subst, arith, Ordering}
 use Rattle.std.proofs.lemmas.List.{length-map, append-nil}
 use Rattle.std.proofs.lemmas.Bool.{cases_lt, false≢true}
-use Rattle.std.specs.declared.cmp.Ordering.{Ordering}
+use Rattle.std.proofs.lemmas.Option.{none-some}
 use Rattle.std.specs.Cmp.{IsTotalOrder}
 use Rattle.lvish_calculus.specs.declared.label.Label.{Label}
 use Rattle.lvish_calculus.specs.declared.request.ErrorKind.{ErrorKind}
@@ -133,11 +133,8 @@ module _ {S E R A L K : Type 0} (same : S → S → Bool) (event_same : E → E 
 -- ---- what is answered about a script
 
 module _ (script : Script) (budget : ℕ) where
-  none_is_some : {X : Type 0} (n : ℕ) → None ≡ Some n → X
-  none_is_some n e = let no : ⊥ = cc in absurd no
-
   unbound : ((n : ℕ) → has_freeze script ≡ false → EndsAfter event_order.cmp (script_machine script) n → n ≤ budget → ⊥) → IsBound script budget None
-  unbound never = record { exact = λ n. (λ e. none_is_some n e, λ k. absurd (never n k.0 k.1 k.2)); always = λ n e. none_is_some n e }
+  unbound never = record { exact = λ n. (λ e. absurd (none-some n e), λ k. absurd (never n k.0 k.1 k.2)); always = λ n e. absurd (none-some n e) }
 
   -- a script with the line `freeze`
   pub with_freeze : has_freeze script ≡ true → IsBound script budget None

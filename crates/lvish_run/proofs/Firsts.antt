@@ -1,7 +1,7 @@
 -- What leaves an agenda first can be done first.
-use Rattle.std.proofs.Common.{◌≡◌, ◌⊎◌, ◌↔◌, inl, inr, ℕ, false, Option, Some, None, is_some, IsSome, Ordering, refl, sym, ap, ◌∙◌, subst}
+use Rattle.std.proofs.Common.{◌≡◌, ◌⊎◌, ◌↔◌, inl, inr, ℕ, false, Option, Some, None, is_some, IsSome, Ordering, refl, sym, ap, ◌∙◌, subst, Less, Equal, Greater}
 use Rattle.std.proofs.lemmas.Bool.{cases_Bool, both_ways}
-use Rattle.std.specs.declared.cmp.Ordering.TheVariants.{Less, Equal, Greater}
+use Rattle.std.proofs.lemmas.Option.{none-some}
 use Rattle.std.specs.Ordering.{is_gt, ordering_then}
 use Rattle.lvish_names.specs.NameOrder.{name_cmp, handler_cmp}
 use Rattle.lvish_calculus.specs.declared.label.Label.{Label}
@@ -10,41 +10,35 @@ use Rattle.lvish_calculus.specs.Machine.{Machine}
 use Rattle.lvish_calculus.specs.Calculus.{Task, Absent, Live, Ended, CanStep, IsReadyTask, IsToHand}
 use Rattle.lvish_names.specs.Names.{Name, Handler}
 use Rattle.lvish_calculus.specs.Handing.{IsAmong}
-use Rattle.lvish_core.specs.declared.fault.RunError.{RunError}
-use Rattle.lvish_core.specs.Core.{CoreView, CanTake, IsNext, state, at_fault}
+use Rattle.lvish_core.specs.Core.{CoreView, CanTake, state, at_fault}
 use Rattle.lvish_core.specs.CoreLaws.{HandsWhatComes}
 use Rattle.lvish_core.specs.Labels.{label_cmp}
+use Rattle.lvish_core.specs.laws.Runs.{no_error_before}
 use Rattle.lvish_core.specs.Changes.{local_of}
 use Rattle.lvish_board.specs.Place.{TaskPlace}
-use Rattle.lvish_board.specs.Standing.{Standing, tasks_of, labels_of, IsBlocked, IsBoardSound}
+use Rattle.lvish_board.specs.Standing.{Standing, tasks_of, IsBlocked, IsBoardSound}
 use Rattle.lvish_board.specs.Listed.{HasNext}
 use Rattle.lvish_run.specs.Agenda.{Open, SetsOpenTask, HasHandler, IsTaskGone, IsHandlerGone, IsBeside}
 use Rattle.lvish_run.specs.Walk.{IsFirstEnabled, IsStuck}
+use Rattle.lvish_board.proofs.Handing.{hand_open}
 use Rattle.lvish_board.proofs.Steps.{of_task, no_fault}
 use Rattle.lvish_run.proofs.Agendas.{written}
-
-pub none_is_some : {X Y : Type 0} (x : X) → None ≡ Some x → Y
-none_is_some x e = absurd (let z : ⊥ = cc in z)
 
 -- ---- who can go on
 
 -- a task that can go on has a local state
 live_at : {P S E R A L : Type 0} (M : Machine S E R A L) (c : CoreView P S E L) (t : Name E) → CanTake M c (Act t) → (l : L) × (local_of ((state M c).tasks t) ≡ Some l)
-live_at {S = S} {E = E} {L = L} M c t can = by c.fault refl
+live_at {S = S} {E = E} {L = L} M c t can = by ((state M c).tasks t) refl (subst (λ f. CanStep M (at_fault (state M c) f) (Act t)) (no_error_before M (state M c) c.fault (Act t) can.0) can.0)
   where
-    ready : (k : Task L) → (state M c).tasks t ≡ k → IsReadyTask M (state M c) k → (l : L) × (local_of ((state M c).tasks t) ≡ Some l)
-    ready Absent e z = absurd z
-    ready (Live l f a p) e z = (l, ap local_of e)
-    ready Ended e z = absurd z
-
-    by : (f : Option (RunError E)) → c.fault ≡ f → (l : L) × (local_of ((state M c).tasks t) ≡ Some l)
-    by None e = ready ((state M c).tasks t) refl (subst (λ g. CanStep M (at_fault (state M c) g) (Act t)) e can.0)
-    by (Some f) e = absurd (subst (λ g. CanStep M (at_fault (state M c) g) (Act t)) e can.0)
+    by : (k : Task L) → (state M c).tasks t ≡ k → IsReadyTask M (state M c) k → (l : L) × (local_of ((state M c).tasks t) ≡ Some l)
+    by (Live l f a p) e z = (l, ap local_of e)
+    by Absent e z = absurd z
+    by Ended e z = absurd z
 
 module _ {P S E R A L : Type 0} (M : Machine S E R A L) (s : Standing P S E L) (a : Open E L) (blocked : (p : TaskPlace E L) → IsAmong p s.parked → IsBlocked M s.core p) (beside : IsBeside M s None None a) where
   -- a task that can go on is open
   pub open_task : (t : Name E) → CanTake M s.core (Act t) → a.at t ≡ None → ⊥
-  open_task t can none = none_is_some t (beside.tasks t l.0 l.1 none not_parked)
+  open_task t can none = none-some t (beside.tasks t l.0 l.1 none not_parked)
     where
       l : (l : L) × (local_of ((state M s.core).tasks t) ≡ Some l)
       l = live_at M s.core t can
@@ -53,7 +47,7 @@ module _ {P S E R A L : Type 0} (M : Machine S E R A L) (s : Standing P S E L) (
       not_parked i = let p = of_task t s.parked i in (blocked p.0 p.1).blocked (subst (λ u. CanTake M s.core (Act u)) (sym p.2) can)
 
   open_handler : (h : Handler E) (e : E) → CanTake M s.core (Hand h e) → a.has h ≡ false → ⊥
-  open_handler h e can none = none_is_some h (beside.hands h (e, can.1) none)
+  open_handler h e can none = none-some h (beside.hands h (e, can.1) none)
 
   -- where nothing is open, nothing can be done
   pub nothing_open : ((t : Name E) → a.at t ≡ None) → ((h : Handler E) → a.has h ≡ false) → IsStuck M s.core
@@ -113,14 +107,10 @@ module _ {P S E R A L : Type 0} (M : Machine S E R A L) (program : P) (budget : 
   fine : s.core.fault ≡ None
   fine = no_fault M program budget s sound over
 
-  -- what comes next can be handed
-  pub can_hand : (h : Handler E) (e : E) → IsNext M.event_same s.core.table h e → CanTake M s.core (Hand h e)
-  can_hand h e next = comes s.core (labels_of s.trace) sound.leads fine h e next
-
   -- a handler for which something comes next is there
   pub handler_there : (h : Handler E) → HasNext M s.core h → IsSome ((state M s.core).handlers h)
   handler_there h z =
-      let en : IsToHand M (state M s.core) h z.0 = subst (λ f. CanStep M (at_fault (state M s.core) f) (Hand h z.0)) fine (can_hand h z.0 z.1).0 in
+      let en : IsToHand M (state M s.core) h z.0 = subst (λ f. CanStep M (at_fault (state M s.core) f) (Hand h z.0)) fine (hand_open M comes program budget s sound over h z.0 z.1).0 in
       ap is_some en.on.is
 
 -- ---- the task or the handler that left the agenda has its turn
@@ -129,14 +119,14 @@ module _ {P S E R A L : Type 0} (M : Machine S E R A L) (s : Standing P S E L) (
   pub without_task : ((t u : Name E) → (name_cmp cmp t u ≡ Equal) ↔ (t ≡ u)) → (k : Name E) (p : TaskPlace E L) → a.at k ≡ Some p → SetsOpenTask cmp a k None b → IsBeside M s (Some p.task) None b
   without_task exact k p was without = record {
     current = λ t q e. elim (at t) [
-      | inl z ↦ none_is_some q (sym z.1 ∙ e)
+      | inl z ↦ absurd (none-some q (sym z.1 ∙ e))
       | inr z ↦
           let y = beside.current t q (sym z.1 ∙ e) in
           (y.0, y.1, λ own. z.0 (sym key ∙ (let same : p.task ≡ t = cc in same)))
     ];
     tasks = λ t l live none not_parked. elim (at t) [
       | inl z ↦ ap (λ u. Some u) (key ∙ z.0)
-      | inr z ↦ none_is_some t (beside.tasks t l live (sym z.1 ∙ none) not_parked)
+      | inr z ↦ absurd (none-some t (beside.tasks t l live (sym z.1 ∙ none) not_parked))
     ];
     hands = λ h z none. beside.hands h z (ap (λ f. f h) (sym without.has) ∙ none);
   }
@@ -149,11 +139,11 @@ module _ {P S E R A L : Type 0} (M : Machine S E R A L) (s : Standing P S E L) (
 
   pub without_handler : ((h k : Handler E) → (handler_cmp cmp h k ≡ Equal) ↔ (h ≡ k)) → (h : Handler E) → HasHandler cmp a h false b → IsBeside M s None (Some h) b
   without_handler exact h without = record {
-    current = λ t p e. let z = beside.current t p (ap (λ f. f t) (sym without.at) ∙ e) in (z.0, z.1, λ n. none_is_some t n);
+    current = λ t p e. let z = beside.current t p (ap (λ f. f t) (sym without.at) ∙ e) in (z.0, z.1, none-some t);
     tasks = λ t l live none not_parked. beside.tasks t l live (ap (λ f. f t) (sym without.at) ∙ none) not_parked;
     hands = λ k z none. elim (written (handler_cmp cmp) exact a.has b.has h false without.has k) [
       | inl y ↦ ap (λ g. Some g) y.0
-      | inr y ↦ none_is_some k (beside.hands k z (sym y.1 ∙ none))
+      | inr y ↦ absurd (none-some k (beside.hands k z (sym y.1 ∙ none)))
     ];
   }
 
@@ -170,4 +160,4 @@ module _ {P S E R A L : Type 0} (M : Machine S E R A L) (s : Standing P S E L) (
 
   -- an open handler may have its turn as well
   pub still_open : IsBeside M s None None a → IsBeside M s None (Some h) a
-  still_open beside = record { current = beside.current; tasks = beside.tasks; hands = λ k z none. none_is_some k (beside.hands k z none) }
+  still_open beside = record { current = beside.current; tasks = beside.tasks; hands = λ k z none. absurd (none-some k (beside.hands k z none)) }

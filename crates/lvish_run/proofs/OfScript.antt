@@ -1,6 +1,5 @@
 -- A report of one machine's run is one of a machine that has the same runs.
-use Rattle.std.proofs.Common.{◌≡◌, ◌↔◌, ℕ, Bool, List, [], ◌∷◌, ◌++◌, length, slice_get, Option, Some, None, sym, ◌∙◌, ap, subst}
-use Rattle.std.specs.declared.cmp.Ordering.{Ordering}
+use Rattle.std.proofs.Common.{◌≡◌, ◌↔◌, ℕ, Bool, List, [], ◌∷◌, ◌++◌, length, slice_get, Option, Some, None, sym, ◌∙◌, ap, subst, Ordering}
 use Rattle.lvish_calculus.specs.declared.label.Label.{Label}
 use Rattle.lvish_calculus.specs.declared.request.ErrorKind.{ErrorKind}
 use Rattle.lvish_calculus.specs.Machine.{Machine}
@@ -10,7 +9,7 @@ use Rattle.lvish_names.specs.Names.{Name}
 use Rattle.lvish_calculus.specs.Laws.{Reaches, IsCrossed, FreezesAllBy, NeverErrs}
 use Rattle.lvish_calculus.specs.Handing.{IsHandedWell}
 use Rattle.lvish_calculus.specs.SameRuns.{SameState, SameConfiguration, HaveSameRuns}
-use Rattle.lvish_calculus.proofs.SameThere.{Base, over, Both, both_start, both_step, flip_state, flip_runs, reached, never_there, end_there, can_there, enabled_there, live_count, all_by_there, crossed_there, core_there, handed_there}
+use Rattle.lvish_calculus.proofs.SameThere.{Base, over, Both, both_start, both_step, flip_state, flip_configuration, flip_runs, reached, never_there, end_there, can_there, enabled_there, live_count, all_by_there, crossed_there, core_there, handed_there}
 use Rattle.lvish_run.specs.declared.report.FinalState.{FinalState}
 use Rattle.lvish_run.specs.declared.report.Report.{Report}
 use Rattle.lvish_board.specs.declared.outcome.Outcome.{Outcome}
@@ -71,17 +70,11 @@ module _ {S E R A L K : Type 0} (B : Base S E R A) (f : Functions S E R A L) (g 
     by_worker = h.by_worker;
   }
 
-  flip_configuration : (C : Configuration S E L) (D : Configuration S E K) → SameConfiguration (over B f) (over B g) C D → SameConfiguration (over B g) (over B f) D C
-  flip_configuration (Running c) (Running d) s = flip_state (over B f) (over B g) c d s
-  flip_configuration (Running c) (Error k v t) s = absurd s
-  flip_configuration (Error k v t) (Running d) s = absurd s
-  flip_configuration (Error k v t) (Error j u r) s = (sym s.0, sym s.1, sym s.2)
-
   -- the same labels come next
   comes_next : (xs : List (Label E)) (C : Configuration S E L) (D : Configuration S E K) → SameConfiguration (over B f) (over B g) C D → (l : Label E) → ComesNext (over B f) xs C l ↔ ComesNext (over B g) xs D l
   comes_next xs C D s l = (
     λ z. (can_there B f g H.pools C D s l z.0, core_there B f g H (xs ++ l ∷ []) z.1),
-    λ z. (can_there B g f (back B f g H).pools D C (flip_configuration C D s) l z.0, core_there B g f (back B f g H) (xs ++ l ∷ []) z.1),
+    λ z. (can_there B g f (back B f g H).pools D C (flip_configuration (over B f) (over B g) C D s) l z.0, core_there B g f (back B f g H) (xs ++ l ∷ []) z.1),
   )
 
   -- so the picks name the same

@@ -1,10 +1,8 @@
 -- The run that picks name is one run.
-use Rattle.std.proofs.Common.{◌≡◌, ◌≤◌, ◌%◌, ◌↔◌, ◌⊎◌, inl, inr, ℕ, List, [], ◌∷◌, ◌++◌, length, Option, Some, None, refl, sym, ap, ◌∙◌, subst, arith}
+use Rattle.std.proofs.Common.{◌≡◌, ◌≤◌, ◌%◌, ◌↔◌, ◌⊎◌, inl, inr, ℕ, List, [], ◌∷◌, ◌++◌, length, Option, Some, None, refl, sym, ap, ◌∙◌, subst, arith, Ordering, Less}
 use Rattle.std.proofs.lemmas.Bool.{false≢true}
 use Rattle.std.specs.List.{AllByRecursion, slice_get}
 use Rattle.std.specs.List.Sorted.{IsStrictlySortedBy}
-use Rattle.std.specs.declared.cmp.Ordering.{Ordering}
-use Rattle.std.specs.declared.cmp.Ordering.TheVariants.{Less}
 use Rattle.std.specs.Ordering.{ordering_reverse, is_lt}
 use Rattle.std.specs.Cmp.{IsTotalOrder, on_total, then_total}
 use Rattle.lvish_names.specs.laws.OrderLaws.{name_total, handler_total}
@@ -15,27 +13,22 @@ use Rattle.lvish_calculus.specs.Calculus.{Configuration, Running, Error, IsRun, 
 use Rattle.lvish_names.specs.Names.{Handler}
 use Rattle.lvish_calculus.specs.Handing.{IsAmong}
 use Rattle.lvish_core.specs.Labels.{label_cmp}
+use Rattle.lvish_board.proofs.Among.{all_among}
 use Rattle.lvish_run.specs.Picked.{IsChoice, IsFirst, IsNamed, IsPicked}
 
 -- ---- ascending lists
 
 module _ {K : Type 0} (c : K → K → Ordering) (apart : (x y : K) → c x y ≡ Less → c y x ≡ Less → ⊥) where
-  -- an element of a list that x is below
-  above : (x y : K) (ys : List K) → AllByRecursion (λ z. c x z ≡ Less) ys → IsAmong y ys → c x y ≡ Less
-  above x y [] a i = absurd i
-  above x y (z ∷ zs) a (inl e) = subst (λ w. c x w ≡ Less) (sym e) a.0
-  above x y (z ∷ zs) a (inr j) = above x y zs a.1 j
-
   -- the first of two ascending lists with the same elements
   heads : (x y : K) (xs ys : List K) → AllByRecursion (λ z. c x z ≡ Less) xs → AllByRecursion (λ z. c y z ≡ Less) ys → IsAmong x (y ∷ ys) → IsAmong y (x ∷ xs) → x ≡ y
   heads x y xs ys s t (inl e) j = e
   heads x y xs ys s t (inr i) (inl e) = sym e
-  heads x y xs ys s t (inr i) (inr j) = absurd (apart x y (above x y xs s j) (above y x ys t i))
+  heads x y xs ys s t (inr i) (inr j) = absurd (apart x y (all_among (λ z. c x z ≡ Less) xs s y j) (all_among (λ z. c y z ≡ Less) ys t x i))
 
   -- the other elements of two such lists
   others : (x y z : K) (xs ys : List K) → x ≡ y → AllByRecursion (λ w. c x w ≡ Less) xs → IsAmong z xs → IsAmong z (y ∷ ys) → IsAmong z ys
   others x y z xs ys e s i (inl h) =
-      let own : c x x ≡ Less = subst (λ w. c x w ≡ Less) (h ∙ sym e) (above x z xs s i) in
+      let own : c x x ≡ Less = subst (λ w. c x w ≡ Less) (h ∙ sym e) (all_among (λ w. c x w ≡ Less) xs s z i) in
       absurd (apart x x own own)
   others x y z xs ys e s i (inr j) = j
 

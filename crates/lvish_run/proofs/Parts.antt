@@ -1,86 +1,52 @@
--- A worker's own list beside a trace, entry by entry.
-use Rattle.std.proofs.Common.{◌≡◌, ◌≤◌, ◌+◌, ◌==◌, ℕ, zero, suc, true, false, cond, List, [], ◌∷◌, ◌++◌, length, map, take, drop, take-append-drop, slice_get, Some, refl, sym, ap, subst, ◌∙◌, arith}
-use Rattle.std.specs.List.{filter}
-use Rattle.std.proofs.Math.Seq.{take-length}
-use Rattle.std.proofs.lemmas.List.{length-take-le, map-append}
-use Rattle.std.proofs.lemmas.List.Elements.{filter-append}
+-- What a worker's own list and a trace have left, entry by entry.
+use Rattle.std.proofs.Common.{◌≡◌, ◌≤◌, ◌↔◌, ◌+◌, ◌==◌, ℕ, zero, suc, true, false, List, [], ◌∷◌, length, length-drop, drop, slice_get, Some, sym, ap, ◌∙◌, arith}
+use Rattle.std.proofs.Math.Seq.{drop-length}
+use Rattle.std.proofs.lemmas.List.{drop_more}
+use Rattle.std.proofs.lemmas.Option.{slice_get_within, get_or_from_slice_get}
 use Rattle.lvish_compound.specs.declared.event.Event.{Event}
 use Rattle.lvish_board.specs.declared.trace_entry.TraceEntry.{TraceEntry}
 use Rattle.lvish_run.specs.declared.own_steps.Step.{Step}
 use Rattle.lvish_run.specs.Crew.{step_of, steps_of}
 
--- what comes at this place ends what is taken with it, and begins what is left without
-more : {X : Type 0} (k : ℕ) (xs : List X) (x : X) → slice_get xs k ≡ Some x → (take (suc k) xs ≡ take k xs ++ x ∷ []) × (drop k xs ≡ x ∷ drop (suc k) xs)
-more zero [] x at = absurd (let n : ⊥ = cc in n)
-more zero (y ∷ ys) x at = let same : y ≡ x = cc in (ap (λ z. z ∷ []) same, ap (λ z. z ∷ ys) same)
-more (suc k) [] x at = absurd (let n : ⊥ = cc in n)
-more (suc k) (y ∷ ys) x at = let m = more k ys x at in (ap (λ l. y ∷ l) m.0, m.1)
+-- what is left from an element on
+left_from : {X : Type 0} (k : ℕ) (xs : List X) (x : X) → slice_get xs k ≡ Some x → drop k xs ≡ x ∷ drop (k + 1) xs
+left_from k xs x at = drop_more xs k x (slice_get_within xs k x at) ∙ ap (λ y. y ∷ drop (k + 1) xs) (get_or_from_slice_get xs k x x at)
 
--- the first of what follows a list
-seam : {X : Type 0} (xs : List X) (y : X) (ys : List X) → slice_get (xs ++ y ∷ ys) (length xs) ≡ Some y
-seam [] y ys = refl
-seam (x ∷ xs) y ys = seam xs y ys
+-- the first of what is left
+first_left : {X : Type 0} (k : ℕ) (xs : List X) (x : X) (ys : List X) → drop k xs ≡ x ∷ ys → slice_get xs k ≡ Some x
+first_left zero [] x ys e = absurd (let n : ⊥ = cc in n)
+first_left (suc k) [] x ys e = absurd (let n : ⊥ = cc in n)
+first_left zero (z ∷ zs) x ys e = let same : z ≡ x = cc in ap (λ y. Some y) same
+first_left (suc k) (z ∷ zs) x ys e = first_left k zs x ys e
 
-module _ (w : ℕ) where
-  steps_of-append : (xs ys : List (TraceEntry Event)) → steps_of w (xs ++ ys) ≡ steps_of w xs ++ steps_of w ys
-  steps_of-append xs ys = ap (map (λ (e : TraceEntry Event). step_of e.label)) (filter-append (λ e. e.worker == w) xs ys)
-      ∙ map-append (λ (e : TraceEntry Event). step_of e.label) (filter (λ e. e.worker == w) xs) (filter (λ e. e.worker == w) ys)
+module _ (w : ℕ) (steps : List Step) (trace : List (TraceEntry Event)) where
+  -- the list is the worker's part of the trace just if what is left of both is
+  abbrev pub IsLeft : ℕ → ℕ → Type 0
+  IsLeft made k = (steps ≡ steps_of w trace) ↔ (drop made steps ≡ steps_of w (drop k trace))
 
-  steps_of-own : (e : TraceEntry Event) (xs : List (TraceEntry Event)) → (e.worker == w) ≡ true → steps_of w (e ∷ xs) ≡ step_of e.label ∷ steps_of w xs
-  steps_of-own e xs is = ap (λ b. map (λ (e : TraceEntry Event). step_of e.label) (cond b (e ∷ filter (λ e. e.worker == w) xs) (filter (λ e. e.worker == w) xs))) is
+  -- at the end of the trace
+  pub none_left : (made : ℕ) → made ≤ length steps → IsLeft made (length trace) → (made ≡ length steps) ↔ (steps ≡ steps_of w trace)
+  none_left made few left = let both = rw (drop-length trace) at left in (
+    λ e. both.1 (ap (λ n. drop n steps) e ∙ drop-length steps),
+    λ p. omega (arith, few, sym (length-drop made steps) ∙ ap length (both.0 p)),
+  )
 
-  steps_of-another : (e : TraceEntry Event) (xs : List (TraceEntry Event)) → (e.worker == w) ≡ false → steps_of w (e ∷ xs) ≡ steps_of w xs
-  steps_of-another e xs is = ap (λ b. map (λ (e : TraceEntry Event). step_of e.label) (cond b (e ∷ filter (λ e. e.worker == w) xs) (filter (λ e. e.worker == w) xs))) is
+  module _ (made k : ℕ) (e : TraceEntry Event) (at : slice_get trace k ≡ Some e) (left : IsLeft made k) where
+    pub another : (e.worker == w) ≡ false → IsLeft made (k + 1)
+    another not_its =
+        let skip : steps_of w (drop k trace) ≡ steps_of w (drop (k + 1) trace) = rw (left_from k trace e at, not_its) in
+        (λ p. left.0 p ∙ skip, λ q. left.1 (q ∙ sym skip))
 
-  module _ (steps : List Step) (trace : List (TraceEntry Event)) where
-    -- the first steps are those in the first entries
-    abbrev pub Same : ℕ → ℕ → Type 0
-    Same made k = take made steps ≡ steps_of w (take k trace)
+    own_next : (e.worker == w) ≡ true → steps_of w (drop k trace) ≡ step_of e.label ∷ steps_of w (drop (k + 1) trace)
+    own_next its = rw (left_from k trace e at, its)
 
-    -- as a loop counts
-    pub counted : (made n k : ℕ) → n ≡ suc made → Same (suc made) (suc k) → Same n (k + 1)
-    counted made n k is same = subst (λ j. Same n j) (one k) (subst (λ m. Same m (suc k)) (sym is) same)
-      where
-        one : (n : ℕ) → suc n ≡ n + 1
-        one n = omega arith
+    pub own : (e.worker == w) ≡ true → slice_get steps made ≡ Some (step_of e.label) → IsLeft (made + 1) (k + 1)
+    own its there =
+        let front = left_from made steps (step_of e.label) there in (
+          λ p. let both = sym front ∙ left.0 p ∙ own_next its in cc,
+          λ q. left.1 (front ∙ ap (λ l. step_of e.label ∷ l) q ∙ sym (own_next its)),
+        )
 
-    pub passed : (made n k : ℕ) → n ≡ made → Same made (suc k) → Same n (k + 1)
-    passed made n k is same = subst (λ j. Same n j) (one k) (subst (λ m. Same m (suc k)) (sym is) same)
-      where
-        one : (n : ℕ) → suc n ≡ n + 1
-        one n = omega arith
-
-    pub another : (made k : ℕ) (e : TraceEntry Event) → slice_get trace k ≡ Some e → (e.worker == w) ≡ false → Same made k → Same made (suc k)
-    another made k e at is same = same ∙ sym (ap (steps_of w) (more k trace e at).0 ∙ steps_of-append (take k trace) (e ∷ []) ∙ ap (λ l. steps_of w (take k trace) ++ l) (steps_of-another e [] is) ∙ nothing (steps_of w (take k trace)))
-      where
-        nothing : (xs : List Step) → xs ++ [] ≡ xs
-        nothing [] = refl
-        nothing (x ∷ xs) = ap (λ l. x ∷ l) (nothing xs)
-
-    pub own : (made k : ℕ) (e : TraceEntry Event) → slice_get trace k ≡ Some e → (e.worker == w) ≡ true → slice_get steps made ≡ Some (step_of e.label) → Same made k → Same (suc made) (suc k)
-    own made k e at is there same = (more made steps (step_of e.label) there).0
-        ∙ ap (λ l. l ++ step_of e.label ∷ []) same
-        ∙ sym (ap (steps_of w) (more k trace e at).0 ∙ steps_of-append (take k trace) (e ∷ []) ∙ ap (λ l. steps_of w (take k trace) ++ l) (steps_of-own e [] is))
-
-    -- where all are the same, the next step is that of the worker's next entry
-    pub next_of_own : (made k : ℕ) (e : TraceEntry Event) → made ≤ length steps → slice_get trace k ≡ Some e → (e.worker == w) ≡ true → Same made k → steps ≡ steps_of w trace → slice_get steps made ≡ Some (step_of e.label)
-    next_of_own made k e few at is same all =
-        subst (λ l. slice_get l made ≡ Some (step_of e.label)) (sym whole)
-        (subst (λ n. slice_get (take made steps ++ step_of e.label ∷ steps_of w (drop (suc k) trace)) n ≡ Some (step_of e.label)) (length-take-le made steps few)
-        (seam (take made steps) (step_of e.label) (steps_of w (drop (suc k) trace))))
-      where
-        whole : steps ≡ take made steps ++ step_of e.label ∷ steps_of w (drop (suc k) trace)
-        whole = all ∙ ap (steps_of w) (sym (take-append-drop k trace)) ∙ steps_of-append (take k trace) (drop k trace)
-            ∙ ap (λ l. steps_of w (take k trace) ++ steps_of w l) (more k trace e at).1
-            ∙ ap (λ l. steps_of w (take k trace) ++ l) (steps_of-own e (drop (suc k) trace) is)
-            ∙ ap (λ l. l ++ step_of e.label ∷ steps_of w (drop (suc k) trace)) (sym same)
-
-    -- at the end of the trace
-    pub of_all : (made : ℕ) → Same made (length trace) → take made steps ≡ steps_of w trace
-    of_all made same = same ∙ ap (steps_of w) (take-length trace)
-
-    pub whole : (made : ℕ) → made ≡ length steps → Same made (length trace) → steps ≡ steps_of w trace
-    whole made long same = sym (take-length steps) ∙ ap (λ n. take n steps) (sym long) ∙ of_all made same
-
-    pub as_many : (made : ℕ) → made ≤ length steps → Same made (length trace) → steps ≡ steps_of w trace → made ≡ length steps
-    as_many made few same all = sym (length-take-le made steps few) ∙ ap length (of_all made same) ∙ sym (ap length all)
+    -- if the list is the worker's part, its next step is that of the worker's next entry
+    pub next_of_own : (e.worker == w) ≡ true → steps ≡ steps_of w trace → slice_get steps made ≡ Some (step_of e.label)
+    next_of_own its all = first_left made steps (step_of e.label) (steps_of w (drop (k + 1) trace)) (left.0 all ∙ own_next its)

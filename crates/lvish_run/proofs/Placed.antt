@@ -1,7 +1,6 @@
 -- Where tasks stand after a step.
-use Rattle.std.specs.Prelude.{option_and_then}
 use Rattle.std.proofs.lemmas.Option.{option_and_then_some}
-use Rattle.std.proofs.Common.{◌≡◌, ◌⊎◌, inl, inr, ℕ, List, [], ◌∷◌, map, Option, Some, None, refl, sym, ap, ◌∙◌, subst}
+use Rattle.std.proofs.Common.{◌≡◌, ◌⊎◌, inl, inr, ℕ, List, Option, Some, None, refl, sym, ap, ◌∙◌, subst, option_and_then}
 use Rattle.lvish_calculus.specs.declared.label.Label.{Label}
 use Rattle.lvish_calculus.specs.declared.label.Label.TheVariants.{Act, Hand}
 use Rattle.lvish_calculus.specs.Machine.{Machine, IsLawful}
@@ -22,17 +21,6 @@ use Rattle.lvish_core.specs.laws.Lists.{either_among, among_first, among_last}
 
 abbrev pub place : {E L : Type 0} → Name E → L → TaskPlace E L
 place t l = record { task = t; from = l }
-
--- in the image of a list
-pub mapped_from : {X Y : Type 0} (f : X → Y) (y : Y) (xs : List X) → IsAmong y (map f xs) → (x : X) × IsAmong x xs × (y ≡ f x)
-mapped_from f y [] i = absurd i
-mapped_from f y (x ∷ xs) (inl e) = (x, inl refl, e)
-mapped_from f y (x ∷ xs) (inr i) = let r = mapped_from f y xs i in (r.0, inr r.1, r.2)
-
-pub mapped_into : {X Y : Type 0} (f : X → Y) (x : X) (xs : List X) → IsAmong x xs → IsAmong (f x) (map f xs)
-mapped_into f x [] i = i
-mapped_into f x (y ∷ ys) (inl e) = inl (ap f e)
-mapped_into f x (y ∷ ys) (inr i) = inr (mapped_into f x ys i)
 
 -- whose ticket it is
 in_own : {E L : Type 0} (p : TaskPlace E L) (l : Label E) (o : Option L) → IsAmong p (own_place l o) → (l ≡ Act p.task) × (o ≡ Some p.from)

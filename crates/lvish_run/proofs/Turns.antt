@@ -1,6 +1,5 @@
 -- The turns of a run.
-use Rattle.std.proofs.Common.{◌≡◌, ◌↔◌, inl, inr, ◌%◌, ℕ, Bool, true, false, List, [], ◌∷◌, ◌++◌, length, slice_get, Option, Some, None, MatchOption, Ordering, sym, ap, ◌∙◌, subst}
-use Rattle.std.specs.declared.cmp.Ordering.TheVariants.{Equal}
+use Rattle.std.proofs.Common.{◌≡◌, ◌↔◌, inl, inr, ◌%◌, ℕ, Bool, true, false, List, [], ◌∷◌, ◌++◌, length, slice_get, Option, Some, None, MatchOption, Ordering, sym, ap, ◌∙◌, subst, Equal}
 use Rattle.lvish_names.specs.NameOrder.{name_cmp, handler_cmp}
 use Rattle.lvish_calculus.specs.declared.label.Label.{Label}
 use Rattle.lvish_calculus.specs.declared.label.Label.TheVariants.{Act, Hand}
@@ -16,7 +15,8 @@ use Rattle.lvish_board.specs.Place.{TaskPlace}
 use Rattle.lvish_run.specs.Agenda.{Agenda, open_in, NoTask, IsTaskGone, IsHandlerGone, IsBeside}
 use Rattle.lvish_run.specs.Walk.{IsStuck, IsDrawn, IsFirstEnabled, IsIdle, IsActed, IsHandTurn, IsFirstHandler, IsTurn}
 use Rattle.lvish_run.proofs.Reports.{chosen_can}
-use Rattle.lvish_run.proofs.Firsts.{can_hand, lowest_task, lowest_handler, without_handler, drained}
+use Rattle.lvish_board.proofs.Handing.{hand_open}
+use Rattle.lvish_run.proofs.Firsts.{lowest_task, lowest_handler, without_handler, drained}
 
 -- ---- labels that picks name
 
@@ -35,7 +35,7 @@ drawn_by {E = E} cmp machine p c core n ls o same is are h = by o h
 module _ {P S E R A L : Type 0} (cmp : E → E → Ordering) (M : Machine S E R A L) where
   -- what is drawn can be taken
   pub drawn_can : (c : CoreView P S E L) (n : ℕ) (l : Label E) → IsDrawn cmp M c n l → CanTake M c l
-  drawn_can c n l d = chosen_can cmp M c d.all (n % length d.all) l d.labels d.chosen
+  drawn_can c n l d = chosen_can M c cmp d.all (n % length d.all) l d.labels d.chosen
 
   pub drawn_act : (s r : Standing P S E L) (n : ℕ) (t u : Name E) → IsDrawn cmp M s.core n (Act t) → u ≡ t → (made : Bool) → IsActed M s u made r → IsTurn cmp M (Some n) s made r
   drawn_act s r n t u d same true z = (Act u, subst (λ v. IsDrawn cmp M s.core n (Act v)) (sym same) d, z.1)
@@ -77,7 +77,7 @@ module _ {P S E R A L : Type 0} (cmp : E → E → Ordering) (M : Machine S E R 
     first_handler e next = record {
       event = e;
       next = next;
-      lowest = lowest_handler M s (open_in cmp a) sound.blocked beside cmp exact tasks h (open_in cmp b) gone e (can_hand M program budget s sound over comes h e next)
+      lowest = lowest_handler M s (open_in cmp a) sound.blocked beside cmp exact tasks h (open_in cmp b) gone e (hand_open M comes program budget s sound over h e next)
           (λ f can. one s.core (labels_of s.trace) sound.leads h f e can next);
       beside = without_handler M s cmp (open_in cmp a) (open_in cmp b) beside exact h gone.without;
     }

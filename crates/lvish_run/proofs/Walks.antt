@@ -1,5 +1,5 @@
 -- Runs that a board makes step by step, over any machine.
-use Rattle.std.proofs.Common.{◌≡◌, ◌⊎◌, ◌↔◌, inl, inr, ℕ, ◌+◌, Bool, true, false, List, [], ◌∷◌, ◌++◌, length, slice_get, Option, Some, None, IsSome, Ordering, refl, sym, ap, ◌∙◌, subst, arith, length-append, append_assoc}
+use Rattle.std.proofs.Common.{◌≡◌, ◌⊎◌, ◌↔◌, inl, inr, ℕ, ◌+◌, true, false, List, [], ◌∷◌, ◌++◌, length, slice_get, Option, Some, None, IsSome, Ordering, refl, sym, ap, ◌∙◌, subst, arith, length-append, append_assoc}
 use Rattle.std.proofs.lemmas.List.{length-map, map_push, append-nil}
 use Rattle.std.specs.List.{AllByRecursion}
 use Rattle.lvish_calculus.specs.declared.label.Label.{Label}
@@ -46,8 +46,8 @@ module _ {S E R A L : Type 0} (M : Machine S E R A L) (cmp : E → E → Orderin
   module _ {P : Type 0} (p : P) (budget : ℕ) (takes : TakesCoreRuns P M) where
     module _ (s r : Standing P S E L) (w : IsWalk cmp M p picks s.core s.trace) (sound : IsBoardSound M p budget r) where
       -- a walk, and one step more
-      goes : (k : ℕ) → length s.trace ≡ k → IsTurn cmp M (slice_get picks k) s true r → IsWalk cmp M p picks r.core r.trace × (length r.trace ≡ k + 1)
-      goes k at t = (
+      pub walk_goes : (k : ℕ) → length s.trace ≡ k → IsTurn cmp M (slice_get picks k) s true r → IsWalk cmp M p picks r.core r.trace × (length r.trace ≡ k + 1)
+      walk_goes k at t = (
         record {
           program = sound.program_is;
           steps = sound.counted;
@@ -68,12 +68,9 @@ module _ {S E R A L : Type 0} (M : Machine S E R A L) (cmp : E → E → Orderin
           as_long : k ≡ 0 + length (labels_of s.trace)
           as_long = omega (arith, length-map s.trace (λ (e : TraceEntry E). e.label), at)
 
-      pub walk_goes : (k : ℕ) (n : Option ℕ) (made : Bool) → length s.trace ≡ k → n ≡ slice_get picks k → made ≡ true → IsTurn cmp M n s made r → IsWalk cmp M p picks r.core r.trace × (length r.trace ≡ k + 1)
-      walk_goes k n made at is was t = goes k at (subst (λ q. IsTurn cmp M q s true r) is (subst (λ b. IsTurn cmp M n s b r) was t))
-
       -- or it stops
-      stops : (n : Option ℕ) → IsTurn cmp M n s false r → IsWalked cmp M p picks budget r.core r.trace
-      stops n t = record { walk = walk; within = sound.within; stopped = stopped t.1 }
+      pub walk_stops : (n : Option ℕ) → IsTurn cmp M n s false r → IsWalked cmp M p picks budget r.core r.trace
+      walk_stops n t = record { walk = walk; within = sound.within; stopped = stopped t.1 }
         where
           walk : IsWalk cmp M p picks r.core r.trace
           walk = subst (λ c. IsWalk cmp M p picks c r.trace) (sym t.0.core) (subst (λ xs. IsWalk cmp M p picks s.core xs) (sym t.0.trace) w)
@@ -81,6 +78,3 @@ module _ {S E R A L : Type 0} (M : Machine S E R A L) (cmp : E → E → Orderin
           stopped : IsSome r.over ⊎ IsStuck M s.core → (length r.trace ≡ budget) ⊎ IsStuck M r.core
           stopped (inl over) = over_stops M budget r r.over over sound.over_is
           stopped (inr stuck) = inr (subst (λ c. IsStuck M c) (sym t.0.core) stuck)
-
-      pub walk_stops : (n : Option ℕ) (made : Bool) → made ≡ false → IsTurn cmp M n s made r → IsWalked cmp M p picks budget r.core r.trace
-      walk_stops n made was t = stops n (subst (λ b. IsTurn cmp M n s b r) was t)

@@ -53,8 +53,11 @@ simple_text Max (part.Max c) = signed_decimal (number_of (state_of c))
 simple_text Max p = codes "0"
 
 -- two sides
+abbrev pub sides_text : List ℕ → List ℕ → List ℕ
+sides_text one two = codes "(" ++ (one ++ (codes ", " ++ (two ++ codes ")")))
+
 abbrev pub pair_text : SimpleKind → SimpleKind → Part → Part → List ℕ
-pair_text a b one two = codes "(" ++ (simple_text a one ++ (codes ", " ++ (simple_text b two ++ codes ")")))
+pair_text a b one two = sides_text (simple_text a one) (simple_text b two)
 
 -- a state by the kind of its variable; one of another kind is printed as bottom
 abbrev pub state_text : VariableKind → Any → List ℕ

@@ -1,7 +1,5 @@
 -- The text of a report.
-use Rattle.std.specs.Prelude.{ℕ, ℤ, Bool, ◌||◌, codes, List, [], ◌∷◌, ◌++◌, Option, Some, None, slice_get, unwrap_or, option_map, if◌then◌else◌}
-use Rattle.std.specs.List.{flat_map}
-use Rattle.std.specs.Fmt.{decimal}
+use Rattle.std.specs.Prelude.{ℕ, ℤ, Bool, ◌||◌, codes, List, [], ◌∷◌, ◌++◌, Option, Some, None, slice_get, unwrap_or, option_map, if◌then◌else◌, flat_map, decimal}
 use Rattle.lvish_names.specs.Names.{Name}
 use Rattle.lvish_names.specs.NameText.{name_text}
 use Rattle.lvish_calculus.specs.declared.request.ErrorKind.{ErrorKind}

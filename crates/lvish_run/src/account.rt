@@ -7,8 +7,8 @@ use crate::states::States;
 use crate::trace::Trace;
 use lvish_board::{Outcome, TraceEntry};
 use lvish_calculus::{Meaning, Program};
-use lvish_core::Core;
-use lvish_lattice::Lattice;
+use lvish_core::{Core, RunError};
+use lvish_lattice::{Lattice, Plain};
 use lvish_variable::Variable;
 use std::alloc::{AllocError, Global};
 
@@ -68,6 +68,17 @@ fn final_states<S: Lattice>(
     Ok(States::from(states))
 }
 
+/// The outcome of steps of which the last gave this error.
+fn failed<E: Plain>(fault: &RunError<E>) -> Result<Outcome<E>, AllocError>
+    ensures { IfOk result (λ o. o ≡ Outcome.Error fault.now.kind fault.now.variable fault.now.task) }
+{
+    Ok(Outcome::Error {
+        kind: fault.kind,
+        variable: fault.variable,
+        task: fault.task.copy()?,
+    })
+}
+
 /// How the steps of a core came out: with its error, or by whether something is enabled.
 pub fn outcome_of<P: Program>(
     alloc: Global,
@@ -76,17 +87,13 @@ pub fn outcome_of<P: Program>(
     ensures { IfOk result (λ o. IsHow (⟦<P as Meaning>⟧.machine core.now.program) core.now o) }
 {
     if let Some(fault) = core.fault() {
-        return Ok(Outcome::Error {
-            kind: fault.kind,
-            variable: fault.variable,
-            task: fault.task.copy()?,
-        });
+        return failed(fault);
     }
     let labels = core.labels(alloc)?;
-    match labels.as_slice() {
-        [] => Ok(Outcome::Ended),
-        [_, ..] => Ok(Outcome::Budget),
+    if labels.is_empty() {
+        return Ok(Outcome::Ended);
     }
+    Ok(Outcome::Budget)
 }
 
 /// The account of a core whose steps came out like this.

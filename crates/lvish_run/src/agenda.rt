@@ -1,9 +1,9 @@
 //! The tasks that may go on, and the handlers that may have something left for them.
 
-ghost use Rattle.std.specs.Prelude.{◌≡◌, ◌∷◌, [], true, None, Some, IfOk, MatchOption};
-ghost use Rattle.lvish_run.specs.Agenda.{open_in, IsEmpty, SetsOpenTask, HasHandler, NoTask, NoHandler, IsTaskGone, IsHandlerGone, Adds};
+ghost use Rattle.std.specs.Prelude.{◌≡◌, true, None, Some, IfOk, MatchOption};
+ghost use Rattle.lvish_run.specs.Agenda.{open_in, IsEmpty, SetsOpenTask, HasHandler, NoTask, NoHandler, IsTaskGone, IsHandlerGone};
 
-use lvish_board::{Asked, Named, Work, stretch};
+use lvish_board::{Asked, Named};
 use lvish_calculus::Program;
 use lvish_lattice::Lattice;
 use lvish_names::{HandlerName, TaskName};
@@ -75,7 +75,7 @@ impl<P: Program, J: Named<P>> Agenda<P, J> {
     }
 
     /// Opens the task, in place of any of its name.
-    fn open_task(&mut self, asked: Asked<P, J>) -> Result<(), AllocError>
+    pub(crate) fn open_task(&mut self, asked: Asked<P, J>) -> Result<(), AllocError>
         ensures { IfOk result (λ _. SetsOpenTask P.Lat.Event.cmp (open_in P.Lat.Event.cmp self.old) asked.task (Some asked) (open_in P.Lat.Event.cmp self.new)) }
     {
         let name = asked.task().copy()?;
@@ -86,7 +86,7 @@ impl<P: Program, J: Named<P>> Agenda<P, J> {
     }
 
     /// Opens the handler.
-    fn open_handler(
+    pub(crate) fn open_handler(
         &mut self,
         handler: HandlerName<<P::Lat as Lattice>::Event>,
     ) -> Result<(), AllocError>
@@ -96,41 +96,5 @@ impl<P: Program, J: Named<P>> Agenda<P, J> {
             Ok(_) => Ok(()),
             Err(_) => Err(AllocError),
         }
-    }
-
-    /// Opens what one piece of work is for. A task's local statements are run.
-    pub(crate) fn open(
-        &mut self,
-        alloc: Global,
-        program: &P,
-        work: Work<P, J>,
-    ) -> Result<(), AllocError>
-        requires { program.now ≡ J.program }
-        ensures { IfOk result (λ _. Adds (work ∷ []) (open_in P.Lat.Event.cmp self.old) (open_in P.Lat.Event.cmp self.new)) }
-    {
-        match work {
-            Work::Stretch(ticket) => match stretch(alloc, program, ticket) {
-                Ok(asked) => self.open_task(asked),
-                Err(_ticket) => Err(AllocError),
-            },
-            Work::Act(asked) => self.open_task(asked),
-            Work::Hand(handler) => self.open_handler(handler),
-        }
-    }
-
-    /// Opens what the work of a step is for.
-    pub(crate) fn add(
-        &mut self,
-        alloc: Global,
-        program: &P,
-        works: Vec<Work<P, J>>,
-    ) -> Result<(), AllocError>
-        requires { program.now ≡ J.program }
-        ensures { IfOk result (λ _. Adds works.items (open_in P.Lat.Event.cmp self.old) (open_in P.Lat.Event.cmp self.new)) }
-    {
-        for work in works {
-            self.open(alloc, program, work)?;
-        }
-        Ok(())
     }
 }

@@ -1,19 +1,19 @@
 //! The report of a board that is over.
 
-ghost use Rattle.std.specs.Prelude.{◌≡◌, ◌≢◌, IfOk};
+ghost use Rattle.std.specs.Prelude.{◌≡◌, ◌≢◌, ℕ, IfOk, Some};
 ghost use Rattle.lvish_calculus.specs.Handing.{IsHandedWell};
-ghost use Rattle.lvish_run.specs.Honest.{IsHonest};
-ghost use Rattle.lvish_board.specs.Standing.{labels_of};
+ghost use Rattle.lvish_run.specs.Honest.{IsCountByWorker, IsHonest};
+ghost use Rattle.lvish_board.specs.Standing.{labels_of, OverIs};
 ghost use Rattle.lvish_run.specs.Alike.{IsAlike};
 
 use crate::account::account_of;
 use crate::count_by_worker::count_by_worker;
+use crate::counts::Counts;
 use crate::fault::RunFault;
 use crate::report::Report;
 use lvish_board::{Board, Named, Outcome};
 use lvish_calculus::laws::{handing_kept, same_end};
 use lvish_calculus::{Meaning, Program};
-use lvish_core::laws::takes_something;
 use lvish_lattice::{Lattice, Plain};
 use std::alloc::{AllocError, Global};
 
@@ -36,6 +36,27 @@ fn copy_of<E: Plain>(outcome: &Outcome<E>) -> Result<Outcome<E>, AllocError>
     }
 }
 
+/// The report of a board whose steps came out like this, by any number of workers whose counts these
+/// are.
+pub(crate) fn told<P: Program, J: Named<P>>(
+    alloc: Global,
+    board: Board<'_, P, J>,
+    outcome: Outcome<<P::Lat as Lattice>::Event>,
+    by_worker: Counts,
+) -> Result<Report<P::Lat, <P::Lat as Lattice>::Event>, AllocError>
+    requires over { OverIs (⟦<P as Meaning>⟧.machine J.program) J.budget board (Some outcome) }
+    ensures honest { IfOk result (λ r. (workers : ℕ) → IsCountByWorker workers board.entry.trace by_worker → IsHonest (⟦<P as Meaning>⟧.machine J.program) (P.functions J.program).variables workers J.budget r) }
+    ensures handed { IfOk result (λ r. IsHandedWell (⟦<P as Meaning>⟧.machine J.program) (labels_of r.trace)) }
+    ensures alike { IfOk result (λ r. IsAlike (⟦<P as Meaning>⟧.machine J.program) (P.functions J.program).variables r) }
+    ensures trace { IfOk result (λ r. r.trace ≡ board.entry.trace) }
+{
+    handing_kept::<P>();
+    same_end::<P>();
+    let account = account_of(alloc, board.core(), outcome)?;
+    let trace = board.into_trace();
+    Ok(account.report(trace.len() as u64, trace, by_worker))
+}
+
 /// The report of a board that is over, by this many workers.
 ///
 /// # Errors
@@ -55,15 +76,10 @@ pub fn report_of<P: Program, J: Named<P>>(
     ensures not_stopped { result ≢ Err RunFault.Stopped }
     ensures all_there { result ≢ Err RunFault.NoThread }
 {
-    handing_kept::<P>();
-    same_end::<P>();
-    takes_something::<P>();
     let Some(over) = board.over() else {
         return Err(RunFault::Mixed);
     };
     let outcome = copy_of(over)?;
     let by_worker = count_by_worker(alloc, board.trace(), workers)?;
-    let account = account_of(alloc, board.core(), outcome)?;
-    let trace = board.into_trace();
-    Ok(account.report(trace.len() as u64, trace, by_worker))
+    Ok(told(alloc, board, outcome, by_worker)?)
 }

@@ -25,6 +25,7 @@ mod gate;
 mod hall;
 mod limits;
 mod naming;
+mod opening;
 mod own_steps;
 mod pause;
 mod picks;

@@ -23,11 +23,6 @@ impl Drop for Step {
 }
 
 impl Step {
-    /// Whether it is a task's.
-    pub fn is_act(&self) -> bool {
-        matches!(self, Step::Act(_))
-    }
-
     /// Whether the label is this step's.
     fn has(&self, label: &Label<Event>) -> bool
         ensures { IsTrue result ↔ (self.now ≡ step_of label.now) }
@@ -44,7 +39,7 @@ impl Step {
 }
 
 /// Why a worker left.
-#[derive(Clone, Copy, PartialEq, Eq, Debug)]
+#[derive(Clone, Copy)]
 pub enum Why {
     /// The board is over.
     Over,

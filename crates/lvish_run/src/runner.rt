@@ -10,15 +10,17 @@ ghost use Rattle.lvish_run.specs.Picked.{IsPicked};
 ghost use Rattle.lvish_run.specs.Alike.{IsAlike};
 ghost use Rattle.lvish_run.specs.Walk.{IsStuck, IsDrawn, IsFirstHandler, IsTurn, IsWalked};
 
-use crate::account::{account_of, outcome_of};
+use crate::account::outcome_of;
 use crate::agenda::Agenda;
+use crate::closing::told;
 use crate::counts::Counts;
 use crate::limits::MOST_STEPS;
+use crate::opening::open_one;
 use crate::picks::pick_at;
 use crate::report::Report;
 use crate::turn::{act, hand, is_sound};
 use lvish_board::{Board, Named};
-use lvish_calculus::laws::{handing_kept, lawful, same_end};
+use lvish_calculus::laws::lawful;
 use lvish_calculus::{Label, Meaning, Program};
 use lvish_core::laws::{hands_one_event, takes_core_runs, takes_something};
 use lvish_lattice::Lattice;
@@ -210,7 +212,7 @@ fn opened<'p, P: Program, J: Named<P>>(
     let (board, first) = Board::new(alloc, program, budget)?;
     is_sound(&board);
     let mut agenda = Agenda::new(alloc);
-    agenda.open(alloc, program, first)?;
+    open_one(alloc, program, &mut agenda, first)?;
     Ok((board, agenda))
 }
 
@@ -253,15 +255,12 @@ pub fn run_program<P: Program, J: Named<P>>(
     // What it says of all other runs that end without an error.
     ensures alike { IfOk result (λ r. IsAlike (⟦<P as Meaning>⟧.machine J.program) (P.functions J.program).variables r) }
 {
-    handing_kept::<P>();
-    same_end::<P>();
     takes_something::<P>();
     let board = walked::<P, J>(alloc, program, picks, budget)?;
     let core = board.core();
     let outcome = outcome_of(alloc, core)?;
-    let account = account_of(alloc, core, outcome)?;
     let steps = core.steps();
     let mut by_worker = Vec::new(alloc);
     by_worker.push(steps)?;
-    Ok(account.report(steps, board.into_trace(), Counts::from(by_worker)))
+    told(alloc, board, outcome, Counts::from(by_worker))
 }

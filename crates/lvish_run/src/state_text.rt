@@ -1,10 +1,11 @@
 //! The texts of states, by the kinds of their variables.
 
 ghost use Rattle.std.specs.Prelude.{◌≡◌, IfOk, map, string_bytes};
+ghost use Rattle.std.specs.Fmt.{signed_decimal};
 ghost use Rattle.lvish_lattice.specs.GrowSet.{items_of};
 ghost use Rattle.lvish_compound.specs.MapOf.{entries_of};
 ghost use Rattle.lvish_compound.specs.Tally.{entries_of as amounts_of};
-ghost use Rattle.lvish_run.specs.StateText.{braced, set_text, entry_text, map_text, amount_text, tally_text, simple_text, pair_text, state_text};
+ghost use Rattle.lvish_run.specs.StateText.{braced, set_text, entry_text, map_text, amount_text, tally_text, simple_text, sides_text, pair_text, state_text};
 
 use lvish_compound::{Any, MapOf, Part, Tally};
 use lvish_lattice::{Flat, GrowSet, MaxCounter};
@@ -20,13 +21,20 @@ fn braced(alloc: Global, pieces: &[String]) -> Result<String, AllocError>
     format!(in alloc; "{{{joined}}}")
 }
 
+/// An element of a set.
+fn element_text(alloc: Global, element: i64) -> Result<String, AllocError>
+    ensures { IfOk result (λ t. string_bytes t ≡ signed_decimal element) }
+{
+    format!(in alloc; "{element}")
+}
+
 /// The elements of a set in braces.
 fn set_text(alloc: Global, set: &GrowSet<i64>) -> Result<String, AllocError>
     ensures { IfOk result (λ t. string_bytes t ≡ set_text (items_of set.now)) }
 {
     let mut pieces = Vec::new(alloc);
     for element in set.items() {
-        pieces.push(format!(in alloc; "{element}")?)?;
+        pieces.push(element_text(alloc, *element)?)?;
     }
     braced(alloc, &pieces)
 }
@@ -99,6 +107,13 @@ fn pair_text(
 {
     let one = simple_text(alloc, kinds.0, one)?;
     let two = simple_text(alloc, kinds.1, two)?;
+    sides_text(alloc, one.as_str(), two.as_str())
+}
+
+/// The texts of two sides in one.
+fn sides_text(alloc: Global, one: &str, two: &str) -> Result<String, AllocError>
+    ensures { IfOk result (λ t. string_bytes t ≡ sides_text one.now two.now) }
+{
     format!(in alloc; "({one}, {two})")
 }
 

@@ -8,6 +8,7 @@ ghost use Rattle.lvish_run.specs.Agenda.{open_in, IsBeside, IsFor};
 ghost use Rattle.lvish_run.specs.Walk.{IsTried, IsTriedHand, IsActed, IsHandTurn};
 
 use crate::agenda::Agenda;
+use crate::opening::open_all;
 use lvish_board::{Acted, Asked, Board, Named, Work};
 use lvish_calculus::laws::lawful;
 use lvish_calculus::{Meaning, Program};
@@ -49,7 +50,7 @@ pub(crate) fn act<P: Program, J: Named<P>>(
     match take_act(alloc, board, asked)? {
         Some(works) => {
             is_sound(board);
-            agenda.add(alloc, program, works)?;
+            open_all(alloc, program, agenda, works)?;
             Ok(true)
         }
         None => Ok(false),
@@ -100,7 +101,7 @@ pub(crate) fn hand<P: Program, J: Named<P>>(
     match take_hand(alloc, board, handler)? {
         Some(left) => {
             is_sound(board);
-            agenda.add(alloc, program, left)?;
+            open_all(alloc, program, agenda, left)?;
             Ok(true)
         }
         None => Ok(false),

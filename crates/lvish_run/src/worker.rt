@@ -169,10 +169,15 @@ fn steal<T>(seat: &mut Seat<T>, first: usize, end: usize) -> Option<T>
     None
 }
 
+/// Whether the board is over.
+fn is_over<J: Named<ScriptCode>>(board: &Board<'_, ScriptCode, J>) -> bool {
+    board.over().is_some()
+}
+
 /// Whether the board is over, as far as that can be seen without a wait for it.
 fn is_seen_over<J: Named<ScriptCode>>(board: &Mutex<Board<'_, ScriptCode, J>>) -> bool {
     match board.try_lock() {
-        Some(board) => board.over().is_some(),
+        Some(board) => is_over(&board),
         None => false,
     }
 }
@@ -221,7 +226,8 @@ fn act<J: Named<ScriptCode>, R: Wait>(
         return AfterWork::Memory;
     }
     let answer = pause.take(rt, board).act(alloc, seat.number(), asked);
-    go_by(rt, board, seat, steps, pause, Step::Act(task), answer)
+    note(steps, Step::Act(task), is_made(&answer));
+    go_by(rt, board, seat, pause, true, answer)
 }
 
 /// Takes a handler to the board.
@@ -241,40 +247,47 @@ fn hand<J: Named<ScriptCode>, R: Wait>(
         return AfterWork::Memory;
     }
     let answer = pause.take(rt, board).hand(alloc, seat.number(), handler);
-    go_by(rt, board, seat, steps, pause, Step::Hand(name), answer)
+    note(steps, Step::Hand(name), is_made(&answer));
+    go_by(rt, board, seat, pause, false, answer)
 }
 
-/// Goes on by what the board answered. Where the step's task goes on, its next ticket is the first of
-/// the work.
+/// Whether the board made the step.
+fn is_made<J: Named<ScriptCode>>(answer: &Acted<ScriptCode, J>) -> bool {
+    matches!(answer, Acted::Next(_) | Acted::Gone(_))
+}
+
+/// Adds a step to the worker's own list, if it was made.
+fn note(steps: &mut Vec<Step>, step: Step, made: bool)
+    requires room { vec_len steps.old < vec_capacity steps.old }
+{
+    if made {
+        steps.push_reserved(step);
+    }
+}
+
+/// Goes on by what the board answered. Where the step is a task's that goes on, its next ticket is the
+/// first of the work.
 fn go_by<J: Named<ScriptCode>, R: Wait>(
     rt: &R,
     board: &Mutex<Board<'_, ScriptCode, J>>,
     seat: &mut Seat<Work<ScriptCode, J>>,
-    steps: &mut Vec<Step>,
     pause: &mut Pause,
-    step: Step,
+    is_act: bool,
     answer: Acted<ScriptCode, J>,
-) -> AfterWork<J>
-    requires room { vec_len steps.old < vec_capacity steps.old }
-{
+) -> AfterWork<J> {
     match answer {
         Acted::Over => AfterWork::Over,
         Acted::Stale => AfterWork::On(None),
         Acted::Parked => look(rt, board, pause),
         Acted::Memory(_work) => AfterWork::Memory,
         Acted::Next(works) => {
-            let goes_on = step.is_act();
-            steps.push_reserved(step);
-            if goes_on {
+            if is_act {
                 go_on(seat, works)
             } else {
                 leave(rt, board, seat, pause, works)
             }
         }
-        Acted::Gone(works) => {
-            steps.push_reserved(step);
-            leave(rt, board, seat, pause, works)
-        }
+        Acted::Gone(works) => leave(rt, board, seat, pause, works),
     }
 }
 
@@ -319,7 +332,7 @@ fn look<J: Named<ScriptCode>, R: Wait>(
     board: &Mutex<Board<'_, ScriptCode, J>>,
     pause: &mut Pause,
 ) -> AfterWork<J> {
-    if pause.take(rt, board).over().is_some() {
+    if is_over(&pause.take(rt, board)) {
         AfterWork::Over
     } else {
         AfterWork::On(None)

@@ -1,7 +1,12 @@
-use Rattle.std.proofs.Common.{arith, ap, length, rules}
+use Rattle.std.proofs.Common.{rules, ◌≡◌, ◌∙◌, sym, vec_len, length, eq-eqb}
+use Rattle.std.proofs.lemmas.Bool.{both_ways}
+use Rattle.std.proofs.lemmas.Result.{IfOk-weaker}
 use Rattle.lvish_run.proofs.Reports.{some_label}
 use Rattle.lvish_run.proofs.account.outcome_of.Goals as goal
 
+pub returns-in-Some : goal.returns-in-Some
+returns-in-Some g c = IfOk-weaker c.failed.result _ _ (λ o same. rw same (sym c.in-Some.ensures)) c.failed.ensures
+
 pub returns : goal.returns
-returns g c = some_label _ _ c.args.core.now c.in_ok-labels.labels.items (search rules) c.in_ok-labels.ensures
-    (λ e. let same = ap length c.as_slice.ensures.value in absurd (omega (arith, e, same, c.in-len1-up.len_at_least)))
+returns g c = some_label _ c.args.core.now _ c.in_ok-labels.labels.items (search rules) c.in_ok-labels.ensures
+    (λ e. let many : vec_len c.in_ok-labels.labels ≡ length c.in_ok-labels.labels.items = search rules in both_ways _ (sym c.is_empty.ensures ∙ c.if-is_empty.false) (eq-eqb _ _ (many ∙ e)))

@@ -1,8 +1,8 @@
 use Rattle.lvish_run.specs.Agenda.{open_in}
-use Rattle.lvish_run.proofs.Openings.{opened_beside}
+use Rattle.lvish_run.proofs.Beside.{opened_beside}
 use Rattle.lvish_run.proofs.runner.opened.Goals as goal
 
 pub returns-clause-agenda : goal.returns-clause-agenda
 returns-clause-agenda g c = λ running.
     opened_beside _ (c.lawful.ensures g.J.Named.program) g.J.Named.program g.J.Named.budget c.in_ok-board.board c.is_sound.ensures c.in_ok-board.ensures.board (c.hands_one_event.ensures.open g.J.Named.program)
-    (open_in g.P.Lat.Event.Ord.cmp c.new-agenda.result) (open_in g.P.Lat.Event.Ord.cmp c.open.new.self) c.new-agenda.ensures c.in_ok-board.first c.in_ok-board.ensures.first c.in_ok-open.ensures
+    (open_in g.P.Lat.Event.Ord.cmp c.new-agenda.result) (open_in g.P.Lat.Event.Ord.cmp c.open_one.new.agenda) c.new-agenda.ensures c.in_ok-board.first c.in_ok-board.ensures.first c.in_ok-open_one.ensures

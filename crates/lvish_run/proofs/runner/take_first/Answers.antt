@@ -10,14 +10,12 @@ act-requires-clause-current g c = (c.loop-asked.invariant.beside.current c.in-So
 
 pub act-requires-clause-beside : goal.act-requires-clause-beside
 act-requires-clause-beside g c =
-    let o = g.met.P.Lat.Event.Ord in
-    let exact = name_cmp-iff g.P.Lat.Event.Ord.cmp g.met.P.Lat.Event.Plain.identical o.matches_eq o.total in
+    let exact = name_cmp-iff g.P.Lat.Event.Ord.cmp g.met.P.Lat.Event.Plain.identical g.met.P.Lat.Event.Ord.matches_eq g.met.P.Lat.Event.Ord.total in
     without_task _ c.loop-asked.board _ _ _ c.loop-asked.invariant.beside exact c.in-Some.ensures.task c.in-Some.asked c.in-Some.ensures.was c.in-Some.ensures.without
 
 pub returns-then-branch-clause-turn : goal.returns-then-branch-clause-turn
 returns-then-branch-clause-turn g c =
-    let o = g.met.P.Lat.Event.Ord in
-    let exact = name_cmp-iff g.P.Lat.Event.Ord.cmp g.met.P.Lat.Event.Plain.identical o.matches_eq o.total in
+    let exact = name_cmp-iff g.P.Lat.Event.Ord.cmp g.met.P.Lat.Event.Plain.identical g.met.P.Lat.Event.Ord.matches_eq g.met.P.Lat.Event.Ord.total in
     first_acted _ _ exact c.args.board.now c.loop-asked.board c.act.new.board c.loop-asked.invariant.idle c.loop-asked.agenda c.pop_task.new.self c.loop-asked.invariant.sound.blocked c.loop-asked.invariant.beside c.in-Some.asked c.in-Some.ensures (rw c.if-branch.true at c.in_ok-act.ensures.acted)
 
 pub returns-clause-turn : goal.returns-clause-turn

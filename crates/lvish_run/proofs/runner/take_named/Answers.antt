@@ -15,8 +15,7 @@ act-requires-clause-current g c = (c.requires.agenda.current c.in-Some-Act.name 
 
 pub act-requires-clause-beside : goal.act-requires-clause-beside
 act-requires-clause-beside g c =
-    let o = g.met.P.Lat.Event.Ord in
-    let exact = name_cmp-iff g.P.Lat.Event.Ord.cmp g.met.P.Lat.Event.Plain.identical o.matches_eq o.total in
+    let exact = name_cmp-iff g.P.Lat.Event.Ord.cmp g.met.P.Lat.Event.Plain.identical g.met.P.Lat.Event.Ord.matches_eq g.met.P.Lat.Event.Ord.total in
     without_task _ c.args.board.now _ _ _ c.requires.agenda exact c.in-Some-Act.name c.in-Some.asked (sym c.in-Some.ensures.was) c.in-Some.ensures.without
 
 pub hand-requires-clause-next : goal.hand-requires-clause-next

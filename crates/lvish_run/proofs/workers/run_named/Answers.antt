@@ -1,5 +1,4 @@
-use Rattle.std.specs.List.{remove}
-use Rattle.std.proofs.Common.{◌≡◌, List, [], ◌∷◌, length, ◌∙◌, arith}
+use Rattle.std.proofs.Common.{◌≡◌, List, [], ◌∷◌, length, ◌∙◌, arith, remove}
 use Rattle.std.proofs.lemmas.List.{nil_from_length}
 use Rattle.lvish_run.proofs.workers.run_named.Goals as goal
 

@@ -1,8 +1,6 @@
-use Rattle.std.proofs.Common.{◌≤◌, length, IsTrue, true, false, sym, subst, refl, arith}
-use Rattle.std.proofs.lemmas.Bool.{eq-eqb, ne_eqb}
-use Rattle.std.proofs.lemmas.Option.{slice_get_read}
-use Rattle.std.proofs.lemmas.Option.{slice_get_within}
-use Rattle.lvish_run.proofs.Parts.{another, counted, own, next_of_own, passed}
+use Rattle.std.proofs.Common.{rules, ◌≡◌, ◌∙◌, length, IsTrue, true, false, sym, subst, refl, arith, eq-eqb, ne_eqb, eqb-true}
+use Rattle.std.proofs.lemmas.Option.{slice_get_read, slice_get_within}
+use Rattle.lvish_run.proofs.Parts.{IsLeft, another, own, next_of_own, none_left}
 use Rattle.lvish_run.proofs.own_steps.OwnSteps.is_part.Goals as goal
 use Rattle.lvish_run.proofs.own_steps.OwnSteps.is_part.Goals.{then-entry-self+else-not-has_at, else-entry-self}
 
@@ -10,28 +8,29 @@ pub returns-then-not-has_at : goal.returns-then-not-has_at
 returns-then-not-has_at c =
     let at = slice_get_read c.args.trace.now _ c.loop-entry.entry-index c.entry-item.result refl c.loop-entry-test.true c.entry-item.is in (
       (λ e. absurd (let n : ⊥ = cc in n)),
-      (λ part. let there = next_of_own _ _ c.args.trace.now c.loop-entry.made c.loop-entry.entry-index c.entry-item.result c.loop-entry.invariant.few at (eq-eqb _ _ c.if-entry-self.true) c.loop-entry.invariant.same part in
-          subst IsTrue c.if-not-has_at.true (c.has_at.ensures.1 there)),
+      (λ part. subst IsTrue c.if-not-has_at.true (c.has_at.ensures.1 (next_of_own _ _ c.args.trace.now c.loop-entry.made c.loop-entry.entry-index c.entry-item.result at c.loop-entry.invariant.left (eq-eqb _ _ c.if-entry-self.true) part))),
     )
 
 pub loop-entry-preserved : goal.loop-entry-preserved
 loop-entry-preserved c =
-    let trace = c.args.trace.now in
-    let steps = c.args.self.now.steps.items in
-    let worker = c.args.self.now.worker in
-    let at = slice_get_read trace _ c.loop-entry.entry-index c.entry-item.result refl c.loop-entry-test.true c.entry-item.is in
+    let at = slice_get_read c.args.trace.now _ c.loop-entry.entry-index c.entry-item.result refl c.loop-entry-test.true c.entry-item.is in
     elim c.if-entry-self.branch [
       | then-entry-self+else-not-has_at w ↦
           let there = w.has_at.ensures.0 (subst IsTrue (sym w.if-not-has_at.false) refl) in
-          let same = own worker steps trace c.loop-entry.made c.loop-entry.entry-index c.entry-item.result at (eq-eqb _ _ w.if-entry-self.true) there c.loop-entry.invariant.same in
           record {
-            same = counted worker steps trace c.loop-entry.made c.if-entry-self.made c.loop-entry.entry-index (omega (arith, w.made-is)) same;
-            few = omega (arith, w.made-is, slice_get_within steps c.loop-entry.made _ there);
+            few = omega (arith, w.made-is, slice_get_within c.args.self.now.steps.items c.loop-entry.made _ there);
+            left = rw w.made-is (own _ _ c.args.trace.now c.loop-entry.made c.loop-entry.entry-index c.entry-item.result at c.loop-entry.invariant.left (eq-eqb _ _ w.if-entry-self.true) there);
           }
-      | else-entry-self w ↦
-          let same = another worker steps trace c.loop-entry.made c.loop-entry.entry-index c.entry-item.result at (ne_eqb _ _ w.if-entry-self.false) c.loop-entry.invariant.same in
-          record {
-            same = passed worker steps trace c.loop-entry.made c.if-entry-self.made c.loop-entry.entry-index w.made-is same;
-            few = subst (λ m. m ≤ length steps) (sym w.made-is) c.loop-entry.invariant.few;
-          }
+      | else-entry-self w ↦ record {
+        few = rw w.made-is c.loop-entry.invariant.few;
+        left = rw w.made-is (another _ _ c.args.trace.now c.loop-entry.made c.loop-entry.entry-index c.entry-item.result at c.loop-entry.invariant.left (ne_eqb _ _ w.if-entry-self.false));
+      }
     ]
+
+pub returns : goal.returns
+returns c =
+    let end : c.loop-entry.entry-index ≡ length c.args.trace.now = omega arith in
+    let all = none_left c.args.self.now.worker c.args.self.now.steps.items c.args.trace.now c.loop-entry.made c.loop-entry.invariant.few
+    (subst (IsLeft c.args.self.now.worker c.args.self.now.steps.items c.args.trace.now c.loop-entry.made) end c.loop-entry.invariant.left) in
+    let many : c.len.result ≡ length c.args.self.now.steps.items = search rules in
+    (λ is. all.0 (eqb-true _ _ is ∙ many), λ part. eq-eqb _ _ (all.1 part ∙ sym many))

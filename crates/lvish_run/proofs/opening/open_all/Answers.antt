@@ -3,7 +3,7 @@ use Rattle.std.specs.Vec.Iter.{into_iter_items, into_iter_len}
 use Rattle.std.proofs.lemmas.List.{nil_from_length}
 use Rattle.lvish_run.specs.Agenda.{open_in, Adds}
 use Rattle.lvish_run.proofs.Agendas.{adds_none, adds_more}
-use Rattle.lvish_run.proofs.agenda.Agenda.add.Goals as goal
+use Rattle.lvish_run.proofs.opening.open_all.Goals as goal
 
 pub loop-work-init : goal.loop-work-init
 loop-work-init g c =
@@ -13,7 +13,7 @@ loop-work-init g c =
       can = tt;
       finite = tt;
       long = long;
-      adds = λ b adds. subst (λ ws. Adds ws (open_in g.P.Lat.Event.Ord.cmp c.args.self.now) b) it adds;
+      adds = λ b adds. subst (λ ws. Adds ws (open_in g.P.Lat.Event.Ord.cmp c.args.agenda.now) b) it adds;
     }
 
 pub loop-work-preserved : goal.loop-work-preserved
@@ -27,11 +27,11 @@ loop-work-preserved g c =
       can = tt;
       finite = tt;
       long = long;
-      adds = λ b adds. c.loop-work.invariant.adds b (subst (λ ws. Adds ws (open_in g.P.Lat.Event.Ord.cmp c.loop-work.self) b) (sym steps)
-          (adds_more c.in-Some.work (into_iter_items c.next.new.self) (open_in g.P.Lat.Event.Ord.cmp c.loop-work.self) (open_in g.P.Lat.Event.Ord.cmp c.open.new.self) b c.in_ok-open.ensures adds));
+      adds = λ b adds. c.loop-work.invariant.adds b (subst (λ ws. Adds ws (open_in g.P.Lat.Event.Ord.cmp c.loop-work.agenda) b) (sym steps)
+          (adds_more (c.in-Some.work ∷ []) (into_iter_items c.next.new.self) (open_in g.P.Lat.Event.Ord.cmp c.loop-work.agenda) (open_in g.P.Lat.Event.Ord.cmp c.open_one.new.agenda) b c.in_ok-open_one.ensures adds));
     }
 
 pub returns : goal.returns
 returns g c =
     let empty : into_iter_items c.loop-work.work-iterator ≡ [] = nil_from_length _ (sym c.loop-work.invariant.long ∙ c.in-None.ensures.steps.0) in
-    c.loop-work.invariant.adds (open_in g.P.Lat.Event.Ord.cmp c.loop-work.self) (subst (λ ws. Adds ws (open_in g.P.Lat.Event.Ord.cmp c.loop-work.self) (open_in g.P.Lat.Event.Ord.cmp c.loop-work.self)) (sym empty) (adds_none (open_in g.P.Lat.Event.Ord.cmp c.loop-work.self)))
+    c.loop-work.invariant.adds (open_in g.P.Lat.Event.Ord.cmp c.loop-work.agenda) (subst (λ ws. Adds ws (open_in g.P.Lat.Event.Ord.cmp c.loop-work.agenda) (open_in g.P.Lat.Event.Ord.cmp c.loop-work.agenda)) (sym empty) (adds_none (open_in g.P.Lat.Event.Ord.cmp c.loop-work.agenda)))
