@@ -24,8 +24,8 @@ use Rattle.lvish_board.specs.Listed.{IsListed, Concerns, by_handing, HasNext, ti
 use Rattle.lvish_board.specs.Woken.{IsParkedBeside}
 use Rattle.lvish_run.specs.Agenda.{Open, Adds, IsTaskOf, IsBeside, IsEmpty}
 use Rattle.lvish_run.specs.Walk.{IsEntered}
-use Rattle.lvish_core.specs.laws.Lists.{either_among, among_first, among_last}
-use Rattle.lvish_board.proofs.Among.{among_map, of_map}
+use Rattle.lvish_core.specs.laws.Lists.{either_among, among_first, among_last, among_map}
+use Rattle.lvish_board.proofs.Among.{of_map}
 use Rattle.lvish_board.proofs.Steps.{of_task, no_fault}
 use Rattle.lvish_run.proofs.Agendas.{place_in, task_of_one}
 use Rattle.lvish_run.proofs.Placed.{place, stays_at, came_by, ticket_at}

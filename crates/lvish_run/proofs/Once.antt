@@ -13,7 +13,7 @@ use Rattle.lvish_calculus.specs.Calculus.{Configuration, Running, Error, IsRun, 
 use Rattle.lvish_names.specs.Names.{Handler}
 use Rattle.lvish_calculus.specs.Handing.{IsAmong}
 use Rattle.lvish_core.specs.Labels.{label_cmp}
-use Rattle.lvish_board.proofs.Among.{all_among}
+use Rattle.lvish_core.proofs.Listing.{all_at}
 use Rattle.lvish_run.specs.Picked.{IsChoice, IsFirst, IsNamed, IsPicked}
 
 -- ---- ascending lists
@@ -23,12 +23,12 @@ module _ {K : Type 0} (c : K → K → Ordering) (apart : (x y : K) → c x y �
   heads : (x y : K) (xs ys : List K) → AllByRecursion (λ z. c x z ≡ Less) xs → AllByRecursion (λ z. c y z ≡ Less) ys → IsAmong x (y ∷ ys) → IsAmong y (x ∷ xs) → x ≡ y
   heads x y xs ys s t (inl e) j = e
   heads x y xs ys s t (inr i) (inl e) = sym e
-  heads x y xs ys s t (inr i) (inr j) = absurd (apart x y (all_among (λ z. c x z ≡ Less) xs s y j) (all_among (λ z. c y z ≡ Less) ys t x i))
+  heads x y xs ys s t (inr i) (inr j) = absurd (apart x y (all_at (λ z. c x z ≡ Less) xs s y j) (all_at (λ z. c y z ≡ Less) ys t x i))
 
   -- the other elements of two such lists
   others : (x y z : K) (xs ys : List K) → x ≡ y → AllByRecursion (λ w. c x w ≡ Less) xs → IsAmong z xs → IsAmong z (y ∷ ys) → IsAmong z ys
   others x y z xs ys e s i (inl h) =
-      let own : c x x ≡ Less = subst (λ w. c x w ≡ Less) (h ∙ sym e) (all_among (λ w. c x w ≡ Less) xs s z i) in
+      let own : c x x ≡ Less = subst (λ w. c x w ≡ Less) (h ∙ sym e) (all_at (λ w. c x w ≡ Less) xs s z i) in
       absurd (apart x x own own)
   others x y z xs ys e s i (inr j) = j
 

@@ -24,7 +24,7 @@ use Rattle.lvish_board.specs.Standing.{labels_of, Standing, OverIs, IsBoardSound
 use Rattle.lvish_calculus.specs.Live.{HasLive}
 use Rattle.lvish_run.specs.Alike.{EndsAlikeIf, IsAlike}
 use Rattle.lvish_run.specs.Walk.{IsStuck, IsWalked, IsAccount, IsHow}
-use Rattle.lvish_board.proofs.Among.{among_contains}
+use Rattle.lvish_picture.proofs.Slots.{among}
 
 -- ---- the counts of one worker
 
@@ -68,7 +68,7 @@ module _ {P S E R A L : Type 0} (M : Machine S E R A L) (c : CoreView P S E L) w
 
   -- the label that was chosen can be taken
   pub chosen_can : (cmp : E → E → Ordering) (ls : List (Label E)) (k : ℕ) (l : Label E) → AreLabels cmp M c ls → slice_get ls k ≡ Some l → CanTake M c l
-  chosen_can cmp ls k l a e = (a.just l).0 (among_contains l ls (k, slice_get_within ls k l e, get_or_from_slice_get ls k l l e))
+  chosen_can cmp ls k l a e = (a.just l).0 (among ls l (k, slice_get_within ls k l e, get_or_from_slice_get ls k l l e))
 
   -- a core without an error that has a label can go on
   pub some_label : (cmp : E → E → Ordering) (ls : List (Label E)) → c.fault ≡ None → AreLabels cmp M c ls → (length ls ≡ 0 → ⊥) → IsHow M c Budget
