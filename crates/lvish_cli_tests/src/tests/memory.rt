@@ -27,7 +27,8 @@ fn prints_or_wants_memory<R: Threads + Wait + Sync>(
 {
     let mut reader = script;
     let mut writer = willing();
-    match perform(rt, alloc, order, &mut reader, &mut writer) {
+    let status = perform(rt, alloc, order, &mut reader, &mut writer);
+    match &status {
         Status::Memory | Status::NoThread => writer.writes == 0,
         Status::Done => writer.text() == text.as_bytes(),
         _ => false,
