@@ -1,10 +1,8 @@
 ghost use Rattle.std.specs.Prelude.{◌≡◌, IfOk};
 
-use crate::identifier::Identifier;
-use crate::identifiers::Identifiers;
+use crate::identifier::{Identifier, Identifiers};
 use crate::let_value::LetValue;
-use crate::term::Term;
-use crate::terms::Terms;
+use crate::term::{Term, Terms};
 use crate::threshold::Threshold;
 use std::alloc::{AllocError, Global};
 
@@ -75,10 +73,10 @@ impl Command {
                 read.copy(alloc)?,
             ),
             Command::Fork(procedure, terms) => {
-                Command::Fork(procedure.copy(alloc)?, terms.copy(alloc)?)
+                Command::Fork(procedure.copy(alloc)?, Term::copy_all(alloc, terms)?)
             }
             Command::Call(procedure, terms) => {
-                Command::Call(procedure.copy(alloc)?, terms.copy(alloc)?)
+                Command::Call(procedure.copy(alloc)?, Term::copy_all(alloc, terms)?)
             }
             Command::Handle(pool, procedure) => {
                 Command::Handle(pool.copy(alloc)?, procedure.copy(alloc)?)
@@ -87,13 +85,13 @@ impl Command {
                 Command::Freeze(
                     local.copy(alloc)?,
                     variable.copy(alloc)?,
-                    pools.copy(alloc)?,
+                    Identifier::copy_all(alloc, pools)?,
                 )
             }
             Command::FreezeEach(local, variable, pools, procedure) => Command::FreezeEach(
                 local.copy(alloc)?,
                 variable.copy(alloc)?,
-                pools.copy(alloc)?,
+                Identifier::copy_all(alloc, pools)?,
                 procedure.copy(alloc)?,
             ),
         })

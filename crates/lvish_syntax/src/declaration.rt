@@ -2,8 +2,8 @@ ghost use Rattle.std.specs.Prelude.{◌≡◌, IfOk};
 
 use crate::identifier::Identifier;
 use crate::kind::VariableKind;
+use lvish_lattice::Items;
 use std::alloc::{AllocError, Global};
-use std::marker::Model;
 
 /// A line at the head of a script.
 #[derive(Debug)]
@@ -41,40 +41,4 @@ impl Declaration {
 }
 
 /// The declarations of a script in the order of its lines.
-#[derive(Debug)]
-pub struct Declarations {
-    items: Vec<Declaration>,
-}
-
-// Written out, so that it is proved once, and not at each exit of a function that owns one.
-impl Drop for Declarations {
-    fn drop(self) {
-        let Declarations { items: _ } = self;
-    }
-}
-
-impl Model for Declarations {
-    ghost use Rattle.std.specs.Prelude.{List};
-    ghost use Rattle.lvish_syntax.specs.declared.declaration.Declaration.{Declaration};
-
-    ghost Value = { List Declaration };
-
-    ghost view = { λ d. d.items.items };
-}
-
-impl From<Vec<Declaration>> for Declarations {
-    ghost from_gives = { λ v d. d ≡ v.items };
-
-    fn from(items: Vec<Declaration>) -> Declarations {
-        Declarations { items }
-    }
-}
-
-impl Declarations {
-    /// The declarations as a slice.
-    pub fn as_slice(&self) -> &[Declaration]
-        ensures { result.now ≡ self.now }
-    {
-        &self.items
-    }
-}
+pub type Declarations = Items<Declaration>;

@@ -2,6 +2,7 @@ ghost use Rattle.std.specs.Prelude.{◌≡◌, IfOk, string_bytes};
 ghost use Rattle.lvish_syntax.specs.Words.{is_name};
 ghost use Rattle.std.specs.Prelude.{true};
 
+use lvish_lattice::Items;
 use std::alloc::{AllocError, Global};
 use std::marker::Model;
 
@@ -45,6 +46,9 @@ impl Eq for Identifier {
     ghost laws = { text_equivalence };
 }
 
+/// Names in order.
+pub type Identifiers = Items<Identifier>;
+
 impl Identifier {
     /// The name that a word writes.
     pub fn new(alloc: Global, word: &[u8]) -> Result<Identifier, AllocError>
@@ -77,5 +81,16 @@ impl Identifier {
         ensures { IfOk result (λ n. n ≡ self.now) }
     {
         Identifier::from_text(alloc, self.as_str())
+    }
+
+    /// Equal names in the same order.
+    pub fn copy_all(alloc: Global, names: &Identifiers) -> Result<Identifiers, AllocError>
+        ensures { IfOk result (λ n. n ≡ names.now) }
+    {
+        let mut items = Vec::new(alloc);
+        for name in names.as_slice() {
+            items.push(name.copy(alloc)?)?;
+        }
+        Ok(Identifiers::from(items))
     }
 }

@@ -1,6 +1,7 @@
 ghost use Rattle.std.specs.Prelude.{◌≡◌, IfOk};
 
 use crate::identifier::Identifier;
+use lvish_lattice::Items;
 use std::alloc::{AllocError, Global};
 
 /// What stands for a number in a statement: a local or a number.
@@ -22,6 +23,9 @@ impl Drop for Term {
     }
 }
 
+/// Terms in order.
+pub type Terms = Items<Term>;
+
 impl Term {
     /// An equal term.
     pub fn copy(&self, alloc: Global) -> Result<Term, AllocError>
@@ -31,5 +35,16 @@ impl Term {
             Term::Local(name) => Ok(Term::Local(name.copy(alloc)?)),
             Term::Number(n) => Ok(Term::Number(*n)),
         }
+    }
+
+    /// Equal terms in the same order.
+    pub fn copy_all(alloc: Global, terms: &Terms) -> Result<Terms, AllocError>
+        ensures { IfOk result (λ t. t ≡ terms.now) }
+    {
+        let mut items = Vec::new(alloc);
+        for term in terms.as_slice() {
+            items.push(term.copy(alloc)?)?;
+        }
+        Ok(Terms::from(items))
     }
 }

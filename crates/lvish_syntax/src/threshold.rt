@@ -1,8 +1,11 @@
 ghost use Rattle.std.specs.Prelude.{◌≡◌, IfOk};
 
-use crate::numbers::Numbers;
 use crate::term::Term;
+use lvish_lattice::Items;
 use std::alloc::{AllocError, Global};
+
+/// Numbers in order.
+pub type Numbers = Items<i64>;
 
 /// What a `get` waits for.
 #[derive(Debug, PartialEq, Eq)]
