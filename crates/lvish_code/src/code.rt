@@ -2,10 +2,9 @@ ghost use Rattle.std.specs.Prelude.{◌≡◌};
 ghost use Rattle.lvish_code.specs.Sound.{IsCodeSound};
 
 use crate::compile::routines_of;
-use crate::indices::Indices;
-use crate::kinds::Kinds;
+use crate::instruction::Indices;
 use crate::routine::{Routine, Routines};
-use crate::tables::{Tables, pool_variables};
+use crate::tables::{Kinds, Tables, pool_variables};
 use lvish_syntax::{Script, VariableKind};
 use std::alloc::{AllocError, Global};
 use std::marker::Model;

@@ -1,11 +1,11 @@
-ghost use Rattle.std.specs.Prelude.{◌≡◌};
-
 use crate::expression::Expression;
-use crate::indices::Indices;
 use crate::operand::{Operand, Operands};
 use crate::target::Target;
 use crate::wanted::Wanted;
-use std::marker::Model;
+use lvish_lattice::Items;
+
+/// Numbers of variables or of pools, in order.
+pub type Indices = Items<usize>;
 
 /// What a task asks the others for. Variables, pools, procedures and locals are numbers, from 0.
 #[derive(Debug)]
@@ -73,38 +73,4 @@ impl Drop for Instruction {
 }
 
 /// Instructions in order.
-#[derive(Debug)]
-pub struct Instructions {
-    items: Vec<Instruction>,
-}
-
-// Written out, so that it is proved once, and not at each exit of a function that owns one.
-impl Drop for Instructions {
-    fn drop(self) {
-        let Instructions { items: _ } = self;
-    }
-}
-
-impl Model for Instructions {
-    ghost use Rattle.std.specs.Prelude.{List};
-    ghost use Rattle.lvish_code.specs.declared.instruction.Instruction.{Instruction};
-
-    ghost Value = { List Instruction };
-
-    ghost view = { λ i. i.items.items };
-}
-
-impl Instructions {
-    pub(crate) fn new(items: Vec<Instruction>) -> Instructions
-        ensures { result ≡ items.items }
-    {
-        Instructions { items }
-    }
-
-    /// The instructions as a slice.
-    pub fn as_slice(&self) -> &[Instruction]
-        ensures { result.now ≡ self.now }
-    {
-        &self.items
-    }
-}
+pub type Instructions = Items<Instruction>;

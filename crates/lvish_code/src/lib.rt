@@ -8,9 +8,7 @@
 mod code;
 mod compile;
 mod expression;
-mod indices;
 mod instruction;
-mod kinds;
 pub mod laws;
 mod locals;
 mod numbering;
@@ -23,8 +21,7 @@ mod wanted;
 
 pub use code::Code;
 pub use expression::Expression;
-pub use indices::Indices;
-pub use instruction::{Action, Instruction, Instructions};
+pub use instruction::{Action, Indices, Instruction, Instructions};
 pub use operand::{Operand, Operands};
 pub use routine::Routine;
 pub use target::{Side, Target};

@@ -1,6 +1,4 @@
-ghost use Rattle.std.specs.Prelude.{◌≡◌};
-
-use std::marker::Model;
+use lvish_lattice::Items;
 
 /// What stands for a number in an instruction.
 #[derive(Clone, Copy, Debug, PartialEq, Eq)]
@@ -12,38 +10,4 @@ pub enum Operand {
 }
 
 /// Operands in order.
-#[derive(Debug)]
-pub struct Operands {
-    items: Vec<Operand>,
-}
-
-// Written out, so that it is proved once, and not at each exit of a function that owns one.
-impl Drop for Operands {
-    fn drop(self) {
-        let Operands { items: _ } = self;
-    }
-}
-
-impl Model for Operands {
-    ghost use Rattle.std.specs.Prelude.{List};
-    ghost use Rattle.lvish_code.specs.declared.operand.Operand.{Operand};
-
-    ghost Value = { List Operand };
-
-    ghost view = { λ o. o.items.items };
-}
-
-impl Operands {
-    pub(crate) fn new(items: Vec<Operand>) -> Operands
-        ensures { result ≡ items.items }
-    {
-        Operands { items }
-    }
-
-    /// The operands as a slice.
-    pub fn as_slice(&self) -> &[Operand]
-        ensures { result.now ≡ self.now }
-    {
-        &self.items
-    }
-}
+pub type Operands = Items<Operand>;

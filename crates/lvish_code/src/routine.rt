@@ -1,7 +1,5 @@
-ghost use Rattle.std.specs.Prelude.{◌≡◌};
-
 use crate::instruction::Instructions;
-use std::marker::Model;
+use lvish_lattice::Items;
 
 /// The flat code of a procedure. Its parameters are the first of its locals.
 #[derive(Debug)]
@@ -23,38 +21,4 @@ impl Drop for Routine {
 }
 
 /// Routines by number.
-#[derive(Debug)]
-pub struct Routines {
-    items: Vec<Routine>,
-}
-
-// Written out, so that it is proved once, and not at each exit of a function that owns one.
-impl Drop for Routines {
-    fn drop(self) {
-        let Routines { items: _ } = self;
-    }
-}
-
-impl Model for Routines {
-    ghost use Rattle.std.specs.Prelude.{List};
-    ghost use Rattle.lvish_code.specs.declared.routine.Routine.{Routine};
-
-    ghost Value = { List Routine };
-
-    ghost view = { λ r. r.items.items };
-}
-
-impl Routines {
-    pub(crate) fn new(items: Vec<Routine>) -> Routines
-        ensures { result ≡ items.items }
-    {
-        Routines { items }
-    }
-
-    /// The routines as a slice.
-    pub fn as_slice(&self) -> &[Routine]
-        ensures { result.now ≡ self.now }
-    {
-        &self.items
-    }
-}
+pub type Routines = Items<Routine>;

@@ -1,6 +1,5 @@
 use crate::expression::Expression;
-use crate::indices::Indices;
-use crate::instruction::{Action, Instruction};
+use crate::instruction::{Action, Indices, Instruction};
 use crate::numbering::Numbering;
 use crate::operand::{Operand, Operands};
 use crate::tables::Tables;

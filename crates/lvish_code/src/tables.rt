@@ -3,11 +3,14 @@ ghost use Rattle.lvish_syntax.specs.Sound.{variable_names, pool_names, procedure
 ghost use Rattle.lvish_code.specs.Numbering.{each_once};
 ghost use Rattle.lvish_code.specs.Compile.{variable_kinds, pool_variables};
 
-use crate::indices::Indices;
-use crate::kinds::Kinds;
+use crate::instruction::Indices;
 use crate::numbering::Numbering;
-use lvish_syntax::{Declaration, Procedure};
+use lvish_lattice::Items;
+use lvish_syntax::{Declaration, Procedure, VariableKind};
 use std::alloc::{AllocError, Global};
+
+/// The kinds of variables, by number.
+pub type Kinds = Items<VariableKind>;
 
 /// The numbers of all that a script declares, and the kinds of its variables.
 #[derive(Drop)]
