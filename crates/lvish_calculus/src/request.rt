@@ -1,7 +1,4 @@
-ghost use Rattle.std.specs.Prelude.{◌≡◌, IfOk};
-
-use std::alloc::{AllocError, Global};
-use std::marker::Model;
+use lvish_lattice::Items;
 
 /// What can go wrong.
 #[derive(Clone, Copy, Debug, PartialEq, Eq)]
@@ -23,54 +20,7 @@ pub enum ErrorKind {
 }
 
 /// The pools that a freeze names, by number.
-#[derive(Debug)]
-pub struct Pools {
-    items: Vec<usize>,
-}
-
-// Written out, so that it is proved once, and not at each exit of a function that owns one.
-impl Drop for Pools {
-    fn drop(self) {
-        let Pools { items: _ } = self;
-    }
-}
-
-impl Model for Pools {
-    ghost use Rattle.std.specs.Prelude.{List, ℕ};
-
-    ghost Value = { List ℕ };
-
-    ghost view = { λ p. p.items.items };
-}
-
-impl From<Vec<usize>> for Pools {
-    ghost from_gives = { λ items pools. pools ≡ items.items };
-
-    fn from(items: Vec<usize>) -> Pools {
-        Pools { items }
-    }
-}
-
-impl Pools {
-    /// The pools' numbers, in the order in which they were given.
-    pub fn as_slice(&self) -> &[usize]
-        ensures { result.now ≡ self.now }
-    {
-        &self.items
-    }
-
-    /// The same pools.
-    ///
-    /// # Errors
-    ///
-    /// Where there is no room for them.
-    pub fn copy(&self, alloc: Global) -> Result<Pools, AllocError>
-        ensures { IfOk result (λ p. p ≡ self.now) }
-    {
-        let items = Vec::from_slice(alloc, &self.items)?;
-        Ok(Pools { items })
-    }
-}
+pub type Pools = Items<usize>;
 
 /// What a task asks for: over states `S`, reads `R` and local states `L`.
 #[derive(Debug)]
