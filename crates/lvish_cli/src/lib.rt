@@ -6,7 +6,6 @@ mod commands;
 mod lines;
 mod order;
 mod performing;
-mod picks;
 mod program;
 mod reading;
 mod running;
@@ -15,9 +14,8 @@ mod words;
 mod writing;
 
 pub use answering::{Output, answer_to};
-pub use order::{Order, Source, UsageFault};
+pub use order::{Order, Picks, Source, UsageFault};
 pub use performing::perform;
-pub use picks::Picks;
 pub use program::command;
 pub use reading::{MOST_READ, ReadFault, read_text};
 pub use status::Status;

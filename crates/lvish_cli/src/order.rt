@@ -1,8 +1,11 @@
 ghost use Rattle.std.specs.Prelude.{◌≡◌};
 
-use crate::picks::Picks;
+use lvish_lattice::Items;
 use std::alloc::AllocError;
 use thiserror::Error;
+
+/// Numbers that pick the steps of a run, in the order of the steps.
+pub type Picks = Items<u64>;
 
 /// What the words ask for.
 #[derive(Debug, PartialEq)]

@@ -2,8 +2,7 @@ ghost use Rattle.std.specs.Prelude.{◌≡◌, ◌≤◌, [], false, true, IfOk,
 ghost use Rattle.lvish_cli.specs.Orders.{IsInBounds};
 
 use crate::commands::{USUAL_STEPS, USUAL_WORKERS, program};
-use crate::order::{Order, Source, UsageFault};
-use crate::picks::Picks;
+use crate::order::{Order, Picks, Source, UsageFault};
 use clap::error::ErrorKind;
 use clap::{ArgMatches, Error};
 use lvish_run::{MOST_STEPS, MOST_WORKERS};

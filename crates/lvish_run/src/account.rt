@@ -1,10 +1,7 @@
 ghost use Rattle.std.specs.Prelude.{◌≡◌, IfOk};
 ghost use Rattle.lvish_run.specs.Walk.{IsHow, IsAccount, AreCopies};
 
-use crate::counts::Counts;
-use crate::report::{FinalState, Report};
-use crate::states::States;
-use crate::trace::Trace;
+use crate::report::{Counts, FinalState, Report, States, Trace};
 use lvish_board::{Outcome, TraceEntry};
 use lvish_calculus::{Meaning, Program};
 use lvish_core::{Core, RunError};

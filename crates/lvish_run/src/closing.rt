@@ -8,9 +8,8 @@ ghost use Rattle.lvish_run.specs.Alike.{IsAlike};
 
 use crate::account::account_of;
 use crate::count_by_worker::count_by_worker;
-use crate::counts::Counts;
 use crate::fault::RunFault;
-use crate::report::Report;
+use crate::report::{Counts, Report};
 use lvish_board::{Board, Named, Outcome};
 use lvish_calculus::laws::{handing_kept, same_end};
 use lvish_calculus::{Meaning, Program};

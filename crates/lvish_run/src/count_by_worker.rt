@@ -1,8 +1,8 @@
 ghost use Rattle.std.specs.Prelude.{◌≡◌, ◌≢◌, ◌==◌, IfOk, count_by};
 ghost use Rattle.lvish_run.specs.Honest.{IsCountByWorker};
 
-use crate::counts::Counts;
 use crate::fault::RunFault;
+use crate::report::Counts;
 use lvish_board::TraceEntry;
 use std::alloc::Global;
 

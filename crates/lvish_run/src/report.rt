@@ -1,7 +1,5 @@
-use crate::counts::Counts;
-use crate::states::States;
-use crate::trace::Trace;
-use lvish_board::Outcome;
+use lvish_board::{Outcome, TraceEntry};
+use lvish_lattice::Items;
 
 /// A variable's content, and whether it is frozen.
 #[derive(Debug)]
@@ -19,6 +17,15 @@ impl<S: Drop> Drop for FinalState<S> {
         } = self;
     }
 }
+
+/// The states of the variables, in their order.
+pub type States<S> = Items<FinalState<S>>;
+
+/// The steps of a run, in their order.
+pub type Trace<E> = Items<TraceEntry<E>>;
+
+/// Numbers by worker, in the order of the workers.
+pub type Counts = Items<u64>;
 
 /// What a run came to, over states `S` and events `E`.
 #[derive(Debug)]

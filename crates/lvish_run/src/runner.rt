@@ -13,11 +13,10 @@ ghost use Rattle.lvish_run.specs.Walk.{IsStuck, IsDrawn, IsFirstHandler, IsTurn,
 use crate::account::outcome_of;
 use crate::agenda::Agenda;
 use crate::closing::told;
-use crate::counts::Counts;
 use crate::limits::MOST_STEPS;
 use crate::opening::open_one;
 use crate::picks::pick_at;
-use crate::report::Report;
+use crate::report::{Counts, Report};
 use crate::turn::{act, hand, is_sound};
 use lvish_board::{Board, Named};
 use lvish_calculus::laws::lawful;
