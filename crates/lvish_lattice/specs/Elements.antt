@@ -1,6 +1,9 @@
--- What is stored of a set, and what its iterator has left: at most one element, or those of a tree.
-use Rattle.std.specs.Prelude.{List, [], ◌∷◌, Option, Some, None}
+-- What is stored of a set, and what its iterator has left: at most one element, or those of a row or of a tree.
+use Rattle.std.specs.Prelude.{◌≡◌, ◌-◌, List, [], ◌∷◌, Option, Some, None, MatchOption, ⊤, length, slice_get}
+use Rattle.std.specs.declared.cmp.Ordering.{Ordering}
+use Rattle.std.specs.declared.cmp.Ordering.TheVariants.{Less}
 use Rattle.std.specs.Option.{option_copied}
+use Rattle.std.specs.Slice.Iter.{iter_rest}
 use Rattle.lvish_lattice.specs.declared.elements.Stored.{Stored}
 use Rattle.lvish_lattice.specs.declared.elements.Stored.TheVariants as stored
 use Rattle.lvish_lattice.specs.declared.set_iter.Rest.{Rest}
@@ -15,9 +18,15 @@ module _ {V : Type 0} where
   -- the elements in their order
   abbrev pub elements : Stored V → List V
   elements (stored.Few held) = few held
+  elements (stored.Row row) = row
   elements (stored.Tree tree) = tree.keys
 
   -- those that are left
   abbrev pub left : Rest V → List V
   left (rest.Few held) = few (option_copied held)
+  left (rest.Row items) = iter_rest items
   left (rest.Tree keys) = keys
+
+  -- the last element, if there is one, is below x
+  abbrev pub EndsBelow : (V → V → Ordering) → V → List V → Type 0
+  EndsBelow cmp x xs = MatchOption (slice_get xs (length xs - 1)) ⊤ (λ last. cmp last x ≡ Less)

@@ -6,15 +6,19 @@ ghost use Rattle.std.specs.List.Sorted.{IsStrictlySortedBy};
 ghost use Rattle.lvish_lattice.specs.Elements.{few, elements};
 
 use crate::lattice::Plain;
+use crate::row::Row;
 use crate::set_iter::SetIter;
 use std::alloc::{AllocError, Global};
+use std::cmp::Ordering;
 use std::collections::BTreeSet;
 use std::marker::Model;
 
-/// At most one element in place, as most puts have it, or a tree.
+/// At most one element in place, as most puts have it; a row, as long as each further element comes
+/// behind the others; else a tree.
 #[derive(Debug)]
 pub(crate) enum Stored<V: Ord> {
     Few(Option<V>),
+    Row(Row<V>),
     Tree(BTreeSet<V>),
 }
 
@@ -23,6 +27,7 @@ impl<V: Ord + Drop> Drop for Stored<V> {
     fn drop(self) {
         match self {
             Stored::Few(_) => {}
+            Stored::Row(_) => {}
             Stored::Tree(_) => {}
         }
     }
@@ -69,14 +74,34 @@ fn tree_of_two<V: Plain>(alloc: Global, x: V, y: V) -> Result<BTreeSet<V>, Alloc
     Ok(tree)
 }
 
+/// A tree of the elements of a row.
+fn tree_of_row<V: Plain>(alloc: Global, row: &Row<V>) -> Result<BTreeSet<V>, AllocError>
+    ensures made { IfOk result (λ t. IsFromIterResult V.cmp row.now t) }
+    ensures ascending { IsStrictlySortedBy V.cmp row.now }
+{
+    row.as_slice().iter().copied().collect::<BTreeSet<V>>(alloc)
+}
+
+/// A row with an element that doesn't come behind the others.
+fn broken<V: Plain>(alloc: Global, row: &Row<V>, x: V) -> Result<Stored<V>, AllocError>
+    ensures { IfOk result (λ s. elements s ≡ sorted_merge V.cmp true (x ∷ []) row.now) }
+{
+    let mut tree = tree_of_row(alloc, row)?;
+    put_in_tree(&mut tree, x)?;
+    Ok(Stored::Tree(tree))
+}
+
 /// At most one element, with another.
 fn grown<V: Plain>(alloc: Global, held: Option<V>, x: V) -> Result<Stored<V>, AllocError>
     ensures { IfOk result (λ s. elements s ≡ sorted_merge V.cmp true (x ∷ []) (few held)) }
 {
-    match held {
-        None => Ok(Stored::Few(Some(x))),
-        Some(y) if x == y => Ok(Stored::Few(Some(y))),
-        Some(y) => Ok(Stored::Tree(tree_of_two(alloc, x, y)?)),
+    let Some(y) = held else {
+        return Ok(Stored::Few(Some(x)));
+    };
+    match y.cmp(&x) {
+        Ordering::Less => Ok(Stored::Row(Row::of_two(alloc, y, x)?)),
+        Ordering::Equal => Ok(Stored::Few(Some(y))),
+        Ordering::Greater => Ok(Stored::Tree(tree_of_two(alloc, x, y)?)),
     }
 }
 
@@ -116,6 +141,7 @@ impl<V: Plain> Elements<V> {
     {
         match &self.stored {
             Stored::Few(held) => SetIter::of_few(held.as_ref()),
+            Stored::Row(row) => SetIter::of_row(row.as_slice().iter()),
             Stored::Tree(tree) => SetIter::of_tree(tree.iter()),
         }
     }
@@ -126,6 +152,7 @@ impl<V: Plain> Elements<V> {
         match &self.stored {
             Stored::Few(None) => 0,
             Stored::Few(Some(_)) => 1,
+            Stored::Row(row) => row.as_slice().len(),
             Stored::Tree(tree) => tree.len(),
         }
     }
@@ -136,7 +163,7 @@ impl<V: Plain> Elements<V> {
     {
         match &self.stored {
             Stored::Few(held) => *held,
-            Stored::Tree(_) => None,
+            Stored::Row(_) | Stored::Tree(_) => None,
         }
     }
 
@@ -146,6 +173,7 @@ impl<V: Plain> Elements<V> {
         match &self.stored {
             Stored::Few(None) => false,
             Stored::Few(Some(y)) => x == *y,
+            Stored::Row(row) => row.has(x),
             Stored::Tree(tree) => tree.contains(&x),
         }
     }
@@ -155,11 +183,13 @@ impl<V: Plain> Elements<V> {
         ensures put { IfOk result (λ _. self.new ≡ sorted_merge V.cmp true (x ∷ []) self.old) }
         ensures refused { IfErr result (λ _. self.new ≡ self.old) }
     {
-        let held = match &mut self.stored {
-            Stored::Few(held) => *held,
+        self.stored = match &mut self.stored {
+            Stored::Few(held) => grown(alloc, *held, x)?,
+            Stored::Row(row) if row.ends_below(x) => return row.push(x),
+            Stored::Row(row) if row.has(x) => return Ok(()),
+            Stored::Row(row) => broken(alloc, row, x)?,
             Stored::Tree(tree) => return put_in_tree(tree, x),
         };
-        self.stored = grown(alloc, held, x)?;
         Ok(())
     }
 
@@ -197,6 +227,9 @@ impl<V: Plain> Elements<V> {
         match &self.stored {
             Stored::Few(held) => Ok(Elements {
                 stored: Stored::Few(*held),
+            }),
+            Stored::Row(row) => Ok(Elements {
+                stored: Stored::Row(row.copy(alloc)?),
             }),
             Stored::Tree(tree) => Ok(Elements {
                 stored: Stored::Tree(tree_copy(alloc, tree)?),

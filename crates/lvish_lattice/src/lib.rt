@@ -38,6 +38,7 @@ mod limits;
 mod max_counter;
 mod numbered;
 mod reads;
+mod row;
 mod set_iter;
 mod tuples;
 

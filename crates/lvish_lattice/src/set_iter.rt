@@ -1,16 +1,19 @@
 ghost use Rattle.std.specs.Prelude.{◌≡◌, length};
 ghost use Rattle.std.specs.Iterator.{at_most};
 ghost use Rattle.std.specs.Option.{option_copied};
+ghost use Rattle.std.specs.Slice.Iter.{iter_rest};
 ghost use Rattle.std.specs.Map.Iter.{TakesFirst, deref};
 ghost use Rattle.lvish_lattice.specs.Elements.{few};
 
 use std::collections::btree_set;
 use std::marker::Model;
+use std::slice;
 
-/// What is left of at most one element, or of a tree.
+/// What is left of at most one element, of a row, or of a tree.
 #[derive(Drop)]
 pub(crate) enum Rest<'a, V> {
     Few(Option<&'a V>),
+    Row(slice::Iter<'a, V>),
     Tree(btree_set::Iter<'a, V>),
 }
 
@@ -39,6 +42,15 @@ impl<'a, V> SetIter<'a, V> {
         }
     }
 
+    /// The elements of a row.
+    pub(crate) fn of_row(items: slice::Iter<'a, V>) -> SetIter<'a, V>
+        ensures { result ≡ iter_rest items.entry }
+    {
+        SetIter {
+            rest: Rest::Row(items),
+        }
+    }
+
     /// The elements of a tree.
     pub(crate) fn of_tree(keys: btree_set::Iter<'a, V>) -> SetIter<'a, V>
         ensures { result ≡ keys.entry }
@@ -59,6 +71,7 @@ impl<'a, V> Iterator for SetIter<'a, V> {
     fn next(&mut self) -> Option<&'a V> {
         match &mut self.rest {
             Rest::Few(held) => held.take(),
+            Rest::Row(items) => items.next(),
             Rest::Tree(keys) => keys.next(),
         }
     }

@@ -1,0 +1,90 @@
+ghost use Rattle.std.specs.Prelude.{◌≡◌, ◌↔◌, [], ◌∷◌, IfOk, IfErr, IsTrue, length, true};
+ghost use Rattle.std.specs.Set.{sorted_merge, is_member};
+ghost use Rattle.std.specs.declared.cmp.Ordering.TheVariants.{Less};
+ghost use Rattle.std.specs.List.Sorted.{IsStrictlySortedBy};
+ghost use Rattle.lvish_lattice.specs.Elements.{EndsBelow};
+
+use crate::lattice::Plain;
+use std::alloc::{AllocError, Global};
+use std::marker::Model;
+
+/// Elements that came in ascending order: each stands behind those that came before it.
+#[derive(Debug)]
+pub(crate) struct Row<V: Ord> {
+    items: Vec<V>,
+}
+
+// Written out, so that it is proved once, and not at each exit of a function that owns one.
+impl<V: Ord + Drop> Drop for Row<V> {
+    fn drop(self) {
+        let Row { items: _ } = self;
+    }
+}
+
+impl<V: Ord> Model for Row<V> {
+    ghost use Rattle.std.specs.Prelude.{List};
+    ghost use Rattle.std.specs.List.Sorted.{IsStrictlySortedBy, IsStrictlySortedBy-prop};
+
+    ghost Value = { List V };
+
+    ghost view = { λ r. r.items.items };
+
+    ghost invariant = { λ r. IsStrictlySortedBy V.cmp r.items.items };
+}
+
+impl<V: Plain> Row<V> {
+    /// The two in this order.
+    pub fn of_two(alloc: Global, first: V, second: V) -> Result<Row<V>, AllocError>
+        requires { V.cmp first second ≡ Less }
+        ensures { IfOk result (λ r. r ≡ first ∷ second ∷ []) }
+    {
+        let mut items = Vec::with_capacity(alloc, 2)?;
+        items.push(first)?;
+        items.push(second)?;
+        Ok(Row { items })
+    }
+
+    /// The elements in ascending order.
+    pub fn as_slice(&self) -> &[V]
+        ensures same { result.now ≡ self.now }
+        ensures ascending { IsStrictlySortedBy V.cmp self.now }
+    {
+        &self.items
+    }
+
+    /// Whether all are below this one.
+    pub fn ends_below(&self, x: V) -> bool
+        ensures { IsTrue result ↔ EndsBelow V.cmp x self.now }
+    {
+        match self.items.last() {
+            Some(last) => *last < x,
+            None => true,
+        }
+    }
+
+    /// Puts an element behind all others.
+    pub fn push(&mut self, x: V) -> Result<(), AllocError>
+        requires { EndsBelow V.cmp x self.old }
+        ensures put { IfOk result (λ _. self.new ≡ sorted_merge V.cmp true (x ∷ []) self.old) }
+        ensures refused { IfErr result (λ _. self.new ≡ self.old) }
+    {
+        self.items.push(x)?;
+        Ok(())
+    }
+
+    /// Whether the element is there, so that a put of it changes nothing.
+    pub fn has(&self, x: V) -> bool
+        ensures member { result ≡ is_member V.eq self.now x }
+        ensures put { IsTrue result → sorted_merge V.cmp true (x ∷ []) self.now ≡ self.now }
+    {
+        self.items.binary_search(&x).is_ok()
+    }
+
+    pub fn copy(&self, alloc: Global) -> Result<Row<V>, AllocError>
+        ensures { IfOk result (λ r. r ≡ self.now) }
+    {
+        Ok(Row {
+            items: Vec::from_slice(alloc, &self.items)?,
+        })
+    }
+}
