@@ -14,3 +14,4 @@ pub mod Values
 pub mod Decimals
 pub mod Meanings
 pub mod Spelled
+mod Beginnings

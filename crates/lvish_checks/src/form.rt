@@ -8,7 +8,9 @@ mod term;
 mod threshold;
 mod version;
 
-ghost use Rattle.std.specs.Prelude.{◌≡◌, IfOk, map};
+ghost use Rattle.std.specs.Prelude.{◌≡◌, ◌∷◌, [], IfOk, codes, map};
+ghost use Rattle.std.specs.List.{list_any};
+ghost use Rattle.std.specs.Str.{bytes_eq};
 ghost use Rattle.lvish_checks.specs.Form.{begins_declaration, begins_command, line_of};
 
 use crate::line::Line;
@@ -19,29 +21,59 @@ use declaration::declaration_form;
 use std::alloc::{AllocError, Global};
 use version::version_line;
 
+fn is_set_max_or_map(word: &[u8]) -> bool
+    ensures { result ≡ list_any (bytes_eq word.now) (codes "set" ∷ codes "max" ∷ codes "map" ∷ []) }
+{
+    is(word, b"set") || is(word, b"max") || is(word, b"map")
+}
+
+fn is_cell_pair_pool_or_proc(word: &[u8]) -> bool
+    ensures { result ≡ list_any (bytes_eq word.now) (codes "cell" ∷ codes "pair" ∷ codes "pool" ∷ codes "proc" ∷ []) }
+{
+    is(word, b"cell") || is(word, b"pair") || is(word, b"pool") || is(word, b"proc")
+}
+
+fn is_let_put_or_get(word: &[u8]) -> bool
+    ensures { result ≡ list_any (bytes_eq word.now) (codes "let" ∷ codes "put" ∷ codes "get" ∷ []) }
+{
+    is(word, b"let") || is(word, b"put") || is(word, b"get")
+}
+
+fn is_fork_or_call(word: &[u8]) -> bool
+    ensures { result ≡ list_any (bytes_eq word.now) (codes "fork" ∷ codes "call" ∷ []) }
+{
+    is(word, b"fork") || is(word, b"call")
+}
+
+fn is_handle_or_freeze(word: &[u8]) -> bool
+    ensures { result ≡ list_any (bytes_eq word.now) (codes "handle" ∷ codes "freeze" ∷ []) }
+{
+    is(word, b"handle") || is(word, b"freeze")
+}
+
+/// Whether a line begins a declaration with this word: it is compared with those of its length alone,
+/// since each line comes here.
 fn begins_declaration(word: &[u8]) -> bool
     ensures { result ≡ begins_declaration word.now }
 {
-    is(word, b"cell")
-        || is(word, b"set")
-        || is(word, b"max")
-        || is(word, b"map")
-        || is(word, b"pair")
-        || is(word, b"tally")
-        || is(word, b"pool")
-        || is(word, b"proc")
+    match word.len() {
+        3 => is_set_max_or_map(word),
+        4 => is_cell_pair_pool_or_proc(word),
+        5 => is(word, b"tally"),
+        _ => false,
+    }
 }
 
+/// Whether a statement of one line begins with this word.
 fn begins_command(word: &[u8]) -> bool
     ensures { result ≡ begins_command word.now }
 {
-    is(word, b"let")
-        || is(word, b"put")
-        || is(word, b"get")
-        || is(word, b"fork")
-        || is(word, b"call")
-        || is(word, b"handle")
-        || is(word, b"freeze")
+    match word.len() {
+        3 => is_let_put_or_get(word),
+        4 => is_fork_or_call(word),
+        6 => is_handle_or_freeze(word),
+        _ => false,
+    }
 }
 
 /// What a line with these words says: `Bad` where they have none of the forms.

@@ -1,5 +1,5 @@
 -- Words that are names.
-use Rattle.std.proofs.Common.{◌≡◌, ℕ, ◌<◌, true, not, ◌&&◌, [], ◌∷◌, length, arith}
+use Rattle.std.proofs.Common.{◌≡◌, ℕ, ◌<◌, ◌≤◌, true, not, ◌&&◌, [], ◌∷◌, length, arith}
 use Rattle.std.specs.Prelude.{nat_le}
 use Rattle.std.proofs.lemmas.Bool.{and_parts}
 use Rattle.std.proofs.lemmas.Bool.Decides.{nat_tests}
@@ -22,3 +22,11 @@ unfolding is_name
 text_from_name w e =
     let all : (begins_name w && nat_le (length w) 32 && list_all is_name_byte w && not (is_reserved w)) ≡ true = e in
     IsUtf8-from_ascii w (bytes_below w (and_parts (begins_name w && nat_le (length w) 32) _ (and_parts (begins_name w && nat_le (length w) 32 && list_all is_name_byte w) _ all).0).1)
+
+-- and has at most 32 bytes
+pub short_name : (w : Word) → is_name w ≡ true → length w ≤ 32
+unfolding is_name
+short_name w e =
+    let all : (begins_name w && nat_le (length w) 32 && list_all is_name_byte w && not (is_reserved w)) ≡ true = e in
+    let few = (and_parts (begins_name w) _ (and_parts (begins_name w && nat_le (length w) 32) _ (and_parts (begins_name w && nat_le (length w) 32 && list_all is_name_byte w) _ all).0).0).1 in
+    grind (arith, nat_tests, few)

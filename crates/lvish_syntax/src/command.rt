@@ -58,41 +58,39 @@ impl Command {
         ensures { IfOk result (λ c. c ≡ self.now) }
     {
         Ok(match self {
-            Command::Let(local, value) => Command::Let(local.copy(alloc)?, value.copy(alloc)?),
-            Command::Put(variable, term) => Command::Put(variable.copy(alloc)?, term.copy(alloc)?),
+            Command::Let(local, value) => Command::Let(local.copy(), value.copy()),
+            Command::Put(variable, term) => Command::Put(variable.copy(), term.copy()),
             Command::PutAt(variable, place, term) => {
-                Command::PutAt(variable.copy(alloc)?, place.copy(alloc)?, term.copy(alloc)?)
+                Command::PutAt(variable.copy(), place.copy(), term.copy())
             }
             Command::Get(local, variable, read) => {
-                Command::Get(local.copy(alloc)?, variable.copy(alloc)?, read.copy(alloc)?)
+                Command::Get(local.copy(), variable.copy(), read.copy(alloc)?)
             }
             Command::GetAt(local, variable, place, read) => Command::GetAt(
-                local.copy(alloc)?,
-                variable.copy(alloc)?,
-                place.copy(alloc)?,
+                local.copy(),
+                variable.copy(),
+                place.copy(),
                 read.copy(alloc)?,
             ),
             Command::Fork(procedure, terms) => {
-                Command::Fork(procedure.copy(alloc)?, Term::copy_all(alloc, terms)?)
+                Command::Fork(procedure.copy(), Term::copy_all(alloc, terms)?)
             }
             Command::Call(procedure, terms) => {
-                Command::Call(procedure.copy(alloc)?, Term::copy_all(alloc, terms)?)
+                Command::Call(procedure.copy(), Term::copy_all(alloc, terms)?)
             }
-            Command::Handle(pool, procedure) => {
-                Command::Handle(pool.copy(alloc)?, procedure.copy(alloc)?)
-            }
+            Command::Handle(pool, procedure) => { Command::Handle(pool.copy(), procedure.copy()) }
             Command::Freeze(local, variable, pools) => {
                 Command::Freeze(
-                    local.copy(alloc)?,
-                    variable.copy(alloc)?,
+                    local.copy(),
+                    variable.copy(),
                     Identifier::copy_all(alloc, pools)?,
                 )
             }
             Command::FreezeEach(local, variable, pools, procedure) => Command::FreezeEach(
-                local.copy(alloc)?,
-                variable.copy(alloc)?,
+                local.copy(),
+                variable.copy(),
                 Identifier::copy_all(alloc, pools)?,
-                procedure.copy(alloc)?,
+                procedure.copy(),
             ),
         })
     }

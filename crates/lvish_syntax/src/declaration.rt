@@ -1,9 +1,8 @@
-ghost use Rattle.std.specs.Prelude.{◌≡◌, IfOk};
+ghost use Rattle.std.specs.Prelude.{◌≡◌};
 
 use crate::identifier::Identifier;
 use crate::kind::VariableKind;
 use lvish_lattice::Items;
-use std::alloc::{AllocError, Global};
 
 /// A line at the head of a script.
 #[derive(Debug)]
@@ -25,17 +24,13 @@ impl Drop for Declaration {
 }
 
 impl Declaration {
-    /// An equal declaration.
-    pub fn copy(&self, alloc: Global) -> Result<Declaration, AllocError>
-        ensures { IfOk result (λ d. d ≡ self.now) }
+    /// An equal declaration, which takes no memory.
+    pub fn copy(&self) -> Declaration
+        ensures { result ≡ self.now }
     {
         match self {
-            Declaration::Variable(name, kind) => {
-                Ok(Declaration::Variable(name.copy(alloc)?, *kind))
-            }
-            Declaration::Pool(pool, variable) => {
-                Ok(Declaration::Pool(pool.copy(alloc)?, variable.copy(alloc)?))
-            }
+            Declaration::Variable(name, kind) => Declaration::Variable(name.copy(), *kind),
+            Declaration::Pool(pool, variable) => Declaration::Pool(pool.copy(), variable.copy()),
         }
     }
 }

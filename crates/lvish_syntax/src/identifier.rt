@@ -1,7 +1,8 @@
-ghost use Rattle.std.specs.Prelude.{◌≡◌, IfOk, string_bytes};
+ghost use Rattle.std.specs.Prelude.{◌≡◌, ◌≤◌, IfOk, length, true};
 ghost use Rattle.lvish_syntax.specs.Words.{is_name};
-ghost use Rattle.std.specs.Prelude.{true};
 
+use crate::limits::MOST_IN_NAME;
+use arrayvec::ArrayString;
 use lvish_lattice::Items;
 use std::alloc::{AllocError, Global};
 use std::marker::Model;
@@ -9,7 +10,7 @@ use std::marker::Model;
 /// The name of a variable, a procedure or a local, seen as its bytes.
 #[derive(Debug)]
 pub struct Identifier {
-    text: String,
+    text: ArrayString<MOST_IN_NAME>,
 }
 
 // Written out, so that it is proved once, and not at each exit of a function that owns one.
@@ -20,11 +21,11 @@ impl Drop for Identifier {
 }
 
 impl Model for Identifier {
-    ghost use Rattle.std.specs.Prelude.{List, ℕ, string_bytes};
+    ghost use Rattle.std.specs.Prelude.{List, ℕ};
 
     ghost Value = { List ℕ };
 
-    ghost view = { λ n. string_bytes n.text };
+    ghost view = { λ n. n.text.bytes };
 }
 
 impl PartialEq for Identifier {
@@ -50,23 +51,25 @@ impl Eq for Identifier {
 pub type Identifiers = Items<Identifier>;
 
 impl Identifier {
-    /// The name that a word writes.
-    pub fn new(alloc: Global, word: &[u8]) -> Result<Identifier, AllocError>
+    /// The name that a word writes. It takes no memory.
+    pub fn new(word: &[u8]) -> Identifier
         requires { is_name word.now ≡ true }
-        ensures { IfOk result (λ n. n ≡ word.now) }
+        ensures { result ≡ word.now }
     {
         match str::from_utf8(word) {
-            Ok(text) => Identifier::from_text(alloc, text),
+            Ok(text) => Identifier::from_text(text),
             Err(_) => unreachable!(),
         }
     }
 
-    fn from_text(alloc: Global, text: &str) -> Result<Identifier, AllocError>
-        ensures { IfOk result (λ n. n ≡ text.now) }
+    fn from_text(text: &str) -> Identifier
+        requires { length text.now ≤ MOST_IN_NAME }
+        ensures { result ≡ text.now }
     {
-        Ok(Identifier {
-            text: String::from_str(alloc, text)?,
-        })
+        match ArrayString::from(text) {
+            Ok(text) => Identifier { text },
+            Err(_) => unreachable!(),
+        }
     }
 
     /// The name as text.
@@ -76,11 +79,11 @@ impl Identifier {
         self.text.as_str()
     }
 
-    /// An equal name.
-    pub fn copy(&self, alloc: Global) -> Result<Identifier, AllocError>
-        ensures { IfOk result (λ n. n ≡ self.now) }
+    /// An equal name, which takes no memory.
+    pub fn copy(&self) -> Identifier
+        ensures { result ≡ self.now }
     {
-        Identifier::from_text(alloc, self.as_str())
+        Identifier { text: self.text }
     }
 
     /// Equal names in the same order.
@@ -89,7 +92,7 @@ impl Identifier {
     {
         let mut items = Vec::new(alloc);
         for name in names.as_slice() {
-            items.push(name.copy(alloc)?)?;
+            items.push(name.copy())?;
         }
         Ok(Identifiers::from(items))
     }

@@ -1,8 +1,7 @@
-ghost use Rattle.std.specs.Prelude.{◌≡◌, IfOk};
+ghost use Rattle.std.specs.Prelude.{◌≡◌};
 
 use crate::operator::Operator;
 use crate::term::Term;
-use std::alloc::{AllocError, Global};
 
 /// What a `let` gives its local.
 #[derive(Debug, PartialEq, Eq)]
@@ -24,17 +23,15 @@ impl Drop for LetValue {
 }
 
 impl LetValue {
-    /// An equal value.
-    pub fn copy(&self, alloc: Global) -> Result<LetValue, AllocError>
-        ensures { IfOk result (λ v. v ≡ self.now) }
+    /// An equal value, which takes no memory.
+    pub fn copy(&self) -> LetValue
+        ensures { result ≡ self.now }
     {
         match self {
-            LetValue::Same(term) => Ok(LetValue::Same(term.copy(alloc)?)),
-            LetValue::Combined(left, operator, right) => Ok(LetValue::Combined(
-                left.copy(alloc)?,
-                *operator,
-                right.copy(alloc)?,
-            )),
+            LetValue::Same(term) => LetValue::Same(term.copy()),
+            LetValue::Combined(left, operator, right) => {
+                LetValue::Combined(left.copy(), *operator, right.copy())
+            }
         }
     }
 }

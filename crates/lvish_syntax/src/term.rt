@@ -27,13 +27,13 @@ impl Drop for Term {
 pub type Terms = Items<Term>;
 
 impl Term {
-    /// An equal term.
-    pub fn copy(&self, alloc: Global) -> Result<Term, AllocError>
-        ensures { IfOk result (λ t. t ≡ self.now) }
+    /// An equal term, which takes no memory.
+    pub fn copy(&self) -> Term
+        ensures { result ≡ self.now }
     {
         match self {
-            Term::Local(name) => Ok(Term::Local(name.copy(alloc)?)),
-            Term::Number(n) => Ok(Term::Number(*n)),
+            Term::Local(name) => Term::Local(name.copy()),
+            Term::Number(n) => Term::Number(*n),
         }
     }
 
@@ -43,7 +43,7 @@ impl Term {
     {
         let mut items = Vec::new(alloc);
         for term in terms.as_slice() {
-            items.push(term.copy(alloc)?)?;
+            items.push(term.copy())?;
         }
         Ok(Terms::from(items))
     }

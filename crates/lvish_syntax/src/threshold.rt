@@ -43,9 +43,9 @@ impl Threshold {
         match self {
             Threshold::Any => Ok(Threshold::Any),
             Threshold::In(numbers) => Ok(Threshold::In(numbers.copy(alloc)?)),
-            Threshold::Has(term) => Ok(Threshold::Has(term.copy(alloc)?)),
-            Threshold::Least(term) => Ok(Threshold::Least(term.copy(alloc)?)),
-            Threshold::Total(term) => Ok(Threshold::Total(term.copy(alloc)?)),
+            Threshold::Has(term) => Ok(Threshold::Has(term.copy())),
+            Threshold::Least(term) => Ok(Threshold::Least(term.copy())),
+            Threshold::Total(term) => Ok(Threshold::Total(term.copy())),
         }
     }
 }

@@ -15,7 +15,7 @@ pub fn declaration_copies(alloc: Global, script: &Script) -> Result<String, Allo
 }
 
 fn declaration_copy(alloc: Global, declaration: &Declaration) -> Result<String, AllocError> {
-    format!(in alloc; "{:?}", declaration.copy(alloc)?)
+    format!(in alloc; "{:?}", declaration.copy())
 }
 
 /// What a copy of each command prints, a line each: those of the procedures that stand in no block.

@@ -13,7 +13,7 @@ use std::alloc::{AllocError, Global};
 fn if_line(alloc: Global, words: &[&[u8]]) -> Result<Line, AllocError>
     ensures { IfOk result (λ l. l ≡ block_line (λ t. If t) (map (λ w. w.now) words.now)) }
 {
-    match only_term(alloc, words)? {
+    match only_term(words) {
         Some(term) => Ok(Line::If(Boxed::new(alloc, term)?)),
         None => Ok(Line::Bad),
     }
@@ -23,7 +23,7 @@ fn if_line(alloc: Global, words: &[&[u8]]) -> Result<Line, AllocError>
 fn while_line(alloc: Global, words: &[&[u8]]) -> Result<Line, AllocError>
     ensures { IfOk result (λ l. l ≡ block_line (λ t. While t) (map (λ w. w.now) words.now)) }
 {
-    match only_term(alloc, words)? {
+    match only_term(words) {
         Some(term) => Ok(Line::While(Boxed::new(alloc, term)?)),
         None => Ok(Line::Bad),
     }

@@ -27,36 +27,22 @@ fn command_line(alloc: Global, command: Option<Command>) -> Result<Line, AllocEr
 }
 
 /// Two terms combined.
-fn combined(
-    alloc: Global,
-    left: &[u8],
-    operator: &[u8],
-    right: &[u8],
-) -> Result<Option<LetValue>, AllocError>
-    ensures { IfOk result (λ v. v ≡ value_of (left.now ∷ operator.now ∷ right.now ∷ [])) }
+fn combined(left: &[u8], operator: &[u8], right: &[u8]) -> Option<LetValue>
+    ensures { result ≡ value_of (left.now ∷ operator.now ∷ right.now ∷ []) }
 {
-    let Some(left) = term_of(alloc, left)? else {
-        return Ok(None);
-    };
-    let Some(operator) = operator_of(operator) else {
-        return Ok(None);
-    };
-    match term_of(alloc, right)? {
-        Some(right) => Ok(Some(LetValue::Combined(left, operator, right))),
-        None => Ok(None),
-    }
+    let left = term_of(left)?;
+    let operator = operator_of(operator)?;
+    let right = term_of(right)?;
+    Some(LetValue::Combined(left, operator, right))
 }
 
-fn value_of(alloc: Global, words: &[&[u8]]) -> Result<Option<LetValue>, AllocError>
-    ensures { IfOk result (λ v. v ≡ value_of (map (λ w. w.now) words.now)) }
+fn value_of(words: &[&[u8]]) -> Option<LetValue>
+    ensures { result ≡ value_of (map (λ w. w.now) words.now) }
 {
     match words {
-        [word] => match term_of(alloc, word)? {
-            Some(term) => Ok(Some(LetValue::Same(term))),
-            None => Ok(None),
-        },
-        [left, operator, right] => combined(alloc, left, operator, right),
-        _ => Ok(None),
+        [word] => Some(LetValue::Same(term_of(word)?)),
+        [left, operator, right] => combined(left, operator, right),
+        _ => None,
     }
 }
 
@@ -70,9 +56,9 @@ fn let_line(alloc: Global, words: &[&[u8]]) -> Result<Line, AllocError>
             if !is_name(local) {
                 return Ok(Line::Bad);
             }
-            match value_of(alloc, rest)? {
+            match value_of(rest) {
                 Some(value) => {
-                    let command = Command::Let(Identifier::new(alloc, local)?, value);
+                    let command = Command::Let(Identifier::new(local), value);
                     Ok(Line::Do(Boxed::new(alloc, command)?))
                 }
                 None => Ok(Line::Bad),
@@ -82,37 +68,21 @@ fn let_line(alloc: Global, words: &[&[u8]]) -> Result<Line, AllocError>
 }
 
 /// What puts a term's value at a place of the variable.
-fn put_at(
-    alloc: Global,
-    variable: Identifier,
-    place: &[u8],
-    word: &[u8],
-) -> Result<Option<Command>, AllocError>
-    ensures { IfOk result (λ c. c ≡ put_of variable (place.now ∷ word.now ∷ [])) }
+fn put_at(variable: Identifier, place: &[u8], word: &[u8]) -> Option<Command>
+    ensures { result ≡ put_of variable (place.now ∷ word.now ∷ []) }
 {
-    let Some(place) = term_of(alloc, place)? else {
-        return Ok(None);
-    };
-    match term_of(alloc, word)? {
-        Some(term) => Ok(Some(Command::PutAt(variable, place, term))),
-        None => Ok(None),
-    }
+    let place = term_of(place)?;
+    let term = term_of(word)?;
+    Some(Command::PutAt(variable, place, term))
 }
 
-fn put_of(
-    alloc: Global,
-    variable: Identifier,
-    words: &[&[u8]],
-) -> Result<Option<Command>, AllocError>
-    ensures { IfOk result (λ c. c ≡ put_of variable (map (λ w. w.now) words.now)) }
+fn put_of(variable: Identifier, words: &[&[u8]]) -> Option<Command>
+    ensures { result ≡ put_of variable (map (λ w. w.now) words.now) }
 {
     match words {
-        [word] => match term_of(alloc, word)? {
-            Some(term) => Ok(Some(Command::Put(variable, term))),
-            None => Ok(None),
-        },
-        [place, word] => put_at(alloc, variable, place, word),
-        _ => Ok(None),
+        [word] => Some(Command::Put(variable, term_of(word)?)),
+        [place, word] => put_at(variable, place, word),
+        _ => None,
     }
 }
 
@@ -126,8 +96,8 @@ fn put_line(alloc: Global, words: &[&[u8]]) -> Result<Line, AllocError>
             if !is_name(variable) {
                 return Ok(Line::Bad);
             }
-            let variable = Identifier::new(alloc, variable)?;
-            command_line(alloc, put_of(alloc, variable, rest)?)
+            let variable = Identifier::new(variable);
+            command_line(alloc, put_of(variable, rest))
         }
     }
 }
@@ -144,7 +114,7 @@ fn get_at(
     match words {
         [] => Ok(None),
         [word, rest @ ..] => {
-            let Some(place) = term_of(alloc, word)? else {
+            let Some(place) = term_of(word) else {
                 return Ok(None);
             };
             match threshold_of(alloc, rest)? {
@@ -179,8 +149,8 @@ fn get_line(alloc: Global, words: &[&[u8]]) -> Result<Line, AllocError>
             if !is_name(local) || !is_name(variable) {
                 return Ok(Line::Bad);
             }
-            let local = Identifier::new(alloc, local)?;
-            let variable = Identifier::new(alloc, variable)?;
+            let local = Identifier::new(local);
+            let variable = Identifier::new(variable);
             command_line(alloc, get_of(alloc, local, variable, rest)?)
         }
         _ => Ok(Line::Bad),
@@ -199,7 +169,7 @@ fn run_of(alloc: Global, words: &[&[u8]]) -> Result<Option<(Identifier, Terms)>,
                 return Ok(None);
             }
             match terms_of(alloc, rest)? {
-                Some(terms) => Ok(Some((Identifier::new(alloc, name)?, terms))),
+                Some(terms) => Ok(Some((Identifier::new(name), terms))),
                 None => Ok(None),
             }
         }
@@ -234,8 +204,8 @@ fn handle_line(alloc: Global, words: &[&[u8]]) -> Result<Line, AllocError>
 {
     match words {
         [pool, procedure] if is_name(pool) && is_name(procedure) => {
-            let pool = Identifier::new(alloc, pool)?;
-            let procedure = Identifier::new(alloc, procedure)?;
+            let pool = Identifier::new(pool);
+            let procedure = Identifier::new(procedure);
             Ok(Line::Do(Boxed::new(alloc, Command::Handle(pool, procedure))?))
         }
         _ => Ok(Line::Bad),
@@ -252,8 +222,8 @@ fn freeze_line(alloc: Global, words: &[&[u8]]) -> Result<Line, AllocError>
             if !is_name(local) || !is_name(variable) {
                 return Ok(Line::Bad);
             }
-            let local = Identifier::new(alloc, local)?;
-            let variable = Identifier::new(alloc, variable)?;
+            let local = Identifier::new(local);
+            let variable = Identifier::new(variable);
             command_line(alloc, freeze_of(alloc, local, variable, rest)?)
         }
         _ => Ok(Line::Bad),

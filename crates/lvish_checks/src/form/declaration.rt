@@ -23,7 +23,7 @@ pub fn names_of(alloc: Global, words: &[&[u8]]) -> Result<Identifiers, AllocErro
 {
     let mut names = Vec::new(alloc);
     for word in words {
-        names.push(Identifier::new(alloc, word)?)?;
+        names.push(Identifier::new(word))?;
     }
     Ok(Identifiers::from(names))
 }
@@ -34,7 +34,7 @@ fn variable_line(alloc: Global, kind: VariableKind, words: &[&[u8]]) -> Result<L
 {
     match words {
         [name] if is_name(name) => {
-            let name = Identifier::new(alloc, name)?;
+            let name = Identifier::new(name);
             Ok(Line::Declare(Boxed::new(alloc, Declaration::Variable(name, kind))?))
         }
         _ => Ok(Line::Bad),
@@ -58,7 +58,7 @@ fn pair_line(alloc: Global, words: &[&[u8]]) -> Result<Line, AllocError>
     match words {
         [name, first, second] if is_name(name) => match pair_kind(first, second) {
             Some(kind) => {
-                let name = Identifier::new(alloc, name)?;
+                let name = Identifier::new(name);
                 Ok(Line::Declare(Boxed::new(alloc, Declaration::Variable(name, kind))?))
             }
             None => Ok(Line::Bad),
@@ -73,8 +73,8 @@ fn pool_line(alloc: Global, words: &[&[u8]]) -> Result<Line, AllocError>
 {
     match words {
         [pool, variable] if is_name(pool) && is_name(variable) => {
-            let pool = Identifier::new(alloc, pool)?;
-            let variable = Identifier::new(alloc, variable)?;
+            let pool = Identifier::new(pool);
+            let variable = Identifier::new(variable);
             Ok(Line::Declare(Boxed::new(alloc, Declaration::Pool(pool, variable))?))
         }
         _ => Ok(Line::Bad),
@@ -89,7 +89,7 @@ fn proc_line(alloc: Global, words: &[&[u8]]) -> Result<Line, AllocError>
         [] => Ok(Line::Bad),
         [name, rest @ ..] => {
             if is_name(name) && are_names(rest) {
-                let name = Identifier::new(alloc, name)?;
+                let name = Identifier::new(name);
                 let parameters = names_of(alloc, rest)?;
                 Ok(Line::Proc(Boxed::new(alloc, name)?, Boxed::new(alloc, parameters)?))
             } else {

@@ -18,25 +18,24 @@ fn name_count(words: &[&[u8]]) -> usize
 
 /// A freeze after these pools, with what may follow them.
 fn freeze_each(
-    alloc: Global,
     local: Identifier,
     variable: Identifier,
     pools: Identifiers,
     words: &[&[u8]],
-) -> Result<Option<Command>, AllocError>
-    ensures { IfOk result (λ c. c ≡ freeze_each local variable pools (map (λ w. w.now) words.now)) }
+) -> Option<Command>
+    ensures { result ≡ freeze_each local variable pools (map (λ w. w.now) words.now) }
 {
     match words {
-        [] => Ok(Some(Command::Freeze(local, variable, pools))),
+        [] => Some(Command::Freeze(local, variable, pools)),
         [word, procedure] => {
             if is(word, b"each") && is_name(procedure) {
-                let procedure = Identifier::new(alloc, procedure)?;
-                Ok(Some(Command::FreezeEach(local, variable, pools, procedure)))
+                let procedure = Identifier::new(procedure);
+                Some(Command::FreezeEach(local, variable, pools, procedure))
             } else {
-                Ok(None)
+                None
             }
         }
-        _ => Ok(None),
+        _ => None,
     }
 }
 
@@ -54,7 +53,7 @@ fn freeze_after(
         return Ok(None);
     }
     let pools = names_of(alloc, &words[..count])?;
-    freeze_each(alloc, local, variable, pools, &words[count..])
+    Ok(freeze_each(local, variable, pools, &words[count..]))
 }
 
 /// A freeze of a variable with what stands after it.
@@ -68,12 +67,6 @@ pub fn freeze_of(
 {
     match words {
         [word, rest @ ..] if is(word, b"after") => { freeze_after(alloc, local, variable, rest) }
-        _ => freeze_each(
-            alloc,
-            local,
-            variable,
-            Identifiers::from(Vec::new(alloc)),
-            words,
-        ),
+        _ => Ok(freeze_each(local, variable, Identifiers::from(Vec::new(alloc)), words)),
     }
 }

@@ -17,15 +17,15 @@ fn number_word(word: &[u8]) -> Option<i64>
 }
 
 /// A name or a number.
-pub fn term_of(alloc: Global, word: &[u8]) -> Result<Option<Term>, AllocError>
-    ensures { IfOk result (λ t. t ≡ term_of word.now) }
+pub fn term_of(word: &[u8]) -> Option<Term>
+    ensures { result ≡ term_of word.now }
 {
     if is_number_word(word) {
-        Ok(Some(Term::Number(value_of_number(word))))
+        Some(Term::Number(value_of_number(word)))
     } else if is_name(word) {
-        Ok(Some(Term::Local(Identifier::new(alloc, word)?)))
+        Some(Term::Local(Identifier::new(word)))
     } else {
-        Ok(None)
+        None
     }
 }
 
@@ -35,7 +35,7 @@ pub fn terms_of(alloc: Global, words: &[&[u8]]) -> Result<Option<Terms>, AllocEr
 {
     let mut terms = Vec::new(alloc);
     for word in words {
-        match term_of(alloc, word)? {
+        match term_of(word) {
             Some(term) => terms.push(term)?,
             None => return Ok(None),
         }
@@ -58,12 +58,12 @@ pub fn numbers_of(alloc: Global, words: &[&[u8]]) -> Result<Option<Numbers>, All
 }
 
 /// A name or a number in the place of one word.
-pub fn only_term(alloc: Global, words: &[&[u8]]) -> Result<Option<Term>, AllocError>
-    ensures { IfOk result (λ t. t ≡ only term_of (map (λ w. w.now) words.now)) }
+pub fn only_term(words: &[&[u8]]) -> Option<Term>
+    ensures { result ≡ only term_of (map (λ w. w.now) words.now) }
 {
     match words {
-        [word] => term_of(alloc, word),
-        _ => Ok(None),
+        [word] => term_of(word),
+        _ => None,
     }
 }
 

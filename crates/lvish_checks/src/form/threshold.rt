@@ -22,32 +22,32 @@ fn in_of(alloc: Global, words: &[&[u8]]) -> Result<Option<Threshold>, AllocError
 }
 
 /// What stands after `has`: a term.
-fn has_of(alloc: Global, words: &[&[u8]]) -> Result<Option<Threshold>, AllocError>
-    ensures { IfOk result (λ r. r ≡ option_map (λ t. Has t) (only term_of (map (λ w. w.now) words.now))) }
+fn has_of(words: &[&[u8]]) -> Option<Threshold>
+    ensures { result ≡ option_map (λ t. Has t) (only term_of (map (λ w. w.now) words.now)) }
 {
-    match only_term(alloc, words)? {
-        Some(term) => Ok(Some(Threshold::Has(term))),
-        None => Ok(None),
+    match only_term(words) {
+        Some(term) => Some(Threshold::Has(term)),
+        None => None,
     }
 }
 
 /// What stands after `least`: a term.
-fn least_of(alloc: Global, words: &[&[u8]]) -> Result<Option<Threshold>, AllocError>
-    ensures { IfOk result (λ r. r ≡ option_map (λ t. Least t) (only term_of (map (λ w. w.now) words.now))) }
+fn least_of(words: &[&[u8]]) -> Option<Threshold>
+    ensures { result ≡ option_map (λ t. Least t) (only term_of (map (λ w. w.now) words.now)) }
 {
-    match only_term(alloc, words)? {
-        Some(term) => Ok(Some(Threshold::Least(term))),
-        None => Ok(None),
+    match only_term(words) {
+        Some(term) => Some(Threshold::Least(term)),
+        None => None,
     }
 }
 
 /// What stands after `total`: a term.
-fn total_of(alloc: Global, words: &[&[u8]]) -> Result<Option<Threshold>, AllocError>
-    ensures { IfOk result (λ r. r ≡ option_map (λ t. Total t) (only term_of (map (λ w. w.now) words.now))) }
+fn total_of(words: &[&[u8]]) -> Option<Threshold>
+    ensures { result ≡ option_map (λ t. Total t) (only term_of (map (λ w. w.now) words.now)) }
 {
-    match only_term(alloc, words)? {
-        Some(term) => Ok(Some(Threshold::Total(term))),
-        None => Ok(None),
+    match only_term(words) {
+        Some(term) => Some(Threshold::Total(term)),
+        None => None,
     }
 }
 
@@ -66,11 +66,11 @@ fn threshold_after(
     } else if is(word, b"in") {
         in_of(alloc, rest)
     } else if is(word, b"has") {
-        has_of(alloc, rest)
+        Ok(has_of(rest))
     } else if is(word, b"least") {
-        least_of(alloc, rest)
+        Ok(least_of(rest))
     } else if is(word, b"total") {
-        total_of(alloc, rest)
+        Ok(total_of(rest))
     } else {
         Ok(None)
     }

@@ -1,6 +1,5 @@
 use Rattle.std.proofs.Common.{◌∙◌, ap, sym, map}
 use Rattle.std.proofs.lemmas.List.{drop-map}
-use Rattle.std.proofs.lemmas.Result.{IfOk-weaker}
 use Rattle.std.specs.List.{list_all}
 use Rattle.lvish_syntax.specs.Words.{is_name}
 use Rattle.lvish_checks.proofs.Loops.{rest_whole}
@@ -12,8 +11,7 @@ names_of-requires c = ap (list_all is_name) (front_taken (λ w. w.now) is_name c
 
 pub returns : goal.returns
 returns c =
-    IfOk-weaker c.freeze_each.result _ _ (λ command e.
-    e ∙ freeze_taken c.args.local c.args.variable _ c.name_count-count.result _ _ c.name_count-count.ensures c.if-count-eq0.false
-    (c.in_ok-pools.ensures ∙ front_taken (λ w. w.now) is_name c.args.words.now c.name_count-count.result c.name_count-count.ensures)
-    (ap (map (λ w. w.now)) (rest_whole c.name_count-count.result c.args.words.now) ∙ sym (drop-map (λ w. w.now) c.name_count-count.result c.args.words.now)))
     c.freeze_each.ensures
+    ∙ freeze_taken c.args.local c.args.variable _ c.name_count-count.result _ _ c.name_count-count.ensures c.if-count-eq0.false
+    (c.in_ok-pools.ensures ∙ front_taken (λ w. w.now) is_name c.args.words.now c.name_count-count.result c.name_count-count.ensures)
+    (ap (map (λ w. w.now)) (rest_whole c.name_count-count.result c.args.words.now) ∙ sym (drop-map (λ w. w.now) c.name_count-count.result c.args.words.now))
