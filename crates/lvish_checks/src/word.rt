@@ -4,6 +4,8 @@ ghost use Rattle.std.specs.Str.{bytes_eq};
 ghost use Rattle.lvish_syntax.specs.Words.{is_digit, is_letter, is_name_byte, begins_name, is_reserved, is_name};
 ghost use Rattle.lvish_checks.specs.Form.{is_number_word, number_spelled, value_of_number, is_bad_number};
 
+use lvish_syntax::MOST_IN_NAME;
+
 /// Whether a word is this text.
 pub fn is(word: &[u8], text: &[u8]) -> bool
     ensures { result ≡ bytes_eq word.now text.now }
@@ -109,7 +111,7 @@ fn is_reserved(word: &[u8]) -> bool
 pub fn is_name(word: &[u8]) -> bool
     ensures { result ≡ is_name word.now }
 {
-    begins_name(word) && word.len() <= 32 && has_name_bytes(word) && !is_reserved(word)
+    begins_name(word) && word.len() <= MOST_IN_NAME && has_name_bytes(word) && !is_reserved(word)
 }
 
 /// Whether a word is a number word, which may still be no number.

@@ -11,6 +11,7 @@ use Rattle.std.proofs.lemmas.List.{append-nil}
 use Rattle.std.proofs.lemmas.List.Folds.{list_any-append}
 use Rattle.std.proofs.lemmas.List.Sums.{take_while-cons}
 use Rattle.std.proofs.lemmas.List.Splits.{slice_split-cons_yes, slice_split-cons_no}
+use Rattle.lvish_syntax.specs.declared.limits.TheConstants.{MOST_IN_NAME}
 use Rattle.lvish_syntax.specs.Words.{Word, is_name, is_name_byte, is_letter, is_digit, is_reserved}
 use Rattle.lvish_syntax.specs.Written.{is_within, is_term_written}
 use Rattle.lvish_script.specs.Vocabulary.{Term, Local, Number}
@@ -50,8 +51,8 @@ letter_no_number b false e = grind (arith, nat_tests)
 name_parts : (b : ℕ) (w : Word) → is_name (b ∷ w) ≡ true → (is_letter b ≡ true) × (list_all is_name_byte (b ∷ w) ≡ true)
 unfolding is_name
 name_parts b w e =
-    let all : (is_letter b && nat_le (length (b ∷ w)) 32 && list_all is_name_byte (b ∷ w) && not (is_reserved (b ∷ w))) ≡ true = e in
-    let three = and_parts (is_letter b && nat_le (length (b ∷ w)) 32) _ (left_holds _ (not (is_reserved (b ∷ w))) all) in
+    let all : (is_letter b && nat_le (length (b ∷ w)) MOST_IN_NAME && list_all is_name_byte (b ∷ w) && not (is_reserved (b ∷ w))) ≡ true = e in
+    let three = and_parts (is_letter b && nat_le (length (b ∷ w)) MOST_IN_NAME) _ (left_holds _ (not (is_reserved (b ∷ w))) all) in
     (left_holds (is_letter b) _ three.0, three.1)
 
 pub name_plain : (w : Word) → is_name w ≡ true → is_plain w ≡ true

@@ -7,6 +7,7 @@ use Rattle.std.specs.List.{list_all}
 use Rattle.std.specs.Str.{IsAscii, IsUtf8}
 use Rattle.std.proofs.lemmas.Str.{IsUtf8-from_ascii}
 use Rattle.std.proofs.lemmas.Str.Ascii.{IsAscii-cons, IsAscii-nil}
+use Rattle.lvish_syntax.specs.declared.limits.TheConstants.{MOST_IN_NAME}
 use Rattle.lvish_syntax.specs.Words.{Word, is_name, is_name_byte, begins_name, is_reserved}
 
 byte_below : (b : ℕ) → is_name_byte b ≡ true → b < 128
@@ -20,13 +21,13 @@ bytes_below (b ∷ w) e = let p = and_parts (is_name_byte b) _ e in IsAscii-cons
 pub text_from_name : (w : Word) → is_name w ≡ true → IsUtf8 w
 unfolding is_name
 text_from_name w e =
-    let all : (begins_name w && nat_le (length w) 32 && list_all is_name_byte w && not (is_reserved w)) ≡ true = e in
-    IsUtf8-from_ascii w (bytes_below w (and_parts (begins_name w && nat_le (length w) 32) _ (and_parts (begins_name w && nat_le (length w) 32 && list_all is_name_byte w) _ all).0).1)
+    let all : (begins_name w && nat_le (length w) MOST_IN_NAME && list_all is_name_byte w && not (is_reserved w)) ≡ true = e in
+    IsUtf8-from_ascii w (bytes_below w (and_parts (begins_name w && nat_le (length w) MOST_IN_NAME) _ (and_parts (begins_name w && nat_le (length w) MOST_IN_NAME && list_all is_name_byte w) _ all).0).1)
 
--- and has at most 32 bytes
-pub short_name : (w : Word) → is_name w ≡ true → length w ≤ 32
+-- and has at most MOST_IN_NAME bytes
+pub short_name : (w : Word) → is_name w ≡ true → length w ≤ MOST_IN_NAME
 unfolding is_name
 short_name w e =
-    let all : (begins_name w && nat_le (length w) 32 && list_all is_name_byte w && not (is_reserved w)) ≡ true = e in
-    let few = (and_parts (begins_name w) _ (and_parts (begins_name w && nat_le (length w) 32) _ (and_parts (begins_name w && nat_le (length w) 32 && list_all is_name_byte w) _ all).0).0).1 in
+    let all : (begins_name w && nat_le (length w) MOST_IN_NAME && list_all is_name_byte w && not (is_reserved w)) ≡ true = e in
+    let few = (and_parts (begins_name w) _ (and_parts (begins_name w && nat_le (length w) MOST_IN_NAME) _ (and_parts (begins_name w && nat_le (length w) MOST_IN_NAME && list_all is_name_byte w) _ all).0).0).1 in
     grind (arith, nat_tests, few)

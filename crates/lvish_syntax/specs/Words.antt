@@ -2,6 +2,7 @@
 use Rattle.std.specs.Prelude.{ℕ, Bool, false, not, ◌||◌, ◌&&◌, ◌==◌, nat_le, codes, List, [], ◌∷◌, length}
 use Rattle.std.specs.List.{slice_split, list_any, list_all}
 use Rattle.std.specs.Str.{bytes_eq}
+use Rattle.lvish_syntax.specs.declared.limits.TheConstants.{MOST_IN_NAME}
 
 -- a word, by its bytes
 abbrev pub Word : Type 0
@@ -26,6 +27,6 @@ abbrev pub begins_name : Word → Bool
 begins_name [] = false
 begins_name (b ∷ bs) = is_letter b
 
--- a name: 1 to 32 letters, digits and underscores, the first a letter, and no reserved word
+-- a name: 1 to MOST_IN_NAME letters, digits and underscores, the first a letter, and no reserved word
 unfoldable pub is_name : Word → Bool
-is_name w = begins_name w && nat_le (length w) 32 && list_all is_name_byte w && not (is_reserved w)
+is_name w = begins_name w && nat_le (length w) MOST_IN_NAME && list_all is_name_byte w && not (is_reserved w)

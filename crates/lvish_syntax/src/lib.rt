@@ -33,7 +33,7 @@ pub use declaration::{Declaration, Declarations};
 pub use identifier::{Identifier, Identifiers};
 pub use kind::{SimpleKind, VariableKind};
 pub use let_value::LetValue;
-pub use limits::{MOST, MOST_BYTES};
+pub use limits::{MOST, MOST_BYTES, MOST_IN_NAME};
 pub use operator::Operator;
 pub use procedure::{Procedure, Procedures};
 pub use script::Script;
