@@ -1,17 +1,24 @@
 -- What a core shows, told of the configuration that it stands for, and when a task's step is made.
-use Rattle.std.proofs.Common.{◌≡◌, ◌↔◌, ◌<◌, ℕ, Bool, true, false, List, length, Option, Some, None, refl, sym, ap, subst, ◌∙◌, is_some, option_map, unwrap_or, arith, inl, inr, ◌≤◌, IsTrue, slice_get}
+use Rattle.std.proofs.Common.{◌≡◌, ◌↔◌, ◌<◌, ℕ, Bool, true, false, List, length, Option, Some, None, refl, sym, ap, subst, ◌∙◌, is_some, option_map, unwrap_or, arith, inl, inr, ◌≤◌, IsTrue, IsSome, slice_get}
 use Rattle.std.proofs.lemmas.Bool.{false≢true, cases_lt}
 use Rattle.lvish_core.specs.Vocabulary.{MOST_STEPS, Request, Label, Act, RunError, HandlerPlace}
 use Rattle.lvish_calculus.specs.Machine.{Machine}
-use Rattle.lvish_calculus.specs.Calculus.{Task, Live, IsReady, IsReadyTask, IsEnabled, CanStep}
+use Rattle.lvish_calculus.specs.Calculus.{Task, Absent, Live, Ended, IsReady, IsReadyTask, IsEnabled, CanStep}
 use Rattle.lvish_names.specs.Names.{Name, Handler}
 use Rattle.lvish_picture.specs.Picture.{task_of}
 use Rattle.lvish_core.specs.Kept.{IsKept}
+use Rattle.lvish_core.specs.Changes.{local_of}
 use Rattle.lvish_variable.specs.Variable.{VariableView as Variable}
 use Rattle.lvish_core.specs.Reads.{AreStates}
 use Rattle.lvish_core.specs.Core.{CoreView, CanTake, state, at_fault, picture}
 use Rattle.lvish_core.specs.Acts.{IsActing}
 use Rattle.lvish_picture.proofs.Slots.{get_there}
+
+-- a task with a local state is live
+pub live_there : {L : Type 0} (x : Task L) → IsSome (local_of x) → (l : L) × (f : ℕ) × (a : ℕ) × (p : ℕ) × (x ≡ Live l f a p)
+live_there Absent h = absurd (false≢true h)
+live_there (Live l f a p) h = (l, f, a, p, refl)
+live_there Ended h = absurd (false≢true h)
 
 pub no_fault : {E : Type 0} (q : Option (RunError E)) → is_some q ≡ false → q ≡ None
 no_fault None e = refl
@@ -69,6 +76,23 @@ not_full n b full e = elim (cases_lt n MOST_STEPS) [
 
 pub is_full : (n : ℕ) (b : Bool) → n ≤ MOST_STEPS → IsTrue b ↔ (MOST_STEPS ≤ n) → b ≡ true → n ≡ MOST_STEPS
 is_full n b le full e = let ge : MOST_STEPS ≤ n = full.0 e in omega arith
+
+-- a live task whose step can be made: there is no error, and its request is ready
+pub can_acting : {P S E R A L : Type 0} (M : Machine S E R A L) (n running : ℕ) (places : List (Handler E × HandlerPlace)) (c : CoreView P S E L) (k : IsKept M n running places c) (t : Name E) (l : L) (f a p : ℕ) → task_of M.event_same c.table.tasks t ≡ Live l f a p
+    → CanTake M c (Act t) → (r : Request S R L) → M.request l ≡ r → (at : L) → M.at l ≡ at → IsActing M c t at f a p r
+can_acting M n running places c k t l f a p live can r asks at at_is = by (is_some c.fault) refl
+  where
+    by : (b : Bool) → is_some c.fault ≡ b → IsActing M c t at f a p r
+    by true e = absurd (none_can M n running places c k e (Act t) can)
+    by false e =
+        let ready : IsReadyTask M (state M c) (task_of M.event_same c.table.tasks t) = (can_step M n running places c k e (Act t)).0 can.0 in
+        record {
+          no_fault = no_fault c.fault e;
+          local = l;
+          asking = record { live = live; asked = asks };
+          at_is = sym at_is;
+          ready = subst (IsReady M (state M c)) asks (subst (IsReadyTask M (state M c)) live ready);
+        }
 
 pub acting : {P S E R A L : Type 0} (M : Machine S E R A L) (c : CoreView P S E L) → is_some c.fault ≡ false → (t : Name E) (l : L) (f a p : ℕ) → task_of M.event_same c.table.tasks t ≡ Live l f a p
     → (r : Request S R L) → M.request l ≡ r → (at : L) → M.at l ≡ at → (b : Bool) → IsTrue b ↔ IsReady M (state M c) r → b ≡ true → IsActing M c t at f a p r

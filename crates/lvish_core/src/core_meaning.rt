@@ -16,6 +16,7 @@ pub trait CoreMeaning: Program {
     ghost use Rattle.lvish_core.specs.declared.fault.Stepped.{Stepped};
     ghost use Rattle.lvish_core.specs.declared.fault.StepFault.{StepFault};
     ghost use Rattle.lvish_core.specs.declared.moved.Moved.{Moved};
+    ghost use Rattle.lvish_core.specs.declared.stage.TaskCounts.{TaskCounts};
 
     /// The configuration that a core stands for.
     ghost picture: { CoreView Self Self.Lat Self.Lat.Event Self.Local → Configuration Self.Lat Self.Lat.Event Self.Local };
@@ -57,6 +58,9 @@ pub trait CoreMeaning: Program {
     /// The local state of the picture's task, if it is there and hasn't ended.
     ghost local_in: { CoreView Self Self.Lat Self.Lat.Event Self.Local → Name Self.Lat.Event → Option Self.Local };
 
+    /// The picture's task is there in this local state, with these numbers, and hasn't ended.
+    ghost is_live: { CoreView Self Self.Lat Self.Lat.Event Self.Local → Name Self.Lat.Event → Self.Local → TaskCounts → Type 0 };
+
     /// The request of the picture's task, if it is there and hasn't ended.
     ghost request_in: { CoreView Self Self.Lat Self.Lat.Event Self.Local → Name Self.Lat.Event → Option (Request Self.Lat Self.Lat.Read Self.Local) };
 
@@ -84,7 +88,7 @@ impl<P: Program> CoreMeaning for P {
     ghost use Rattle.lvish_calculus.specs.Calculus.{IsEnded};
     ghost use Rattle.lvish_core.specs.Core.{picture, state, IsReached, IsRunTo, IsBegun, CanTake, IsStep, IsStepRefused, IsNext};
     ghost use Rattle.lvish_core.specs.Changes.{IsMoved, local_of};
-    ghost use Rattle.lvish_core.specs.Reads.{IsItsRequest, IsItsPlace, HasRunning, AreStates, AreHandlers, AreDrained};
+    ghost use Rattle.lvish_core.specs.Reads.{IsItsRequest, IsItsPlace, IsLiveAt, HasRunning, AreStates, AreHandlers, AreDrained};
     ghost use Rattle.lvish_core.specs.Labels.{AreLabels};
 
     ghost picture = { λ c. picture (⟦<P as Meaning>⟧.machine c.program) c };
@@ -112,6 +116,8 @@ impl<P: Program> CoreMeaning for P {
     ghost is_its_place = { λ c t at. IsItsPlace (⟦<P as Meaning>⟧.machine c.program) c t at };
 
     ghost local_in = { λ c t. local_of ((state (⟦<P as Meaning>⟧.machine c.program) c).tasks t) };
+
+    ghost is_live = { λ c t l n. IsLiveAt (⟦<P as Meaning>⟧.machine c.program) c t l n };
 
     ghost request_in = { λ c t. option_map (P.functions c.program).request (local_of ((state (⟦<P as Meaning>⟧.machine c.program) c).tasks t)) };
 

@@ -1,6 +1,6 @@
 //! A task's step.
 
-ghost use Rattle.std.specs.Prelude.{◌≡◌, ◌≢◌, ◌++◌, ◌∷◌, ◌↔◌, ℕ, [], true, false, None, Some, IsSome, IsTrue};
+ghost use Rattle.std.specs.Prelude.{◌≡◌, ◌≢◌, ◌++◌, ◌∷◌, ◌↔◌, ℕ, [], true, false, None, Some, IsSome, IsTrue, MatchOption};
 ghost use Rattle.lvish_calculus.specs.declared.label.Label.TheVariants.{Act};
 ghost use Rattle.lvish_board.specs.declared.work.Work.TheVariants.{Act as ActOn};
 ghost use Rattle.lvish_board.specs.Acts.{entry_of, is_step, is_gone, is_over, is_stale, is_parked, GivesBack, ComesOfAct, IsDone, ListsWork, KeepsAtMemory};
@@ -13,7 +13,7 @@ use crate::named::Named;
 use crate::outcome::Outcome;
 use crate::work::Work;
 use lvish_calculus::{Meaning, Program};
-use lvish_core::CoreMeaning;
+use lvish_core::{CoreMeaning, TaskCounts};
 use std::alloc::Global;
 
 impl<'p, P: Program, J: Named<P>> Board<'p, P, J> {
@@ -43,9 +43,9 @@ impl<'p, P: Program, J: Named<P>> Board<'p, P, J> {
         if self.over.is_some() {
             return Acted::Over;
         }
-        if !self.is_current(&asked) {
+        let Some(numbers) = self.current(&asked) else {
             return Acted::Stale;
-        }
+        };
         if !self.can_go_on(&asked) {
             return self.park(alloc, asked);
         }
@@ -53,14 +53,17 @@ impl<'p, P: Program, J: Named<P>> Board<'p, P, J> {
             self.over = Some(Outcome::Budget);
             return Acted::Over;
         }
-        self.make(alloc, worker, asked)
+        self.make(alloc, worker, numbers, asked)
     }
 
-    /// Whether the task is there, in the local state in which it asks.
-    fn is_current(&self, asked: &Asked<P, J>) -> bool
-        ensures { IsTrue result ↔ (⟦<P as CoreMeaning>⟧.local_in self.now.core asked.now.task ≡ Some asked.now.from) }
+    /// The task's numbers, where it is there in the local state in which it asks.
+    fn current(&self, asked: &Asked<P, J>) -> Option<TaskCounts>
+        ensures { MatchOption result (⟦<P as CoreMeaning>⟧.local_in self.now.core asked.now.task ≢ Some asked.now.from) (λ n. ⟦<P as CoreMeaning>⟧.is_live self.now.core asked.now.task asked.now.from n) }
     {
-        self.core.local_of(asked.task()) == Some(asked.from())
+        match self.core.standing_of(asked.task()) {
+            Some((local, numbers)) if local == asked.from() => Some(numbers),
+            _ => None,
+        }
     }
 
     /// Whether the step of a task can be made.
@@ -68,7 +71,7 @@ impl<'p, P: Program, J: Named<P>> Board<'p, P, J> {
         requires current { ⟦<P as CoreMeaning>⟧.local_in self.now.core asked.now.task ≡ Some asked.now.from }
         ensures { IsTrue result ↔ ⟦<P as CoreMeaning>⟧.can_take self.now.core (Act asked.now.task) }
     {
-        self.core.can(asked.task(), &asked.asks().request)
+        self.core.can_act(asked.task(), &asked.asks().request)
     }
 
     /// Parks a blocked task.

@@ -17,17 +17,23 @@ use crate::work::Work;
 use lvish_calculus::laws::lawful;
 use lvish_calculus::{ErrorKind, Label, Meaning, Program};
 use lvish_core::laws::{passes_at_its_spot, waiting_tasks};
-use lvish_core::{Core, CoreMeaning, Moved, StepFault, Stepped};
+use lvish_core::{Core, CoreMeaning, Moved, StepFault, Stepped, TaskCounts};
 use lvish_lattice::{Lattice, Plain};
 use lvish_names::TaskName;
 use std::alloc::{AllocError, Global};
 
 impl<'p, P: Program, J: Named<P>> Board<'p, P, J> {
     /// Makes the step of a task that can go on.
-    pub(super) fn make(&mut self, alloc: Global, worker: usize, asked: Asked<P, J>) -> Acted<P, J>
+    pub(super) fn make(
+        &mut self,
+        alloc: Global,
+        worker: usize,
+        numbers: TaskCounts,
+        asked: Asked<P, J>,
+    ) -> Acted<P, J>
         requires running { self.old.over ≡ None }
         requires room { length self.old.trace < J.budget }
-        requires current { ⟦<P as CoreMeaning>⟧.local_in self.old.core asked.task ≡ Some asked.from }
+        requires live { ⟦<P as CoreMeaning>⟧.is_live self.old.core asked.task asked.from numbers }
         requires can { ⟦<P as CoreMeaning>⟧.can_take self.old.core (Act asked.task) }
         ensures { ComesOfAct P.Lat.Event.cmp (⟦<P as Meaning>⟧.machine J.program) (⟦<P as CoreMeaning>⟧.local_in self.old.core asked.task ≡ Some asked.from) (⟦<P as CoreMeaning>⟧.can_take self.old.core (Act asked.task)) worker asked self.old self.new result }
     {
@@ -42,6 +48,7 @@ impl<'p, P: Program, J: Named<P>> Board<'p, P, J> {
             &mut self.room,
             parked,
             worker,
+            numbers,
             &asked,
         ) else {
             return Acted::Memory(Work::Act(asked));
@@ -95,10 +102,12 @@ fn step_with_room<P: Program, J: Named<P>>(
     room: &mut Room<P, J>,
     parked: usize,
     worker: usize,
+    numbers: TaskCounts,
     asked: &Asked<P, J>,
 ) -> Result<(usize, Stepped, Moved<<P::Lat as Lattice>::Event, P::Local>), StepFault>
     requires program { core.old.program ≡ J.program }
-    requires current { ⟦<P as CoreMeaning>⟧.local_in core.old asked.now.task ≡ Some asked.now.from }
+    requires live { ⟦<P as CoreMeaning>⟧.is_live core.old asked.now.task asked.now.from numbers }
+    requires can { ⟦<P as CoreMeaning>⟧.can_take core.old (Act asked.now.task) }
     ensures made { IfOk result (λ s. IsStepOf P.Lat.Event.cmp (⟦<P as Meaning>⟧.machine J.program) core.old asked.now core.new s.0 room.new.hands.items s.1 s.2) }
     ensures written { IfOk result (λ _. trace.new.items ≡ trace.old.items ++ entry_of worker (Act asked.now.task) ∷ []) }
     ensures empty { IfOk result (λ _. (room.new.list.items ≡ []) × (room.new.woken.items ≡ [])) }
@@ -110,7 +119,7 @@ fn step_with_room<P: Program, J: Named<P>>(
     let logged = room.reserve_for(core, parked, asked)?;
     let entry = task_entry(trace, worker, asked.task())?;
     has_all_variables(core);
-    let (stepped, moved) = step(alloc, core, trace, entry, asked)?;
+    let (stepped, moved) = step(alloc, core, trace, entry, numbers, asked)?;
     has_all_variables(core);
     Ok((logged, stepped, moved))
 }
@@ -147,16 +156,18 @@ fn step<P: Program, J: Named<P>>(
     core: &mut Core<'_, P>,
     trace: &mut Vec<TraceEntry<<P::Lat as Lattice>::Event>>,
     entry: TraceEntry<<P::Lat as Lattice>::Event>,
+    numbers: TaskCounts,
     asked: &Asked<P, J>,
 ) -> Result<(Stepped, Moved<<P::Lat as Lattice>::Event, P::Local>), StepFault>
     requires program { core.old.program ≡ J.program }
-    requires current { ⟦<P as CoreMeaning>⟧.local_in core.old asked.now.task ≡ Some asked.now.from }
+    requires live { ⟦<P as CoreMeaning>⟧.is_live core.old asked.now.task asked.now.from numbers }
+    requires can { ⟦<P as CoreMeaning>⟧.can_take core.old (Act asked.now.task) }
     requires room { vec_len trace.old < vec_capacity trace.old }
     ensures stepped { MatchResult result (λ s. ⟦<P as CoreMeaning>⟧.is_step core.old (Act asked.now.task) core.new s.0) (λ _. core.new ≡ core.old) }
     ensures moved { IfOk result (λ s. ⟦<P as CoreMeaning>⟧.is_moved core.old (Act asked.now.task) s.1) }
     ensures written { MatchResult result (λ _. trace.new.items ≡ trace.old.items ++ entry ∷ []) (λ _. trace.new ≡ trace.old) }
 {
-    let stepped = core.step_asked(alloc, asked.task(), asked.asks())?;
+    let stepped = core.step_live(alloc, asked.task(), numbers, asked.asks())?;
     trace.push_reserved(entry);
     Ok(stepped)
 }

@@ -6,6 +6,7 @@ ghost use Rattle.lvish_calculus.specs.declared.label.Label.TheVariants.{Act};
 use super::Core;
 use crate::core_meaning::CoreMeaning;
 use crate::fault::{StepFault, Stepped};
+use crate::limits::MOST_STEPS;
 use crate::moved::Moved;
 use crate::stage::{Stage, TaskCounts};
 use lvish_calculus::{Asks, Meaning, Program};
@@ -52,7 +53,29 @@ impl<'p, P: Program> Core<'p, P> {
         if !self.is_ready(&asks.request) {
             return Err(StepFault::NotEnabled);
         }
-        if self.is_full() {
+        self.step_live(alloc, name, numbers, asks)
+    }
+
+    /// Makes the task's step, which can be made, with its numbers and its request already known.
+    ///
+    /// # Errors
+    ///
+    /// As `step` with the task's label.
+    pub fn step_live(
+        &mut self,
+        alloc: Global,
+        name: &TaskName<<P::Lat as Lattice>::Event>,
+        numbers: TaskCounts,
+        asks: &Asks<P::Lat, <P::Lat as Reads>::Read, P::Local>,
+    ) -> Result<(Stepped, Moved<<P::Lat as Lattice>::Event, P::Local>), StepFault>
+        requires live { (local : P.Local) × ⟦<P as CoreMeaning>⟧.is_live self.old name.now local numbers }
+        requires can { ⟦<P as CoreMeaning>⟧.can_take self.old (Act name.now) }
+        requires request { ⟦<P as CoreMeaning>⟧.is_its_request self.old name.now asks.now.request }
+        requires at { ⟦<P as CoreMeaning>⟧.is_its_place self.old name.now asks.now.at }
+        ensures stepped { MatchResult result (λ s. ⟦<P as CoreMeaning>⟧.is_step self.old (Act name.now) self.new s.0) (λ e. ⟦<P as CoreMeaning>⟧.is_refused self.old (Act name.now) e × (self.new ≡ self.old)) }
+        ensures moved { IfOk result (λ s. ⟦<P as CoreMeaning>⟧.is_moved self.old (Act name.now) s.1) }
+    {
+        if self.steps >= MOST_STEPS {
             return Err(StepFault::Full);
         }
         self.act(alloc, name, &asks.at, numbers, &asks.request)

@@ -1,6 +1,6 @@
 //! What a core says of itself.
 
-ghost use Rattle.std.specs.Prelude.{◌≡◌, ◌↔◌, IsTrue, IfOk};
+ghost use Rattle.std.specs.Prelude.{◌≡◌, ◌↔◌, IsTrue, IsSome, IfOk};
 ghost use Rattle.lvish_calculus.specs.declared.label.Label.TheVariants.{Act};
 ghost use Rattle.lvish_core.specs.Reads.{NoneIsReady};
 
@@ -89,6 +89,23 @@ impl<'p, P: Program> Core<'p, P> {
             Some(Stage::Live { .. }) => self.is_ready(request),
             _ => false,
         }
+    }
+
+    /// Whether a step can be made of the task, which is there and hasn't ended, and whose request this
+    /// is. It doesn't look for the task.
+    pub fn can_act(
+        &self,
+        name: &TaskName<<P::Lat as Lattice>::Event>,
+        request: &Request<P::Lat, <P::Lat as Reads>::Read, P::Local>,
+    ) -> bool
+        requires there { IsSome (⟦<P as CoreMeaning>⟧.local_in self.now name.now) }
+        requires request { ⟦<P as CoreMeaning>⟧.is_its_request self.now name.now request.now }
+        ensures { IsTrue result ↔ ⟦<P as CoreMeaning>⟧.can_take self.now (Act name.now) }
+    {
+        if self.fault.is_some() {
+            return false;
+        }
+        self.is_ready(request)
     }
 
     /// What the task asks for; `None` where it has ended or isn't there.

@@ -1,13 +1,13 @@
 //! What a core shows by reference or number.
 
-ghost use Rattle.std.specs.Prelude.{◌≡◌, ◌<◌, ◌↔◌, IsTrue, MatchOption, option_copied};
+ghost use Rattle.std.specs.Prelude.{◌≡◌, ◌<◌, ◌↔◌, None, IsTrue, MatchOption, option_copied};
 ghost use Rattle.lvish_handlers.specs.Handlers.{IsByName};
 
 use super::Core;
 use crate::core_meaning::CoreMeaning;
 use crate::drained::are_drained;
 use crate::fault::RunError;
-use crate::stage::Stage;
+use crate::stage::{Stage, TaskCounts};
 use crate::touched::Touched;
 use lvish_calculus::laws::lawful;
 use lvish_calculus::{Meaning, Program};
@@ -24,6 +24,29 @@ impl<'p, P: Program> Core<'p, P> {
     {
         match self.tasks.get(name) {
             Some(Stage::Live { local, .. }) => Some(local),
+            _ => None,
+        }
+    }
+
+    /// The task's local state and its numbers; `None` where it has ended or isn't there.
+    pub fn standing_of(
+        &self,
+        name: &TaskName<<P::Lat as Lattice>::Event>,
+    ) -> Option<(&P::Local, TaskCounts)>
+        ensures { MatchOption result (⟦<P as CoreMeaning>⟧.local_in self.now name.now ≡ None) (λ s. ⟦<P as CoreMeaning>⟧.is_live self.now name.now s.0.now s.1) }
+    {
+        match self.tasks.get(name) {
+            Some(
+                Stage::Live {
+                    local,
+                    forks,
+                    adds,
+                    puts,
+                },
+            ) => {
+                let (forks, adds, puts) = (*forks, *adds, *puts);
+                Some((local, TaskCounts { forks, adds, puts }))
+            }
             _ => None,
         }
     }

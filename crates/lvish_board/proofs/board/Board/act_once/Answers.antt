@@ -1,6 +1,6 @@
 use Rattle.std.proofs.Common.{rules, ◌≡◌, ◌≤◌, None, length, refl, ap, sym, ◌∙◌, arith, true≢false}
 use Rattle.lvish_calculus.specs.declared.label.Label.TheVariants.{Act}
-use Rattle.lvish_board.proofs.Comes.{act_over, act_stale, not_over}
+use Rattle.lvish_board.proofs.Comes.{act_over, not_over}
 use Rattle.lvish_board.proofs.Steps.{kept_over, none_is}
 use Rattle.lvish_board.proofs.board.Board.act_once.Goals as goal
 
@@ -18,16 +18,8 @@ invariant_of-self g c =
 pub returns-then-is_some : goal.returns-then-is_some
 returns-then-is_some g c = act_over refl refl (rw (← c.self.view_is) (sym c.is_some.ensures ∙ c.if-is_some.true)) (λ _. refl)
 
-pub returns-then-not-is_current : goal.returns-then-not-is_current
-returns-then-not-is_current g c =
-    let none : c.args.self.now.over ≡ None = rw (← c.self.view_is) (none_is c.self.inside.over (sym c.is_some.ensures ∙ c.if-is_some.false)) in
-    act_stale refl none (λ s. true≢false (sym (c.is_current.ensures.1 s) ∙ c.if-not-is_current.true))
-
 pub park-requires-clause-running : goal.park-requires-clause-running
 park-requires-clause-running g c = rw (← c.self.view_is) (none_is c.self.inside.over (sym c.is_some.ensures ∙ c.if-is_some.false))
-
-pub park-requires-clause-current : goal.park-requires-clause-current
-park-requires-clause-current g c = c.is_current.ensures.0 c.if-not-is_current.false
 
 pub park-requires-clause-blocked : goal.park-requires-clause-blocked
 park-requires-clause-blocked g c = λ can. true≢false (sym (c.can_go_on.ensures.1 can) ∙ c.if-not-can_go_on.true)
@@ -42,9 +34,6 @@ returns-then-len-self g c =
 
 pub make-requires-clause-running : goal.make-requires-clause-running
 make-requires-clause-running g c = rw (← c.self.view_is) (none_is c.self.inside.over (sym c.is_some.ensures ∙ c.if-is_some.false))
-
-pub make-requires-clause-current : goal.make-requires-clause-current
-make-requires-clause-current g c = c.is_current.ensures.0 c.if-not-is_current.false
 
 pub make-requires-clause-can : goal.make-requires-clause-can
 make-requires-clause-can g c = c.can_go_on.ensures.0 c.if-not-can_go_on.false

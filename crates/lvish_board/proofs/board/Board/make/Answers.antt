@@ -2,6 +2,7 @@ use Rattle.std.proofs.Common.{◌≤◌, ◌++◌, ◌∷◌, [], length, is_som
 use Rattle.lvish_calculus.specs.Program.{machine_of}
 use Rattle.lvish_board.specs.Vocabulary.{Act, ErrorStep}
 use Rattle.lvish_core.specs.Core.{IsStep}
+use Rattle.lvish_core.specs.Changes.{local_of}
 use Rattle.lvish_board.specs.Acts.{IsDone, entry_of}
 use Rattle.lvish_board.specs.Left.{option_list, most_added}
 use Rattle.lvish_board.specs.Standing.{labels_of}
@@ -37,7 +38,7 @@ made g c =
     let k = c.in-Ok.ensures.made in
     let step = subst (λ r. IsStep M c.self.inside.core (Act c.args.asked.task) c.step_with_room.new.core r) c.in-Done.is k.step in
     let ok = c.lawful.ensures g.J.Named.program in
-    let at = rw (← c.self.view_is) at c.requires.current in (
+    let at = ap local_of (rw (← c.self.view_is) at c.requires.live) in (
       act_made _ _ ok _ _ _ _ _ _ step at k.concerned k.long (labels_of c.self.inside.trace.items) c.self.invariant.1.leads _ k.told _ c.left_by-left.ensures.added,
       few_added _ _ ok _ _ _ _ _ _ step at k.concerned k.long c.left_by-left.result.added (c.left_by-left.ensures.added ∙ ap (λ m. m.added) k.told),
     )

@@ -1,4 +1,4 @@
-use Rattle.std.proofs.Common.{◌≡◌, inl, Some, true, refl, sym, ap, subst, ◌∙◌, vec_capacity, true≢false}
+use Rattle.std.proofs.Common.{◌≡◌, inl, Some, is_some, true, refl, sym, ap, subst, ◌∙◌, vec_capacity, true≢false}
 use Rattle.std.proofs.lemmas.Option.{none-some, same_Some}
 use Rattle.std.specs.Map.{lookup, values_of}
 use Rattle.std.specs.BTreeMap.{is_at}
@@ -30,8 +30,18 @@ returns-in_default-clause-gone g c = λ t i.
     let r = of_task c.args.name.now c.args.self.now i in
     none_at exact c.args.name.now c.self.inside.asked.entries c.self.invariant.0 (sym c.in_default.ensures.value) r.0 (subst (λ ps. IsAmong r.0 ps) (sym c.self.view_is) r.1) r.2
 
-pub can-requires : goal.can-requires
-can-requires g c = λ l f a p live.
+pub can_act-requires-clause-there : goal.can_act-requires-clause-there
+can_act-requires-clause-there g c =
+    let exact = name_cmp-iff g.P.Lat.Event.Ord.cmp g.met.P.Lat.Event.Plain.identical g.met.P.Lat.Event.Ord.matches_eq g.met.P.Lat.Event.Ord.total in
+    let asked = c.in-Some.asked.now in
+    let r = found_at exact c.args.name.now c.self.inside.asked.entries asked c.self.invariant.0 (sym c.in-Some.ensures.value) in
+    let here : IsAmong asked c.args.self.now = subst (λ ps. IsAmong asked ps) (sym r.3 ∙ c.self.view_is) (in_middle asked asked r.0 r.1 (inl refl)) in
+    let stands : local_of (task_of g.P.Lat.Event.PartialEq.eq c.args.core.now.table.tasks c.args.name.now) ≡ Some asked.from =
+    subst (λ t. local_of (task_of g.P.Lat.Event.PartialEq.eq c.args.core.now.table.tasks t) ≡ Some asked.from) r.2 (c.requires.current asked here) in
+    ap is_some stands
+
+pub can_act-requires-clause-request : goal.can_act-requires-clause-request
+can_act-requires-clause-request g c = λ l f a p live.
     let exact = name_cmp-iff g.P.Lat.Event.Ord.cmp g.met.P.Lat.Event.Plain.identical g.met.P.Lat.Event.Ord.matches_eq g.met.P.Lat.Event.Ord.total in
     let asked = c.in-Some.asked.now in
     let r = found_at exact c.args.name.now c.self.inside.asked.entries asked c.self.invariant.0 (sym c.in-Some.ensures.value) in
@@ -41,12 +51,12 @@ can-requires g c = λ l f a p live.
     let same : l ≡ asked.from = same_Some l asked.from (sym (ap local_of live) ∙ stands) in
     ap (λ k. (g.P.Program.functions c.args.core.now.program).request k) same ∙ ap (λ q. (g.P.Program.functions q).request asked.from) c.requires.program ∙ sym c.asks.ensures.request
 
-pub returns-then-not-can-clause-wakes : goal.returns-then-not-can-clause-wakes
-returns-then-not-can-clause-wakes g c =
+pub returns-then-not-can_act-clause-wakes : goal.returns-then-not-can_act-clause-wakes
+returns-then-not-can_act-clause-wakes g c =
     let M = machine_of g.P.Lat.PartialEq.eq g.P.Lat.Event.PartialEq.eq g.P.Lat.Event.Ord.cmp g.P.Lat.Lattice.least g.P.Lat.Lattice.joined g.P.Lat.Lattice.events_of g.P.Lat.Reads.answer_of (g.P.Program.functions c.args.core.now.program) in
     wakes_none _ _ _ _ (λ p i same can.
-    let yes : c.can.result ≡ true = c.can.ensures.1 (subst (λ t. CanTake M c.args.core.now (Act t)) same can) in
-    absurd (true≢false (sym yes ∙ c.if-not-can.true)))
+    let yes : c.can_act.result ≡ true = c.can_act.ensures.1 (subst (λ t. CanTake M c.args.core.now (Act t)) same can) in
+    absurd (true≢false (sym yes ∙ c.if-not-can_act.true)))
 
 pub invariant_of-self : goal.invariant_of-self
 invariant_of-self g c =
@@ -62,7 +72,7 @@ returns g c =
           let asked = w.in-Some-remove.asked in
           let at : lookup (is_at (name_cmp g.P.Lat.Event.Ord.cmp c.args.name.now)) c.self.inside.asked.entries ≡ Some asked = sym w.in-Some-remove.ensures.value in
           let r = found_at exact c.args.name.now c.self.inside.asked.entries asked c.self.invariant.0 at in
-          let can = subst (λ t. CanTake M c.args.core.now (Act t)) (sym r.2) (c.can.ensures.0 c.if-not-can.false) in
+          let can = subst (λ t. CanTake M c.args.core.now (Act t)) (sym r.2) (c.can_act.ensures.0 c.if-not-can_act.false) in
           record {
             wakes = subst (λ ps. Wakes (λ p. CanTake M c.args.core.now (Act p.task)) (λ p. p.task ≡ c.args.name.now) ps (values_of c.remove.new.self.entries) c.args.woken.now.items c.match-remove.woken.items) c.self.view_is
                 (wakes_named (λ p. CanTake M c.args.core.now (Act p.task)) total exact c.args.name.now c.self.inside.asked.entries c.remove.new.self.entries c.self.invariant.0 c.self.invariant.1 asked at c.remove.ensures.entries can c.args.woken.now.items c.match-remove.woken.items (ap (λ v. v.items) w.woken-is ∙ w.push_reserved.ensures.items));

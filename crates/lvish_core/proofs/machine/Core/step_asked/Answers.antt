@@ -1,7 +1,7 @@
 use Rattle.std.proofs.Common.{sym, ap, ◌∙◌, refl, option_copied}
 use Rattle.std.proofs.lemmas.Bool.{false≢true}
 use Rattle.lvish_core.specs.Tasks.{standing, standing_at}
-use Rattle.lvish_core.proofs.Shown.{acting, is_full, not_full, live_can}
+use Rattle.lvish_core.proofs.Shown.{live_can}
 use Rattle.lvish_core.proofs.machine.Core.step_asked.Goals as goal
 
 pub is_ready-requires-clause-gets : goal.is_ready-requires-clause-gets
@@ -24,25 +24,15 @@ returns-then-not-is_ready-clause-stepped g c =
     let can = live_can _ _ _ _ _ c.self.invariant (sym c.is_some.ensures ∙ c.if-is_some.false) c.args.name.now _ _ _ _ live _ (asked _ _ _ _ live) c.is_ready.result ready in
     rw (← c.self.view_is) (λ z. false≢true (sym c.if-not-is_ready.true ∙ can.1 z), refl)
 
-pub returns-then-is_full-clause-stepped : goal.returns-then-is_full-clause-stepped
-returns-then-is_full-clause-stepped g c =
+pub step_live-requires-clause-live : goal.step_live-requires-clause-live
+step_live-requires-clause-live g c =
+    let live = c.get.ensures ∙ ap (λ o. standing_at (option_copied o)) c.in-Some-Live.is ∙ ap standing c.in-Some-Live.field-0-is in
+    rw (← c.self.view_is) (_, live)
+
+pub step_live-requires-clause-can : goal.step_live-requires-clause-can
+step_live-requires-clause-can g c =
     let live = c.get.ensures ∙ ap (λ o. standing_at (option_copied o)) c.in-Some-Live.is ∙ ap standing c.in-Some-Live.field-0-is in
     let asked = rw (← c.self.view_is) at c.requires.request in
     let ready = rw (← c.self.view_is) at c.is_ready.ensures in
-    let full = rw (← c.self.view_is) at c.is_full.ensures in
     let can = live_can _ _ _ _ _ c.self.invariant (sym c.is_some.ensures ∙ c.if-is_some.false) c.args.name.now _ _ _ _ live _ (asked _ _ _ _ live) c.is_ready.result ready in
-    rw (← c.self.view_is) ((can.0 c.if-not-is_ready.false, is_full c.self.inside.steps c.is_full.result c.self.invariant.steps full c.if-is_full.true), refl)
-
-pub act-requires-clause-acting : goal.act-requires-clause-acting
-act-requires-clause-acting g c =
-    let live = c.get.ensures ∙ ap (λ o. standing_at (option_copied o)) c.in-Some-Live.is ∙ ap standing c.in-Some-Live.field-0-is in
-    let asked = rw (← c.self.view_is) at c.requires.request in
-    let placed = rw (← c.self.view_is) at c.requires.at in
-    let ready = rw (← c.self.view_is) at c.is_ready.ensures in
-    rw (← c.self.view_is)
-    (acting _ _ (sym c.is_some.ensures ∙ c.if-is_some.false) c.args.name.now _ _ _ _ live _ (asked _ _ _ _ live) _ (placed _ _ _ _ live) c.is_ready.result ready c.if-not-is_ready.false)
-
-pub act-requires-clause-room : goal.act-requires-clause-room
-act-requires-clause-room g c =
-    let full = rw (← c.self.view_is) at c.is_full.ensures in
-    rw (← c.self.view_is) (not_full c.self.inside.steps c.is_full.result full c.if-is_full.false)
+    rw (← c.self.view_is) (can.0 c.if-not-is_ready.false)
