@@ -11,7 +11,7 @@ use Rattle.std.proofs.lemmas.Option.{slice_get-map}
 use Rattle.std.proofs.lemmas.Bool.{and_parts}
 use Rattle.std.proofs.lemmas.Bool.Decides.{Decides-eqb}
 use borrow.Author.Tests.{ltb-true}
-use Rattle.lvish_task.specs.Vocabulary.{Any, AnyRead, Event, Place, Test, ErrorKind, Procedure, Script, Term, Threshold, Command, Statement, Block, out-Statement, Operand, Instruction, Let, Call, SkipIfZero, BackUnlessZero, GoOn, Return, Routine}
+use Rattle.lvish_task.specs.Vocabulary.{Any, AnyRead, Event, Place, Test, ErrorKind, Procedure, Script, Term, Threshold, Command, Statement, Block, out-Statement, Operand, Instruction, SkipIfZero, BackUnlessZero, GoOn, Return, Routine}
 use Rattle.lvish_calculus.specs.declared.request.ErrorKind.TheVariants as fault
 use Rattle.lvish_calculus.specs.declared.request.Request.TheVariants as ask
 use Rattle.lvish_syntax.specs.Words.{Word}

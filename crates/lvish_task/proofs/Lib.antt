@@ -5,4 +5,5 @@ mod Places
 mod Alike
 mod Meant
 mod Freezing
+mod Filled
 mod Strides

@@ -7,7 +7,7 @@ use Rattle.std.proofs.lemmas.Option.{slice_get-map}
 use Rattle.std.proofs.Math.Dec.{eqb-suc-zero}
 use Rattle.std.proofs.lemmas.Bool.{and_parts, and_from, cond_both, cond-true}
 use Rattle.std.proofs.lemmas.Bool.Decides.{Decides-eqb}
-use Rattle.lvish_task.specs.Vocabulary.{Any, AnyRead, Event, ErrorKind, Request, Reply, Declaration, Procedure, Script, Command, Statement, Instruction, Let, Call, SkipIfZero, BackUnlessZero, GoOn, Return}
+use Rattle.lvish_task.specs.Vocabulary.{Any, AnyRead, Event, ErrorKind, Request, Reply, Declaration, Procedure, Script, Command, Statement, Instruction, SkipIfZero, BackUnlessZero, GoOn, Return}
 use Rattle.lvish_calculus.specs.declared.request.ErrorKind.TheVariants as fault
 use Rattle.lvish_calculus.specs.declared.request.Request.TheVariants as ask
 use Rattle.lvish_calculus.specs.declared.request.Reply.TheVariants as reply

@@ -1,6 +1,6 @@
 -- A statement that is taken in a frame leaves what is asked next as it was.
-use Rattle.std.proofs.Common.{◌≡◌, ℕ, zero, suc, ℤ, ◌+◌, ◌-◌, ◌*◌, ◌<◌, ◌≤◌, ◌&&◌, ◌==◌, Bool, true, false, List, [], ◌∷◌, length, Option, Some, None, Result, Ok, Err, is_some, unwrap_or, if◌then◌else◌, refl, sym, ◌∙◌, ap, subst, arith}
-use Rattle.std.specs.List.{slice_get}
+use Rattle.std.proofs.Common.{◌≡◌, ℕ, zero, suc, ℤ, ◌+◌, ◌-◌, ◌*◌, ◌<◌, ◌≤◌, ◌&&◌, ◌==◌, true, false, List, [], ◌∷◌, length, Option, Some, None, Result, Ok, Err, if◌then◌else◌, refl, sym, ◌∙◌, ap, subst, arith}
+use Rattle.std.specs.List.{slice_get, slice_set}
 use Rattle.std.proofs.lemmas.Option.{slice_get_within, same_Some}
 use Rattle.std.proofs.Math.Nat.{suc-mul}
 use borrow.Author.Tests.{eqb-true}
@@ -8,8 +8,10 @@ use Rattle.lvish_code.specs.Flat as flat
 use Rattle.lvish_task.specs.Vocabulary.{Event, ErrorKind, Expression, Instruction, Ask, Let, Call, SkipIfZero, BackUnlessZero, GoOn, Return}
 use Rattle.lvish_task.specs.declared.frame.Frame.{Frame}
 use Rattle.lvish_task.specs.declared.stack.Stack.{Stack}
-use Rattle.lvish_task.specs.Run.{Goes, placed, instructions, instruction, landed, is_end, is_frame_over, jump_in, returned, settled, flat_turn, frame_turn, instruction_turn, went, run, assigned, expression_value}
-use Rattle.lvish_task.specs.Stride.{let_taken, taken}
+use Rattle.lvish_task.specs.Run.{Goes, placed, instructions, instruction, landed, is_end, is_frame_over, jump_in, returned, settled, flat_turn, frame_turn, instruction_turn, went, run, assigned, operand_value, expression_value}
+use Rattle.lvish_task.specs.declared.stride.Progress.{Progress}
+use Rattle.lvish_task.specs.Meaning.{chosen}
+use Rattle.lvish_task.specs.Stride.{let_taken, taken, at_progress}
 use Rattle.lvish_task.specs.laws.Landing.{landing_here, landing_jump}
 use Rattle.lvish_task.specs.laws.Settling.{stays, pending, run_pending}
 
@@ -61,43 +63,47 @@ module _ (c : flat.Code) where
           let fewer : m.left ≡ k = omega (arith, less, left) in
           ap (λ n. run c n m.top m.below) fewer ∙ step_same l k m.top m.below left rest (turn_at l (Some i) none is ∙ goes)
 
-  let_same : (l m : Stack) (x : ℕ) (e : Expression) (r : Result ℤ ErrorKind) → 0 < l.left → l.top.events ≡ [] → instruction c l.top ≡ Some (Let x e) → expression_value l.top.values e ≡ r → let_taken l x r ≡ Some m → AsksAlike l m
-  let_same l m x e (Ok n) some none is value h = subst (AsksAlike l) (same_Some _ _ h) (statement_same l _ (Let x e) some none is refl refl (ap (assigned l.top l.below x) value) refl)
-  let_same l m x e (Err k) some none is value h = absurd cc
+  -- a frame that goes on within its instructions
+  abbrev Alike : Stack → Progress → List ℤ → Progress × List ℤ → Type 0
+  Alike l p vs q = AsksAlike (at_progress l p vs) (at_progress l q.0 q.1)
 
-  pub taken_same : (l m : Stack) (i : Option Instruction) → 0 < l.left → l.top.events ≡ [] → instruction c l.top ≡ i → taken l i ≡ Some m → AsksAlike l m
-  taken_same l m (Some (Let x e)) some none is h = let_same l m x e (expression_value l.top.values e) some none is refl h
-  taken_same l m (Some (SkipIfZero a n)) some none is h = subst (AsksAlike l) (same_Some _ _ h) (statement_same l _ (SkipIfZero a n) some none is refl refl refl refl)
-  taken_same l m (Some (BackUnlessZero a n)) some none is h = subst (AsksAlike l) (same_Some _ _ h) (statement_same l _ (BackUnlessZero a n) some none is refl refl refl refl)
-  taken_same l m (Some (GoOn n)) some none is h = subst (AsksAlike l) (same_Some _ _ h) (jump_same l n is)
-  taken_same l m (Some (Ask a)) some none is h = absurd cc
-  taken_same l m (Some (Call k os)) some none is h = absurd cc
-  taken_same l m (Some Return) some none is h = absurd cc
-  taken_same l m None some none is h = absurd cc
+  let_same : (l : Stack) (p : Progress) (vs : List ℤ) (q : Progress × List ℤ) (x : ℕ) (e : Expression) (r : Result ℤ ErrorKind) → 0 < p.left → l.top.events ≡ [] → instruction c (at_progress l p vs).top ≡ Some (Let x e) → expression_value vs e ≡ r → let_taken p vs x r ≡ Some q → Alike l p vs q
+  let_same l p vs q x e (Ok n) some none is value h = subst (Alike l p vs) (same_Some _ _ h) (statement_same (at_progress l p vs) (at_progress l (record { left = p.left - 1; place = p.place + 1 }) (slice_set vs x n)) (Let x e) some none is refl refl (ap (assigned (at_progress l p vs).top l.below x) value) refl)
+  let_same l p vs q x e (Err k) some none is value h = absurd cc
 
--- ---- what stays, and what grows less
+  pub taken_same : (l : Stack) (p : Progress) (vs : List ℤ) (q : Progress × List ℤ) (i : Option Instruction) → 0 < p.left → l.top.events ≡ [] → instruction c (at_progress l p vs).top ≡ i → taken p vs i ≡ Some q → Alike l p vs q
+  taken_same l p vs q (Some (Let x e)) some none is h = let_same l p vs q x e (expression_value vs e) some none is refl h
+  taken_same l p vs q (Some (SkipIfZero a n)) some none is h = subst (Alike l p vs) (same_Some _ _ h) (statement_same (at_progress l p vs) (at_progress l (record { left = p.left - 1; place = chosen (operand_value vs a) (p.place + 1) (p.place + 1 + n) }) vs) (SkipIfZero a n) some none is refl refl refl refl)
+  taken_same l p vs q (Some (BackUnlessZero a n)) some none is h = subst (Alike l p vs) (same_Some _ _ h) (statement_same (at_progress l p vs) (at_progress l (record { left = p.left - 1; place = chosen (operand_value vs a) (p.place - n) (p.place + 1) }) vs) (BackUnlessZero a n) some none is refl refl refl refl)
+  taken_same l p vs q (Some (GoOn n)) some none is h = subst (Alike l p vs) (same_Some _ _ h) (jump_same (at_progress l p vs) n is)
+  taken_same l p vs q (Some (Ask a)) some none is h = absurd cc
+  taken_same l p vs q (Some (Call k os)) some none is h = absurd cc
+  taken_same l p vs q (Some Return) some none is h = absurd cc
+  taken_same l p vs q None some none is h = absurd cc
 
--- the frame's procedure, its events, and no more local statements left
-abbrev Stays : Stack → Stack → Type 0
-Stays l m = (m.top.procedure ≡ l.top.procedure) × (m.top.events ≡ l.top.events) × (m.left ≤ l.left)
+-- ---- what grows less
 
-let_stays : (l m : Stack) (x : ℕ) (r : Result ℤ ErrorKind) → let_taken l x r ≡ Some m → Stays l m
-let_stays l m x (Ok n) h = subst (Stays l) (same_Some _ _ h) (refl, refl, omega arith)
-let_stays l m x (Err k) h = absurd cc
+-- no more local statements are left than before
+abbrev Fewer : Progress → Progress × List ℤ → Type 0
+Fewer p q = q.0.left ≤ p.left
 
-pub taken_stays : (l m : Stack) (i : Option Instruction) → taken l i ≡ Some m → Stays l m
-taken_stays l m (Some (Let x e)) h = let_stays l m x (expression_value l.top.values e) h
-taken_stays l m (Some (SkipIfZero a n)) h = subst (Stays l) (same_Some _ _ h) (refl, refl, omega arith)
-taken_stays l m (Some (BackUnlessZero a n)) h = subst (Stays l) (same_Some _ _ h) (refl, refl, omega arith)
-taken_stays l m (Some (GoOn n)) h = subst (Stays l) (same_Some _ _ h) (refl, refl, omega arith)
-taken_stays l m (Some (Ask a)) h = absurd cc
-taken_stays l m (Some (Call k os)) h = absurd cc
-taken_stays l m (Some Return) h = absurd cc
-taken_stays l m None h = absurd cc
+let_fewer : (p : Progress) (vs : List ℤ) (q : Progress × List ℤ) (x : ℕ) (r : Result ℤ ErrorKind) → let_taken p vs x r ≡ Some q → Fewer p q
+let_fewer p vs q x (Ok n) h = subst (Fewer p) (same_Some _ _ h) (omega arith)
+let_fewer p vs q x (Err k) h = absurd cc
+
+pub taken_fewer : (p : Progress) (vs : List ℤ) (q : Progress × List ℤ) (i : Option Instruction) → taken p vs i ≡ Some q → Fewer p q
+taken_fewer p vs q (Some (Let x e)) h = let_fewer p vs q x (expression_value vs e) h
+taken_fewer p vs q (Some (SkipIfZero a n)) h = subst (Fewer p) (same_Some _ _ h) (omega arith)
+taken_fewer p vs q (Some (BackUnlessZero a n)) h = subst (Fewer p) (same_Some _ _ h) (omega arith)
+taken_fewer p vs q (Some (GoOn n)) h = subst (Fewer p) (same_Some _ _ h) (omega arith)
+taken_fewer p vs q (Some (Ask a)) h = absurd cc
+taken_fewer p vs q (Some (Call k os)) h = absurd cc
+taken_fewer p vs q (Some Return) h = absurd cc
+taken_fewer p vs q None h = absurd cc
 
 -- the local statements that are left, and then the places behind
-abbrev pub to_take : List Instruction → Stack → ℕ
-to_take is l = l.left * suc (length is) + (length is - l.top.place)
+abbrev pub to_take : List Instruction → Progress → ℕ
+to_take is p = p.left * suc (length is) + (length is - p.place)
 
 one_less : (count l m p q : ℕ) → 0 < l → m ≡ l - 1 → m * suc count + (count - q) < l * suc count + (count - p)
 one_less count zero m p q some less = absurd (omega (arith, some))
@@ -107,31 +113,25 @@ one_less count (suc k) m p q some less =
     let same : m * suc count ≡ k * suc count = ap (λ n. n * suc count) is in
     omega (arith, more, same)
 
-let_less : (is : List Instruction) (l m : Stack) (x : ℕ) (r : Result ℤ ErrorKind) → 0 < l.left → let_taken l x r ≡ Some m → to_take is m < to_take is l
-let_less is l m x (Ok n) some h = subst (λ k. to_take is k < to_take is l) (same_Some _ _ h) (one_less (length is) l.left (l.left - 1) l.top.place (l.top.place + 1) some refl)
-let_less is l m x (Err k) some h = absurd cc
+-- less is left to take
+abbrev Less : List Instruction → Progress → Progress × List ℤ → Type 0
+Less is p q = to_take is q.0 < to_take is p
 
-pub taken_less : (is : List Instruction) (l m : Stack) (i : Option Instruction) → 0 < l.left → slice_get is l.top.place ≡ i → taken l i ≡ Some m → to_take is m < to_take is l
-taken_less is l m (Some (Let x e)) some at h = let_less is l m x (expression_value l.top.values e) some h
-taken_less is l m (Some (SkipIfZero a n)) some at h = subst (λ k. to_take is k < to_take is l) (same_Some _ _ h) (one_less (length is) l.left (l.left - 1) l.top.place _ some refl)
-taken_less is l m (Some (BackUnlessZero a n)) some at h = subst (λ k. to_take is k < to_take is l) (same_Some _ _ h) (one_less (length is) l.left (l.left - 1) l.top.place _ some refl)
-taken_less is l m (Some (GoOn n)) some at h =
-    let within : l.top.place < length is = slice_get_within is l.top.place (GoOn n) at in
-    subst (λ k. to_take is k < to_take is l) (same_Some _ _ h) (omega (arith, within))
-taken_less is l m (Some (Ask a)) some at h = absurd cc
-taken_less is l m (Some (Call k os)) some at h = absurd cc
-taken_less is l m (Some Return) some at h = absurd cc
-taken_less is l m None some at h = absurd cc
+let_less : (is : List Instruction) (p : Progress) (vs : List ℤ) (q : Progress × List ℤ) (x : ℕ) (r : Result ℤ ErrorKind) → 0 < p.left → let_taken p vs x r ≡ Some q → Less is p q
+let_less is p vs q x (Ok n) some h = subst (Less is p) (same_Some _ _ h) (one_less (length is) p.left (p.left - 1) p.place (p.place + 1) some refl)
+let_less is p vs q x (Err k) some h = absurd cc
 
--- ---- what the answer says
-
-pub was_taken : (l m : Stack) (o : Option Stack) (b : Bool) → b ≡ is_some o → m ≡ unwrap_or o l → b ≡ true → o ≡ Some m
-was_taken l m None b is moves t = absurd cc
-was_taken l m (Some k) b is moves t = ap Some (sym moves)
-
-pub not_taken : (l m : Stack) (o : Option Stack) (b : Bool) → b ≡ is_some o → m ≡ unwrap_or o l → b ≡ false → m ≡ l
-not_taken l m None b is moves t = moves
-not_taken l m (Some k) b is moves t = absurd cc
+pub taken_less : (is : List Instruction) (p : Progress) (vs : List ℤ) (q : Progress × List ℤ) (i : Option Instruction) → 0 < p.left → slice_get is p.place ≡ i → taken p vs i ≡ Some q → Less is p q
+taken_less is p vs q (Some (Let x e)) some at h = let_less is p vs q x (expression_value vs e) some h
+taken_less is p vs q (Some (SkipIfZero a n)) some at h = subst (Less is p) (same_Some _ _ h) (one_less (length is) p.left (p.left - 1) p.place _ some refl)
+taken_less is p vs q (Some (BackUnlessZero a n)) some at h = subst (Less is p) (same_Some _ _ h) (one_less (length is) p.left (p.left - 1) p.place _ some refl)
+taken_less is p vs q (Some (GoOn n)) some at h =
+    let within : p.place < length is = slice_get_within is p.place (GoOn n) at in
+    subst (Less is p) (same_Some _ _ h) (omega (arith, within))
+taken_less is p vs q (Some (Ask a)) some at h = absurd cc
+taken_less is p vs q (Some (Call k os)) some at h = absurd cc
+taken_less is p vs q (Some Return) some at h = absurd cc
+taken_less is p vs q None some at h = absurd cc
 
 pub without_events : (es : List Event) → true ≡ (length es == 0) → es ≡ []
 without_events [] e = refl

@@ -1,20 +1,30 @@
 -- Local statements of one frame, one after the other.
-use Rattle.std.specs.Prelude.{ℕ, ℤ, ◌+◌, ◌-◌, Option, Some, None, Result, Ok, Err}
+use Rattle.std.specs.Prelude.{◌≡◌, ℕ, ℤ, ◌+◌, ◌-◌, List, [], Option, Some, None, Result, Ok, Err}
 use Rattle.std.specs.List.{slice_set}
+use Rattle.lvish_code.specs.Flat as flat
 use Rattle.lvish_task.specs.Vocabulary.{ErrorKind, Instruction, Let, SkipIfZero, BackUnlessZero, GoOn}
 use Rattle.lvish_task.specs.declared.stack.Stack.{Stack}
-use Rattle.lvish_task.specs.Run.{operand_value, expression_value, placed, stepped}
+use Rattle.lvish_task.specs.declared.stride.Progress.{Progress}
+use Rattle.lvish_task.specs.Run.{operand_value, expression_value, instructions, run}
 use Rattle.lvish_task.specs.Meaning.{chosen}
 
--- where a `let` leads, if it succeeds
-abbrev pub let_taken : Stack → ℕ → Result ℤ ErrorKind → Option Stack
-let_taken l x (Ok n) = Some (record { left = l.left - 1; top = stepped l.top (slice_set l.top.values x n); below = l.below })
-let_taken l x (Err k) = None
+-- where a `let` leads, and to which values, if it succeeds
+abbrev pub let_taken : Progress → List ℤ → ℕ → Result ℤ ErrorKind → Option (Progress × List ℤ)
+let_taken p values x (Ok n) = Some (record { left = p.left - 1; place = p.place + 1 }, slice_set values x n)
+let_taken p values x (Err k) = None
 
--- where a `let` that succeeds, a test or a jump leads; a jump is no local statement
-abbrev pub taken : Stack → Option Instruction → Option Stack
-taken l (Some (Let x e)) = let_taken l x (expression_value l.top.values e)
-taken l (Some (SkipIfZero a n)) = Some (record { left = l.left - 1; top = placed l.top (chosen (operand_value l.top.values a) (l.top.place + 1) (l.top.place + 1 + n)); below = l.below })
-taken l (Some (BackUnlessZero a n)) = Some (record { left = l.left - 1; top = placed l.top (chosen (operand_value l.top.values a) (l.top.place - n) (l.top.place + 1)); below = l.below })
-taken l (Some (GoOn n)) = Some (record { left = l.left; top = placed l.top (l.top.place + 1 + n); below = l.below })
-taken l i = None
+-- where a `let` that succeeds, a test or a jump leads, and to which values; a jump is no local statement
+abbrev pub taken : Progress → List ℤ → Option Instruction → Option (Progress × List ℤ)
+taken p values (Some (Let x e)) = let_taken p values x (expression_value values e)
+taken p values (Some (SkipIfZero a n)) = Some (record { left = p.left - 1; place = chosen (operand_value values a) (p.place + 1) (p.place + 1 + n) }, values)
+taken p values (Some (BackUnlessZero a n)) = Some (record { left = p.left - 1; place = chosen (operand_value values a) (p.place - n) (p.place + 1) }, values)
+taken p values (Some (GoOn n)) = Some (record { left = p.left; place = p.place + 1 + n }, values)
+taken p values i = None
+
+-- the stack, with its innermost frame that far and with these values
+abbrev pub at_progress : Stack → Progress → List ℤ → Stack
+at_progress l p values = record { left = p.left; top = record l.top { place = p.place; values = values }; below = l.below }
+
+-- in every stack whose innermost frame has these instructions and no events, what is asked next is the same in both ways
+abbrev pub KeepsAsking : List Instruction → Progress → List ℤ → Progress → List ℤ → Type 0
+KeepsAsking is p values q others = (c : flat.Code) (l : Stack) → l.top.events ≡ [] → instructions c l.top ≡ is → run c q.left (at_progress l q others).top l.below ≡ run c p.left (at_progress l p values).top l.below

@@ -4,6 +4,7 @@ ghost use Rattle.lvish_task.specs.Arithmetic.{combined, fitting, dividing};
 use lvish_calculus::ErrorKind;
 use lvish_syntax::Operator;
 
+#[inline(always)]
 fn add(left: i64, right: i64) -> Result<i64, ErrorKind>
     ensures { result ≡ fitting (left +ℤ right) }
 {
@@ -13,6 +14,7 @@ fn add(left: i64, right: i64) -> Result<i64, ErrorKind>
     }
 }
 
+#[inline(always)]
 fn subtract(left: i64, right: i64) -> Result<i64, ErrorKind>
     ensures { result ≡ fitting (left -ℤ right) }
 {
@@ -22,6 +24,7 @@ fn subtract(left: i64, right: i64) -> Result<i64, ErrorKind>
     }
 }
 
+#[inline(always)]
 fn multiply(left: i64, right: i64) -> Result<i64, ErrorKind>
     ensures { result ≡ fitting (left *ℤ right) }
 {
@@ -56,6 +59,7 @@ fn remain(left: i64, right: i64) -> Result<i64, ErrorKind>
 }
 
 /// What an operator makes of two numbers, or how it fails.
+#[inline(always)]
 pub fn combine(operator: Operator, left: i64, right: i64) -> Result<i64, ErrorKind>
     ensures { result ≡ combined operator left right }
 {

@@ -3,7 +3,7 @@ ghost use Rattle.lvish_task.specs.Run.{operand_value, expression_value, target_p
 ghost use Rattle.lvish_task.specs.Meaning.{kind_meant};
 
 use crate::arithmetic::combine;
-use crate::values::Values;
+use crate::values::Few;
 use lvish_calculus::ErrorKind;
 use lvish_code::{Expression, Operand, Side, Target, Wanted};
 use lvish_compound::{Kind, Place, Test};
@@ -12,24 +12,24 @@ use lvish_syntax::SimpleKind;
 use std::alloc::{AllocError, Global};
 
 /// The value of an operand.
-pub fn value_of(values: &Values, operand: Operand) -> i64
+#[inline(always)]
+pub fn value_of(values: &[i64], operand: Operand) -> i64
     ensures { result ≡ operand_value values.now operand }
 {
     match operand {
-        Operand::Local(local) => values.get(local),
+        Operand::Local(local) => match values.get(local) {
+            Some(value) => *value,
+            None => 0,
+        },
         Operand::Number(n) => n,
     }
 }
 
 /// The values of operands in their order.
-pub fn values_of(
-    alloc: Global,
-    values: &Values,
-    operands: &[Operand],
-) -> Result<Vec<i64>, AllocError>
+pub fn values_of(alloc: Global, values: &[i64], operands: &[Operand]) -> Result<Few, AllocError>
     ensures { IfOk result (λ v. v.items ≡ map (operand_value values.now) operands.now) }
 {
-    let mut found = Vec::with_capacity(alloc, operands.len())?;
+    let mut found = Few::with_capacity(alloc, operands.len())?;
     for operand in operands {
         found.push(value_of(values, *operand))?;
     }
@@ -37,7 +37,8 @@ pub fn values_of(
 }
 
 /// What a `let` gives its local, or how it fails.
-pub fn evaluate(values: &Values, expression: &Expression) -> Result<i64, ErrorKind>
+#[inline(always)]
+pub fn evaluate(values: &[i64], expression: &Expression) -> Result<i64, ErrorKind>
     ensures { result ≡ expression_value values.now expression.now }
 {
     match expression {
@@ -60,7 +61,7 @@ fn side_kind(kind: SimpleKind) -> Kind
 }
 
 /// Where in its variable a target is, where the locals have these values.
-pub fn place_of(values: &Values, target: Target) -> Place
+pub fn place_of(values: &[i64], target: Target) -> Place
     ensures { result ≡ target_place values.now target }
 {
     match target {
@@ -76,7 +77,7 @@ pub fn place_of(values: &Values, target: Target) -> Place
 }
 
 /// What a get waits for, where the locals have these values.
-pub fn test_of(alloc: Global, values: &Values, wanted: &Wanted) -> Result<Test, AllocError>
+pub fn test_of(alloc: Global, values: &[i64], wanted: &Wanted) -> Result<Test, AllocError>
     ensures { IfOk result (λ t. t ≡ wanted_test values.now wanted.now) }
 {
     match wanted {

@@ -4,6 +4,7 @@ ghost use Rattle.lvish_task.specs.Run.{functions};
 use crate::frame::Frame;
 use crate::local::Local;
 use crate::script_code::ScriptCode;
+use crate::values::Few;
 use lvish_calculus::{Asks, Program, Reply};
 use lvish_compound::{Any, AnyRead, Event};
 use std::alloc::{AllocError, Global};
@@ -26,7 +27,7 @@ impl Program for ScriptCode {
     }
 
     fn start(&self, alloc: Global) -> Result<Local, AllocError> {
-        self.begin(alloc, self.flat.main(), Vec::new(alloc))
+        self.begin(alloc, self.flat.main(), Few::new(alloc))
     }
 
     fn start_handler(
@@ -35,7 +36,11 @@ impl Program for ScriptCode {
         procedure: usize,
         event: &Event,
     ) -> Result<Local, AllocError> {
-        self.begin(alloc, procedure, [event.key, event.number].to_vec(alloc)?)
+        self.begin(
+            alloc,
+            procedure,
+            Few::from_array(alloc, [event.key, event.number])?,
+        )
     }
 
     fn copy_local(&self, _alloc: Global, local: &Local) -> Result<Local, AllocError> {

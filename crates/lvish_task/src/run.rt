@@ -11,6 +11,7 @@ use lvish_code::{Instruction, Routine};
 use std::alloc::{AllocError, Global};
 
 /// The instruction at a place.
+#[inline(always)]
 pub fn at(instructions: &[Instruction], place: usize) -> Option<&Instruction>
     ensures { option_copied result ≡ slice_get instructions.now place }
 {

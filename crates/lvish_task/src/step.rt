@@ -3,9 +3,10 @@ ghost use Rattle.lvish_task.specs.Run.{operand_value, expression_value, assigned
 ghost use Rattle.lvish_task.specs.Jumps.{HasPlaces};
 ghost use Rattle.lvish_task.specs.Meaning.{chosen};
 
-use crate::evaluate::{evaluate, value_of};
+use crate::evaluate::evaluate;
 use crate::script_code::ScriptCode;
 use crate::stack::Stack;
+use crate::stride::choose;
 use crate::turn::Ask;
 use lvish_calculus::Request;
 use lvish_code::{Expression, Instruction, Operand};
@@ -19,7 +20,7 @@ impl Stack {
         ensures asks { result ≡ requested (assigned self.old.top self.old.below local (expression_value self.old.top.values expression.now)) }
         ensures moves { self.new ≡ moved self.old (assigned self.old.top self.old.below local (expression_value self.old.top.values expression.now)) }
     {
-        match evaluate(&self.top.values, expression) {
+        match evaluate(self.top.values.as_slice(), expression) {
             Err(kind) => Some(Request::Fault(kind)),
             Ok(value) => {
                 self.top.place += 1;
@@ -35,11 +36,7 @@ impl Stack {
         requires { 0 < self.old.left }
         ensures { self.new ≡ record { left = self.old.left - 1; top = placed self.old.top (chosen (operand_value self.old.top.values operand) if_not if_zero); below = self.old.below } }
     {
-        self.top.place = if value_of(&self.top.values, operand) == 0 {
-            if_zero
-        } else {
-            if_not
-        };
+        self.top.place = choose(self.top.values.as_slice(), operand, if_not, if_zero);
         self.left -= 1;
     }
 }
@@ -60,7 +57,7 @@ impl ScriptCode {
         let place = local.top.place;
         match instruction {
             Instruction::Ask(action) => {
-                Ok(Some(self.request(alloc, &local.top.values, action)?))
+                Ok(Some(self.request(alloc, local.top.values.as_slice(), action)?))
             }
             Instruction::Let(x, expression) => Ok(local.assign(*x, expression)),
             Instruction::Call(procedure, operands) => {
@@ -107,7 +104,7 @@ impl ScriptCode {
         }
         match self.instruction(&local.top) {
             Some(Instruction::Ask(action)) => {
-                Ok(Some(self.request(alloc, &local.top.values, action)?))
+                Ok(Some(self.request(alloc, local.top.values.as_slice(), action)?))
             }
             Some(Instruction::Return) if local.below.is_empty() => Ok(Some(Request::End)),
             _ => Ok(None),

@@ -1,16 +1,31 @@
-ghost use Rattle.std.specs.Prelude.{◌≡◌, ◌<◌, ◌≤◌, ◌+◌, ◌-◌, ◌^◌, is_some, unwrap_or, slice_get, IfSome};
+//! Local statements of one frame, one after the other.
+//!
+//! What they change is the frame's values, its place and how many statements are left; so the loop
+//! has these alone in its hands, in registers.
+
+ghost use Rattle.std.specs.Prelude.{◌≡◌, ◌<◌, ◌≤◌, ◌+◌, ◌^◌, None, Some, slice_get, IfSome, MatchOption};
 ghost use Rattle.std.specs.Option.{option_copied};
 ghost use Rattle.lvish_task.specs.Jumps.{AllLand, HasPlaces};
-ghost use Rattle.lvish_task.specs.Run.{expression_value, run};
-ghost use Rattle.lvish_task.specs.Stride.{let_taken, taken};
+ghost use Rattle.lvish_task.specs.Run.{expression_value, operand_value, run};
+ghost use Rattle.lvish_task.specs.Meaning.{chosen};
+ghost use Rattle.lvish_task.specs.Stride.{KeepsAsking, let_taken, taken};
 
-use crate::evaluate::evaluate;
+use crate::evaluate::{evaluate, value_of};
 use crate::run::at;
 use crate::script_code::ScriptCode;
 use crate::stack::Stack;
-use lvish_code::{Expression, Instruction};
+use crate::values::give;
+use lvish_code::{Expression, Instruction, Operand};
+
+/// How far a frame has come: how many local statements are left before a pause, and its place.
+#[derive(Clone, Copy)]
+pub struct Progress {
+    pub left: usize,
+    pub place: usize,
+}
 
 /// The instruction at a place, among those that lead to one another.
+#[inline(always)]
 pub fn next(instructions: &[Instruction], place: usize) -> Option<&Instruction>
     requires { AllLand instructions.now }
     ensures value { option_copied result ≡ slice_get instructions.now place }
@@ -19,51 +34,87 @@ pub fn next(instructions: &[Instruction], place: usize) -> Option<&Instruction>
     at(instructions, place)
 }
 
-impl Stack {
-    /// A `let` that succeeds. Where it fails, nothing is changed, and the answer is false.
-    fn give(&mut self, local: usize, expression: &Expression) -> bool
-        requires left { 0 < self.old.left }
-        requires within { self.old.top.place + 1 < 2 ^ 64 }
-        ensures takes { result ≡ is_some (let_taken self.old local (expression_value self.old.top.values expression.now)) }
-        ensures moves { self.new ≡ unwrap_or (let_taken self.old local (expression_value self.old.top.values expression.now)) self.old }
-    {
-        match evaluate(&self.top.values, expression) {
-            Ok(value) => {
-                self.top.place += 1;
-                self.top.values.set(local, value);
-                self.left -= 1;
-                true
-            }
-            Err(_) => false,
-        }
+/// The one place where the operand isn't 0, and the other where it is.
+#[inline(always)]
+pub fn choose(values: &[i64], operand: Operand, if_not: usize, if_zero: usize) -> usize
+    ensures { result ≡ chosen (operand_value values.now operand) if_not if_zero }
+{
+    if value_of(values, operand) == 0 {
+        if_zero
+    } else {
+        if_not
     }
+}
 
-    /// Takes what stands at the innermost frame's place, where it is a `let` that succeeds, a test or
-    /// a jump. Else nothing is changed, and the answer is false.
-    fn take(&mut self, instructions: &[Instruction]) -> bool
-        requires left { 0 < self.old.left }
-        requires land { AllLand instructions.now }
-        ensures takes { result ≡ is_some (taken self.old (slice_get instructions.now self.old.top.place)) }
-        ensures moves { self.new ≡ unwrap_or (taken self.old (slice_get instructions.now self.old.top.place)) self.old }
-    {
-        let place = self.top.place;
-        match next(instructions, place) {
-            Some(Instruction::Let(x, expression)) => self.give(*x, expression),
-            Some(Instruction::SkipIfZero(operand, n)) => {
-                self.test(*operand, place + 1, place + 1 + *n);
-                true
-            }
-            Some(Instruction::BackUnlessZero(operand, n)) => {
-                self.test(*operand, place.saturating_sub(*n), place + 1);
-                true
-            }
-            Some(Instruction::GoOn(n)) => {
-                self.top.place = place + 1 + *n;
-                true
-            }
-            _ => false,
+/// A `let`. `None` where it fails; then nothing is changed.
+#[inline(always)]
+fn take_let(
+    values: &mut [i64],
+    local: usize,
+    expression: &Expression,
+    from: Progress,
+) -> Option<Progress>
+    requires left { 0 < from.left }
+    requires within { from.place + 1 < 2 ^ 64 }
+    ensures { MatchOption result
+        ((let_taken from values.old local (expression_value values.old expression.now) ≡ None) × (values.new ≡ values.old))
+        (λ to. let_taken from values.old local (expression_value values.old expression.now) ≡ Some (to, values.new)) }
+{
+    match evaluate(values, expression) {
+        Ok(value) => {
+            give(values, local, value);
+            Some(Progress {
+                left: from.left - 1,
+                place: from.place + 1,
+            })
+        }
+        Err(_) => None,
+    }
+}
+
+/// Takes what stands at the place, where it is a `let` that succeeds, a test or a jump. Else nothing
+/// is changed, and the answer is `None`.
+#[inline(always)]
+fn take(instructions: &[Instruction], values: &mut [i64], from: Progress) -> Option<Progress>
+    requires left { 0 < from.left }
+    requires land { AllLand instructions.now }
+    ensures { MatchOption result
+        ((taken from values.old (slice_get instructions.now from.place) ≡ None) × (values.new ≡ values.old))
+        (λ to. taken from values.old (slice_get instructions.now from.place) ≡ Some (to, values.new)) }
+{
+    let Progress { left, place } = from;
+    match next(instructions, place) {
+        Some(Instruction::Let(x, expression)) => take_let(values, *x, expression, from),
+        Some(Instruction::SkipIfZero(operand, n)) => Some(Progress {
+            left: left - 1,
+            place: choose(values, *operand, place + 1, place + 1 + *n),
+        }),
+        Some(Instruction::BackUnlessZero(operand, n)) => Some(Progress {
+            left: left - 1,
+            place: choose(values, *operand, place.saturating_sub(*n), place + 1),
+        }),
+        Some(Instruction::GoOn(n)) => {
+            let place = place + 1 + *n;
+            Some(Progress { left, place })
+        }
+        _ => None,
+    }
+}
+
+/// Takes local statements of a frame, as far as they are `let`s that succeed, tests and jumps.
+pub(crate) fn strides(instructions: &[Instruction], values: &mut [i64], from: Progress) -> Progress
+    requires { AllLand instructions.now }
+    ensures same { KeepsAsking instructions.now from values.old result values.new }
+    ensures fewer { result.left ≤ from.left }
+{
+    let mut reached = from;
+    while reached.left > 0 {
+        match take(instructions, values, reached) {
+            Some(next) => reached = next,
+            None => return reached,
         }
     }
+    reached
 }
 
 impl ScriptCode {
@@ -77,10 +128,12 @@ impl ScriptCode {
             return;
         }
         let instructions = self.instructions(local.top.procedure);
-        while local.left > 0 {
-            if !local.take(instructions) {
-                return;
-            }
-        }
+        let from = Progress {
+            left: local.left,
+            place: local.top.place,
+        };
+        let reached = local.top.values.stride(instructions, from);
+        local.left = reached.left;
+        local.top.place = reached.place;
     }
 }

@@ -11,7 +11,7 @@ use crate::remaining::Remaining;
 use crate::script_code::ScriptCode;
 use crate::stack::Stack;
 use crate::states::{put_at, read_at};
-use crate::values::Values;
+use crate::values::{Few, Values};
 use lvish_calculus::{ErrorKind, Pools, Request};
 use lvish_code::{Action, Instruction, Operand};
 use lvish_compound::{Any, AnyRead, Event};
@@ -36,7 +36,7 @@ impl Stack {
 
 impl ScriptCode {
     /// The frame of a procedure that begins on the arguments, if there is one that takes them.
-    fn callee(&self, procedure: usize, arguments: Vec<i64>) -> Result<Option<Frame>, AllocError>
+    fn callee(&self, procedure: usize, arguments: Few) -> Result<Option<Frame>, AllocError>
         ensures { IfOk result (λ f. f ≡ callee self.now.flat procedure arguments.items) }
     {
         match self.routine(procedure) {
@@ -57,7 +57,7 @@ impl ScriptCode {
         &self,
         alloc: Global,
         procedure: usize,
-        arguments: Vec<i64>,
+        arguments: Few,
     ) -> Result<Local, AllocError>
         ensures { IfOk result (λ l. l ≡ started self.now.flat procedure arguments.items) }
     {
@@ -66,7 +66,7 @@ impl ScriptCode {
             None => Frame {
                 place: 0,
                 procedure: self.flat.routines().len(),
-                values: Values::new(Vec::new(alloc), 0)?,
+                values: Values::new(Few::new(alloc), 0)?,
                 each: 0,
                 events: Remaining::new(),
             },
@@ -86,7 +86,7 @@ impl ScriptCode {
     pub(crate) fn request(
         &self,
         alloc: Global,
-        values: &Values,
+        values: &[i64],
         action: &Action,
     ) -> Result<Ask, AllocError>
         ensures { IfOk result (λ r. Asks r ≡ action_turn self.now.flat values.now action.now) }
@@ -134,7 +134,7 @@ impl ScriptCode {
         if local.below.len() >= MOST_BELOW {
             return Ok(Some(Request::Fault(ErrorKind::Deep)));
         }
-        let arguments = values_of(alloc, &local.top.values, operands)?;
+        let arguments = values_of(alloc, local.top.values.as_slice(), operands)?;
         match self.callee(procedure, arguments)? {
             None => Ok(Some(Request::End)),
             Some(callee) => {
@@ -160,7 +160,7 @@ impl ScriptCode {
         if local.below.len() >= MOST_BELOW {
             return Ok(Some(Request::Fault(ErrorKind::Deep)));
         }
-        let arguments = [event.key, event.number].to_vec(alloc)?;
+        let arguments = Few::from_array(alloc, [event.key, event.number])?;
         match self.callee(local.top.each, arguments)? {
             None => Ok(Some(Request::End)),
             Some(callee) => {

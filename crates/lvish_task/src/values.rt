@@ -1,14 +1,25 @@
 ghost use Rattle.std.specs.Prelude.{◌≡◌, IfOk, OnOk, ◌++◌, replicate, length, pos, ◌-◌, ◌≤◌};
-ghost use Rattle.std.specs.List.{slice_set, slice_index_or};
+ghost use Rattle.std.specs.List.{slice_set};
+ghost use Rattle.lvish_task.specs.Jumps.{AllLand};
+ghost use Rattle.lvish_task.specs.Stride.{KeepsAsking};
 
 use crate::equal::are_equal;
+use crate::stride::{Progress, strides};
+use lvish_code::Instruction;
+use smallvec::SmallVec;
 use std::alloc::{AllocError, Global};
 use std::marker::Model;
+
+/// As many numbers as most procedures have locals stand in place, with no memory of their own.
+const IN_PLACE: usize = 6;
+
+/// Numbers in order, a few of them in place.
+pub type Few = SmallVec<i64, IN_PLACE>;
 
 /// The values of locals, by number.
 #[derive(Debug)]
 pub struct Values {
-    items: Vec<i64>,
+    items: Few,
 }
 
 // Written out, so that it is proved once, and not at each exit of a function that owns one.
@@ -36,7 +47,7 @@ impl PartialEq for Values {
     ghost laws = { partial_equiv_from_equiv (lists_equiv int_eq_equiv) };
 
     fn eq(&self, other: &Values) -> bool {
-        are_equal(&self.items, &other.items)
+        are_equal(self.as_slice(), other.as_slice())
     }
 }
 
@@ -47,9 +58,19 @@ impl Eq for Values {
     ghost laws = { lists_equiv int_eq_equiv };
 }
 
+/// Gives a local a value; nothing where there is no such local.
+#[inline(always)]
+pub(crate) fn give(values: &mut [i64], local: usize, value: i64)
+    ensures { values.new ≡ slice_set values.old local value }
+{
+    if local < values.len() {
+        values[local] = value;
+    }
+}
+
 impl Values {
     /// These values, and zeros after them, `count` in all.
-    pub fn new(mut values: Vec<i64>, count: usize) -> Result<Values, AllocError>
+    pub fn new(mut values: Few, count: usize) -> Result<Values, AllocError>
         requires { length values.items ≤ count }
         ensures { IfOk result (λ v. v ≡ values.items ++ replicate (count - length values.items) (pos 0)) }
     {
@@ -64,23 +85,27 @@ impl Values {
         self.items.len()
     }
 
-    /// The value of a local, 0 where there is no such local.
-    pub fn get(&self, local: usize) -> i64
-        ensures { result ≡ slice_index_or self.now local (pos 0) }
+    /// The values as a slice.
+    pub fn as_slice(&self) -> &[i64]
+        ensures { result.now ≡ self.now }
     {
-        match self.items.get(local) {
-            Some(value) => *value,
-            None => 0,
-        }
+        self.items.as_slice()
     }
 
     /// Gives a local a value; nothing where there is no such local.
     pub fn set(&mut self, local: usize, value: i64)
         ensures { self.new ≡ slice_set self.old local value }
     {
-        if local < self.items.len() {
-            self.items[local] = value;
-        }
+        give(self.items.as_mut_slice(), local, value);
+    }
+
+    /// Takes statements of a frame with these values, as [`strides`] does.
+    pub(crate) fn stride(&mut self, instructions: &[Instruction], from: Progress) -> Progress
+        requires { AllLand instructions.now }
+        ensures same { KeepsAsking instructions.now from self.old result self.new }
+        ensures fewer { result.left ≤ from.left }
+    {
+        strides(instructions, self.items.as_mut_slice(), from)
     }
 
     /// Equal values.
@@ -88,7 +113,7 @@ impl Values {
         ensures { IfOk result (λ v. v ≡ self.now) }
     {
         Ok(Values {
-            items: Vec::from_slice(alloc, &self.items)?,
+            items: Few::from_slice(alloc, self.as_slice())?,
         })
     }
 }

@@ -41,7 +41,7 @@ returns-in_ok-request-in-Some-Ask c =
     let code = c.args.self.now.flat in
     let l = c.args.local.now in
     let is : instruction code l.top ≡ Some (Ask c.in-Some-Ask.action) = sym c.in-Some-Ask.ensures.value ∙ ap Some c.in-Some-Ask.field-0-is in
-    acts_here code l (omega arith) (nothing l.top.events c.if-not-is_empty.ensures) c.in-Some-Ask.action c.in_ok-request-in-Some-Ask.field-0 is c.in_ok-request-in-Some-Ask.ensures
+    acts_here code l (omega arith) (nothing l.top.events c.if-not-is_empty.ensures) c.in-Some-Ask.action c.in_ok-request-in-Some-Ask.field-0 is (rw c.as_slice.ensures at c.in_ok-request-in-Some-Ask.ensures)
 
 pub returns-in-Some-Return : goal.returns-in-Some-Return
 returns-in-Some-Return c =
