@@ -86,6 +86,10 @@ pub fn outcome_of<P: Program>(
     if let Some(fault) = core.fault() {
         return failed(fault);
     }
+    // Most runs have ended, which needs no list of all labels, in order.
+    if core.is_ended(alloc)? {
+        return Ok(Outcome::Ended);
+    }
     let labels = core.labels(alloc)?;
     if labels.is_empty() {
         return Ok(Outcome::Ended);
