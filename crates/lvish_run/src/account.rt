@@ -87,11 +87,7 @@ pub fn outcome_of<P: Program>(
         return failed(fault);
     }
     // Most runs have ended, which needs no list of all labels, in order.
-    if core.is_ended(alloc)? {
-        return Ok(Outcome::Ended);
-    }
-    let labels = core.labels(alloc)?;
-    if labels.is_empty() {
+    if core.is_ended(alloc)? || core.labels(alloc)?.is_empty() {
         return Ok(Outcome::Ended);
     }
     Ok(Outcome::Budget)
