@@ -86,8 +86,8 @@ pub fn outcome_of<P: Program>(
     if let Some(fault) = core.fault() {
         return failed(fault);
     }
-    // Most runs have ended, which needs no list of all labels, in order.
-    if core.is_ended(alloc)? || core.labels(alloc)?.is_empty() {
+    let labels = core.labels(alloc)?;
+    if labels.is_empty() {
         return Ok(Outcome::Ended);
     }
     Ok(Outcome::Budget)

@@ -1,14 +1,11 @@
 use Rattle.std.proofs.Common.{rules, ◌≡◌, ◌∙◌, sym, vec_len, length, eq-eqb}
 use Rattle.std.proofs.lemmas.Bool.{both_ways}
 use Rattle.std.proofs.lemmas.Result.{IfOk-weaker}
-use Rattle.lvish_run.proofs.Reports.{some_label, stuck_at_end}
+use Rattle.lvish_run.proofs.Reports.{some_label}
 use Rattle.lvish_run.proofs.account.outcome_of.Goals as goal
 
 pub returns-in-Some : goal.returns-in-Some
 returns-in-Some g c = IfOk-weaker c.failed.result _ _ (λ o same. rw same (sym c.in-Some.ensures)) c.failed.ensures
-
-pub returns-then-is_ended : goal.returns-then-is_ended
-returns-then-is_ended g c = (search rules, stuck_at_end _ c.args.core.now (c.is_ended.ensures.0 c.if-is_ended.true))
 
 pub returns : goal.returns
 returns g c = some_label _ c.args.core.now _ c.in_ok-labels.labels.items (search rules) c.in_ok-labels.ensures
