@@ -16,7 +16,7 @@ use Rattle.lvish_board.proofs.Among.{in_middle}
 use Rattle.lvish_board.proofs.Naming.{found_at, none_at, removed_named, wakes_named, gone_named}
 use Rattle.lvish_board.proofs.Steps.{of_task}
 use Rattle.lvish_board.proofs.Waking.{wakes_none}
-use Rattle.lvish_board.proofs.by_name.ByName.wake.Goals.{in-Some-remove, in_default-remove}
+use Rattle.lvish_board.proofs.by_name.ByName.wake.Goals.{In-Some, in-Some-remove, in_default-remove}
 use Rattle.lvish_board.proofs.by_name.ByName.wake.Goals as goal
 
 pub returns-in_default-clause-wakes : goal.returns-in_default-clause-wakes
@@ -30,25 +30,22 @@ returns-in_default-clause-gone g c = λ t i.
     let r = of_task c.args.name.now c.args.self.now i in
     none_at exact c.args.name.now c.self.inside.asked.entries c.self.invariant.0 (sym c.in_default.ensures.value) r.0 (subst (λ ps. IsAmong r.0 ps) (sym c.self.view_is) r.1) r.2
 
-pub can_act-requires-clause-there : goal.can_act-requires-clause-there
-can_act-requires-clause-there g c =
+-- the task is where it was parked
+stands : (g : _) (c : In-Some g) → local_of (task_of g.P.Lat.Event.PartialEq.eq c.args.core.now.table.tasks c.args.name.now) ≡ Some c.in-Some.asked.now.from
+stands g c =
     let exact = name_cmp-iff g.P.Lat.Event.Ord.cmp g.met.P.Lat.Event.Plain.identical g.met.P.Lat.Event.Ord.matches_eq g.met.P.Lat.Event.Ord.total in
     let asked = c.in-Some.asked.now in
     let r = found_at exact c.args.name.now c.self.inside.asked.entries asked c.self.invariant.0 (sym c.in-Some.ensures.value) in
     let here : IsAmong asked c.args.self.now = subst (λ ps. IsAmong asked ps) (sym r.3 ∙ c.self.view_is) (in_middle asked asked r.0 r.1 (inl refl)) in
-    let stands : local_of (task_of g.P.Lat.Event.PartialEq.eq c.args.core.now.table.tasks c.args.name.now) ≡ Some asked.from =
-    subst (λ t. local_of (task_of g.P.Lat.Event.PartialEq.eq c.args.core.now.table.tasks t) ≡ Some asked.from) r.2 (c.requires.current asked here) in
-    ap is_some stands
+    subst (λ t. local_of (task_of g.P.Lat.Event.PartialEq.eq c.args.core.now.table.tasks t) ≡ Some asked.from) r.2 (c.requires.current asked here)
+
+pub can_act-requires-clause-there : goal.can_act-requires-clause-there
+can_act-requires-clause-there g c = ap is_some (stands g (goal.at.can_act-requires-clause-there g c).In-Some)
 
 pub can_act-requires-clause-request : goal.can_act-requires-clause-request
 can_act-requires-clause-request g c = λ l f a p live.
-    let exact = name_cmp-iff g.P.Lat.Event.Ord.cmp g.met.P.Lat.Event.Plain.identical g.met.P.Lat.Event.Ord.matches_eq g.met.P.Lat.Event.Ord.total in
     let asked = c.in-Some.asked.now in
-    let r = found_at exact c.args.name.now c.self.inside.asked.entries asked c.self.invariant.0 (sym c.in-Some.ensures.value) in
-    let here : IsAmong asked c.args.self.now = subst (λ ps. IsAmong asked ps) (sym r.3 ∙ c.self.view_is) (in_middle asked asked r.0 r.1 (inl refl)) in
-    let stands : local_of (task_of g.P.Lat.Event.PartialEq.eq c.args.core.now.table.tasks c.args.name.now) ≡ Some asked.from =
-    subst (λ t. local_of (task_of g.P.Lat.Event.PartialEq.eq c.args.core.now.table.tasks t) ≡ Some asked.from) r.2 (c.requires.current asked here) in
-    let same : l ≡ asked.from = same_Some l asked.from (sym (ap local_of live) ∙ stands) in
+    let same : l ≡ asked.from = same_Some l asked.from (sym (ap local_of live) ∙ stands g (goal.at.can_act-requires-clause-request g c).In-Some) in
     ap (λ k. (g.P.Program.functions c.args.core.now.program).request k) same ∙ ap (λ q. (g.P.Program.functions q).request asked.from) c.requires.program ∙ sym c.asks.ensures.request
 
 pub returns-then-not-can_act-clause-wakes : goal.returns-then-not-can_act-clause-wakes
