@@ -11,8 +11,8 @@ use Rattle.lvish_picture.specs.Picture.{table_picture}
 use Rattle.lvish_core.specs.Core.{CoreView, IsStep, CanTake, at_fault, state}
 use Rattle.lvish_core.specs.Changes.{local_of, moved_in, nothing_moved, brings}
 use Rattle.lvish_board.specs.Acts.{IsDone, entry_of}
-use Rattle.lvish_board.specs.Left.{option_list, own_ticket, made_ticket}
-use Rattle.lvish_board.specs.Listed.{Concerns, by_handing, by_adding, by_putting, IsListed, acts, handings, own_place, stretches, tickets}
+use Rattle.lvish_board.specs.Left.{own_ticket, made_ticket}
+use Rattle.lvish_board.specs.Listed.{Concerns, by_handing, by_adding, by_putting, IsListed, acts, handings, own_place, stretches, tickets, option_list}
 use Rattle.lvish_board.specs.Place.{TaskPlace}
 use Rattle.lvish_board.specs.Standing.{Standing, IsBlocked, IsBoardSound}
 use Rattle.lvish_board.proofs.Handing.{made_same}

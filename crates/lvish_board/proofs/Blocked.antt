@@ -16,11 +16,11 @@ use Rattle.lvish_core.specs.Spots.{HasSpot, PassesAtItsSpot}
 use Rattle.lvish_core.specs.Waiting.{MayPass, WaitsUntilTouched}
 use Rattle.lvish_core.specs.laws.Runs.{at_state}
 use Rattle.lvish_board.specs.Acts.{entry_of}
-use Rattle.lvish_board.specs.Listed.{Concerns, HasNext, IsListed, acts, handings, stretches, tickets}
+use Rattle.lvish_board.specs.Listed.{Concerns, HasNext, IsListed, acts, handings, stretches, tickets, option_list}
 use Rattle.lvish_board.specs.Place.{TaskPlace}
 use Rattle.lvish_board.specs.Standing.{Standing, IsBlocked, IsCurrent, IsBoardSound, OverIs, tasks_of}
 use Rattle.lvish_board.specs.Woken.{MayAnswer, MayWake}
-use Rattle.lvish_board.specs.Left.{IsLeft, IsLogged, candidates, fresh_in, option_list}
+use Rattle.lvish_board.specs.Left.{IsLeft, IsLogged, candidates, fresh_in}
 use Rattle.lvish_board.proofs.Steps.{done_none, begins_well, kept_step}
 use Rattle.lvish_board.proofs.Those.{those_are, those_sorted}
 

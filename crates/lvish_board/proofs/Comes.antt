@@ -1,12 +1,11 @@
 -- All that a board says of its answer, for each answer, over any machine.
 use Rattle.std.proofs.Common.{◌≡◌, ◌++◌, ◌∷◌, [], Bool, true, false, ℕ, Ordering, Option, None, IsSome, refl, sym, ap, subst, ◌∙◌}
-use Rattle.std.specs.Global.{Vec}
 use Rattle.std.proofs.lemmas.Bool.{false≢true, true≢false}
-use Rattle.lvish_board.specs.Vocabulary.{Act, Hand, Acted, Over, Stale, Parked, Next, Gone, Work}
+use Rattle.lvish_board.specs.Vocabulary.{Act, Hand, Acted, Over, Stale, Parked, Next, Gone, Works}
 use Rattle.lvish_calculus.specs.Machine.{Machine}
 use Rattle.lvish_names.specs.Names.{Handler}
 use Rattle.lvish_board.specs.Acts.{ComesOfAct, IsDone, ComesOfHand, entry_of}
-use Rattle.lvish_board.specs.Listed.{IsListed}
+use Rattle.lvish_board.specs.Listed.{IsListed, works_of}
 use Rattle.lvish_board.specs.Place.{TaskPlace}
 use Rattle.lvish_board.specs.Standing.{Standing}
 
@@ -44,7 +43,7 @@ module _ {P S E R Ans L P1 J1 A1 W : Type 0} {cmp : E → E → Ordering} {M : M
   }
 
   -- a step was made, and the task goes on
-  pub act_next : (list : Vec (Work P1 J1 S L R A1 W E)) → old.over ≡ None → new.trace ≡ old.trace ++ entry_of worker (Act asked.task) ∷ [] → (IsDone M new.core asked.task → ⊥) → IsListed cmp M old (Act asked.task) new list.items → ComesOfAct {P = P1} {J = J1} {A = A1} {W = W} cmp M Stands Can worker asked old new (Next list)
+  pub act_next : (list : Works P1 J1 S L R A1 W E) → old.over ≡ None → new.trace ≡ old.trace ++ entry_of worker (Act asked.task) ∷ [] → (IsDone M new.core asked.task → ⊥) → IsListed cmp M old (Act asked.task) new (works_of list) → ComesOfAct {P = P1} {J = J1} {A = A1} {W = W} cmp M Stands Can worker asked old new (Next list)
   act_next list none written goes listed = record {
     stays = λ e. absurd (true≢false e);
     step = λ _. written;
@@ -58,7 +57,7 @@ module _ {P S E R Ans L P1 J1 A1 W : Type 0} {cmp : E → E → Ordering} {M : M
   }
 
   -- a step was made, and the task goes on no more
-  pub act_gone : (list : Vec (Work P1 J1 S L R A1 W E)) → old.over ≡ None → new.trace ≡ old.trace ++ entry_of worker (Act asked.task) ∷ [] → IsDone M new.core asked.task → IsListed cmp M old (Act asked.task) new list.items → ComesOfAct {P = P1} {J = J1} {A = A1} {W = W} cmp M Stands Can worker asked old new (Gone list)
+  pub act_gone : (list : Works P1 J1 S L R A1 W E) → old.over ≡ None → new.trace ≡ old.trace ++ entry_of worker (Act asked.task) ∷ [] → IsDone M new.core asked.task → IsListed cmp M old (Act asked.task) new (works_of list) → ComesOfAct {P = P1} {J = J1} {A = A1} {W = W} cmp M Stands Can worker asked old new (Gone list)
   act_gone list none written done listed = record {
     stays = λ e. absurd (true≢false e);
     step = λ _. written;
@@ -72,9 +71,9 @@ module _ {P S E R Ans L P1 J1 A1 W : Type 0} {cmp : E → E → Ordering} {M : M
   }
 
   -- a step was made, and the answer says whether the task goes on
-  pub act_left : (goes_on : Bool) (list : Vec (Work P1 J1 S L R A1 W E)) (result : Acted P1 J1 S L R A1 W E) → (goes_on ≡ true → result ≡ Next list) → (goes_on ≡ false → result ≡ Gone list)
+  pub act_left : (goes_on : Bool) (list : Works P1 J1 S L R A1 W E) (result : Acted P1 J1 S L R A1 W E) → (goes_on ≡ true → result ≡ Next list) → (goes_on ≡ false → result ≡ Gone list)
       → old.over ≡ None → new.trace ≡ old.trace ++ entry_of worker (Act asked.task) ∷ [] → (goes_on ≡ true → IsDone M new.core asked.task → ⊥) → (goes_on ≡ false → IsDone M new.core asked.task)
-      → IsListed cmp M old (Act asked.task) new list.items → ComesOfAct cmp M Stands Can worker asked old new result
+      → IsListed cmp M old (Act asked.task) new (works_of list) → ComesOfAct cmp M Stands Can worker asked old new result
   act_left true list result next gone none written goes ends listed = subst (λ r. ComesOfAct cmp M Stands Can worker asked old new r) (sym (next refl)) (act_next list none written (goes refl) listed)
   act_left false list result next gone none written goes ends listed = subst (λ r. ComesOfAct cmp M Stands Can worker asked old new r) (sym (gone refl)) (act_gone list none written (ends refl) listed)
 
@@ -122,12 +121,12 @@ module _ {P S E R Ans L P1 J1 A1 W : Type 0} {cmp : E → E → Ordering} {M : M
   }
 
   -- what came next was handed
-  pub hand_next : (list : Vec (Work P1 J1 S L R A1 W E)) (event : E) → ((e : E) → IsNext e → event ≡ e) → old.over ≡ None → new.trace ≡ old.trace ++ entry_of worker (Hand handler event) ∷ [] → IsListed cmp M old (Hand handler event) new list.items → ComesOfHand {P = P1} {J = J1} {A = A1} {W = W} cmp M Held IsNext worker handler old new (Next list)
+  pub hand_next : (list : Works P1 J1 S L R A1 W E) (event : E) → ((e : E) → IsNext e → event ≡ e) → old.over ≡ None → new.trace ≡ old.trace ++ entry_of worker (Hand handler event) ∷ [] → IsListed cmp M old (Hand handler event) new (works_of list) → ComesOfHand {P = P1} {J = J1} {A = A1} {W = W} cmp M Held IsNext worker handler old new (Next list)
   hand_next list event one none written listed = record {
     stays = λ e. absurd (true≢false e);
     step = λ _ e next. subst (λ x. new.trace ≡ old.trace ++ entry_of worker (Hand handler x) ∷ []) (one e next) written;
     gone = refl;
-    list = λ e next. subst (λ x. IsListed cmp M old (Hand handler x) new list.items) (one e next) listed;
+    list = λ e next. subst (λ x. IsListed cmp M old (Hand handler x) new (works_of list)) (one e next) listed;
     over = λ e. absurd (false≢true e);
     done = not_over old.over none;
     stale = λ e. absurd (false≢true e);

@@ -19,8 +19,8 @@ use Rattle.lvish_core.specs.Core.{CoreView, IsRunTo, IsStep, state}
 use Rattle.lvish_core.specs.Changes.{IsMoved, local_of, moved_in, brought, brings, put_brings, task_touches, touched_in, touching}
 use Rattle.lvish_core.specs.Reads.{AreHandlers, IsHeldAs}
 use Rattle.lvish_core.specs.laws.Runs.{at_state}
-use Rattle.lvish_board.specs.Listed.{Concerns, by_handing, by_adding, by_putting}
-use Rattle.lvish_board.specs.Left.{AreConcerned, IsLogged, candidates, fresh_in, log_from, option_list, most_added}
+use Rattle.lvish_board.specs.Listed.{Concerns, by_handing, by_adding, by_putting, option_list}
+use Rattle.lvish_board.specs.Left.{AreConcerned, IsLogged, candidates, fresh_in, log_from, most_added}
 use Rattle.lvish_core.specs.laws.Lists.{among_map}
 use Rattle.lvish_board.proofs.Among.{of_map}
 use Rattle.lvish_board.proofs.Blocked.{IsMade}

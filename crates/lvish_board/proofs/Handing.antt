@@ -12,8 +12,8 @@ use Rattle.lvish_core.specs.CoreLaws.{HandsOneEvent, HandsWhatComes}
 use Rattle.lvish_core.specs.Changes.{IsMoved, moved_in, brings, touching}
 use Rattle.lvish_core.specs.Handed.{IsHanded}
 use Rattle.lvish_core.specs.laws.Runs.{at_state}
-use Rattle.lvish_board.specs.Listed.{Concerns, by_handing, by_adding, by_putting, made_place, tickets}
-use Rattle.lvish_board.specs.Left.{IsLeft, IsLogged, candidates, fresh_in, option_list, made_ticket}
+use Rattle.lvish_board.specs.Listed.{Concerns, by_handing, by_adding, by_putting, made_place, tickets, option_list}
+use Rattle.lvish_board.specs.Left.{IsLeft, IsLogged, candidates, fresh_in, made_ticket}
 use Rattle.lvish_board.specs.Place.{TaskPlace}
 use Rattle.lvish_board.specs.Standing.{Standing, IsBoardSound, labels_of}
 use Rattle.lvish_board.proofs.Blocked.{IsMade}

@@ -4,6 +4,7 @@ pub mod Blocked
 pub mod Comes
 pub mod Concerned
 pub mod Handing
+pub mod Listing
 pub mod Lists
 pub mod Naming
 pub mod Parking

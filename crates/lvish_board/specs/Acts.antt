@@ -9,7 +9,7 @@ use Rattle.lvish_core.specs.Changes.{local_of}
 use Rattle.lvish_board.specs.Place.{TaskPlace}
 use Rattle.lvish_board.specs.Standing.{Standing}
 use Rattle.lvish_board.specs.Woken.{IsParkedBeside}
-use Rattle.lvish_board.specs.Listed.{IsListed}
+use Rattle.lvish_board.specs.Listed.{IsListed, works_of}
 
 -- a step was made
 abbrev pub is_step : {P J S L R A W E : Type 0} → Acted P J S L R A W E → Bool
@@ -57,8 +57,8 @@ IsDone M c t = (local_of ((state M c).tasks t) ≡ None) ⊎ IsSome c.fault
 
 -- after a step with the label the work is just what is listed
 abbrev pub ListsWork : {P' P J S L R A W E Ans : Type 0} → (E → E → Ordering) → Machine S E R Ans L → Standing P' S E L → Label E → Standing P' S E L → Acted P J S L R A W E → Type 0
-ListsWork cmp M old l new (Next ws) = IsListed cmp M old l new ws.items
-ListsWork cmp M old l new (Gone ws) = IsListed cmp M old l new ws.items
+ListsWork cmp M old l new (Next ws) = IsListed cmp M old l new (works_of ws)
+ListsWork cmp M old l new (Gone ws) = IsListed cmp M old l new (works_of ws)
 ListsWork cmp M old l new _ = Unit {0}
 
 -- all that `act` says of its answer, clause by clause, in one: Stands says that the task is at its state, Can that its step can be made

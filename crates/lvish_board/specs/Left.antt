@@ -14,7 +14,7 @@ use Rattle.lvish_core.specs.Core.{CoreView, CanTake, IsStep, state}
 use Rattle.lvish_board.specs.Place.{TaskPlace}
 use Rattle.lvish_board.specs.Standing.{tasks_of}
 use Rattle.lvish_board.specs.Woken.{IsWoken, MayWake}
-use Rattle.lvish_board.specs.Listed.{stretches, acts, handings, HasNext}
+use Rattle.lvish_board.specs.Listed.{stretches, acts, handings, option_list, HasNext}
 
 -- the place where the acting task goes on
 abbrev pub own_ticket : {E L : Type 0} → Name E → Option L → Option (TaskPlace E L)
@@ -25,10 +25,6 @@ own_ticket t (Some l) = Some (record { task = t; from = l })
 abbrev pub made_ticket : {E L : Type 0} → Option (Made E L) → Option (TaskPlace E L)
 made_ticket None = None
 made_ticket (Some m) = Some (record { task = m.name; from = m.local })
-
-abbrev pub option_list : {X : Type 0} → Option X → List X
-option_list None = []
-option_list (Some x) = x ∷ []
 
 -- the log of a variable from the entry of this number on
 abbrev pub log_from : {S E : Type 0} → ℕ → Option (Variable S E) → List (Entry E)
@@ -49,12 +45,6 @@ IsLogged variables logged touched = Unit {0}
 abbrev pub AreThose : {X : Type 0} → (X → Type 0) → List X → List X → Type 0
 AreThose P [] those = those ≡ []
 AreThose {X} P (x ∷ xs) those = ((ys : List X) × (those ≡ x ∷ ys) × P x × AreThose P xs ys) ⊎ ((P x → ⊥) × AreThose P xs those)
-
--- the next handings of the handlers for which Has holds were added to a list
-pub record AddsHandings {P J S L R A W E : Type 0} (Has : Handler E → Type 0) (handlers : List (Handler E)) (before after : List (Work P J S L R A W E)) : Type 0 where
-  pub those : List (Handler E)
-  pub are : AreThose Has handlers those
-  pub is : after ≡ before ++ handings those
 
 -- the work of these tickets, of the woken tasks, and of the handlers among these with something left
 pub record IsListOf {P' P J S L R A W E Ans : Type 0} (M : Machine S E R Ans L) (c : CoreView P' S E L) (own made : Option (TaskPlace E L)) (woken : List (TaskPlace E L)) (handlers : List (Handler E)) (ws : List (Work P J S L R A W E)) : Type 0 where

@@ -3,7 +3,7 @@ use Rattle.std.specs.Prelude.{◌≡◌, ◌↔◌, ℕ, List, [], ◌∷◌, �
 use Rattle.std.specs.List.Sorted.{IsStrictlySortedBy}
 use Rattle.std.specs.declared.cmp.Ordering.{Ordering}
 use Rattle.lvish_names.specs.NameOrder.{name_cmp, handler_cmp}
-use Rattle.lvish_board.specs.Vocabulary.{Label, Act, Hand, Made, Moved, Work, Stretch, ActOn, HandTo}
+use Rattle.lvish_board.specs.Vocabulary.{Label, Act, Hand, Made, Moved, Work, Stretch, ActOn, HandTo, Works}
 use Rattle.lvish_calculus.specs.Machine.{Machine}
 use Rattle.lvish_calculus.specs.Calculus.{IsOn, effect}
 use Rattle.lvish_names.specs.Names.{Handler}
@@ -24,6 +24,14 @@ acts places = map (λ p. ActOn p) places
 -- the next handing of each of these handlers
 abbrev pub handings : {P J S L R A W E : Type 0} → List (Handler E) → List (Work P J S L R A W E)
 handings handlers = map (λ h. HandTo h) handlers
+
+abbrev pub option_list : {X : Type 0} → Option X → List X
+option_list None = []
+option_list (Some x) = x ∷ []
+
+-- the work that a step leaves, in its order
+abbrev pub works_of : {P J S L R A W E : Type 0} → Works P J S L R A W E → List (Work P J S L R A W E)
+works_of works = stretches (option_list works.own ++ option_list works.made) ++ acts works.woken.items ++ handings works.hands.items
 
 -- where the acting task goes on
 abbrev pub own_place : {E L : Type 0} → Label E → Option L → List (TaskPlace E L)

@@ -22,5 +22,6 @@ pub use Rattle.lvish_board.specs.declared.outcome.Outcome.{Outcome}
 pub use Rattle.lvish_board.specs.declared.outcome.Outcome.TheVariants.{Ended as EndedOver, Error as ErrorOver, Budget}
 pub use Rattle.lvish_board.specs.declared.work.Work.{Work}
 pub use Rattle.lvish_board.specs.declared.work.Work.TheVariants.{Stretch, Act as ActOn, Hand as HandTo}
+pub use Rattle.lvish_board.specs.declared.works.Works.{Works}
 pub use Rattle.lvish_board.specs.declared.acted.Acted.{Acted}
 pub use Rattle.lvish_board.specs.declared.acted.Acted.TheVariants.{Over, Stale, Parked, Memory, Next, Gone}

@@ -1,5 +1,6 @@
 use crate::named::Named;
 use crate::work::Work;
+use crate::works::Works;
 use lvish_calculus::Program;
 
 /// What came of work that a board was given; where several hold, the first.
@@ -15,7 +16,7 @@ pub enum Acted<P: Program, J: Named<P>> {
     /// A growth was refused. Nothing has changed, and this is the work that was given.
     Memory(Work<P, J>),
     /// A step was made, and left this work.
-    Next(Vec<Work<P, J>>),
+    Next(Works<P, J>),
     /// A step was made, by which the task has ended or met an error, and left this work.
-    Gone(Vec<Work<P, J>>),
+    Gone(Works<P, J>),
 }

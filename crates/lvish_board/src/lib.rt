@@ -31,6 +31,7 @@ mod shelves;
 mod ticket;
 mod trace_entry;
 mod work;
+mod works;
 
 pub use acted::Acted;
 pub use asked::{Asked, stretch};
@@ -40,3 +41,4 @@ pub use outcome::Outcome;
 pub use ticket::Ticket;
 pub use trace_entry::TraceEntry;
 pub use work::Work;
+pub use works::Works;

@@ -1,18 +1,18 @@
 //! The work that a step leaves.
 
-ghost use Rattle.std.specs.Prelude.{◌≡◌, ◌<◌, ◌≤◌, ◌+◌, ◌++◌, [], length, vec_len, vec_capacity};
+ghost use Rattle.std.specs.Prelude.{◌≡◌, ◌≤◌, ◌+◌, [], length, vec_len, vec_capacity};
 ghost use Rattle.lvish_calculus.specs.Handing.{IsAmong, NoRepeats};
 ghost use Rattle.lvish_board.specs.Place.{TaskPlace};
 ghost use Rattle.lvish_board.specs.Standing.{tasks_of};
-ghost use Rattle.lvish_board.specs.Listed.{HasNext, stretches, acts};
-ghost use Rattle.lvish_board.specs.Left.{AddsHandings, IsLeft, IsListOf, IsLogged, candidates, fresh_in, own_ticket, made_ticket, option_list};
+ghost use Rattle.lvish_board.specs.Listed.{HasNext, works_of, option_list};
+ghost use Rattle.lvish_board.specs.Left.{AreThose, IsLeft, IsLogged, candidates, fresh_in, own_ticket, made_ticket};
 
 use crate::asked::Asked;
 use crate::named::Named;
 use crate::parked::Parked;
 use crate::room::{Room, given};
 use crate::ticket::Ticket;
-use crate::work::Work;
+use crate::works::Works;
 use lvish_calculus::{Meaning, Program};
 use lvish_core::{Core, CoreMeaning, Made, Moved, Touched};
 use lvish_lattice::Lattice;
@@ -78,7 +78,7 @@ fn fresh<'c, P: Program>(
 /// The work that a step leaves: the tickets, the parked tasks that it woke, by name, and of the
 /// handlers that it concerned those with something left.
 ///
-/// `room` has the handlers that a put may concern; `logged` is the length of its variable's log
+/// `room` has the handlers that the step may concern; `logged` is the length of its variable's log
 /// before the step.
 pub(crate) fn leave<P: Program, J: Named<P>>(
     alloc: Global,
@@ -87,101 +87,65 @@ pub(crate) fn leave<P: Program, J: Named<P>>(
     left: OwnWork<P, J>,
     room: &mut Room<P, J>,
     logged: usize,
-) -> Vec<Work<P, J>>
+) -> Works<P, J>
     requires program { core.now.program ≡ J.program }
     requires logged { IsLogged core.now.table.variables logged core.now.touched }
     requires current { (p : TaskPlace P.Lat.Event P.Local) → IsAmong p parked.old → ⟦<P as CoreMeaning>⟧.local_in core.now p.task ≡ Some p.from }
-    requires empty { (room.old.list.items ≡ []) × (room.old.woken.items ≡ []) }
-    requires list_room { 2 + length parked.old + (length room.old.hands.items + length (option_list left.added)) ≤ vec_capacity room.old.list }
+    requires empty { (room.old.woken.items ≡ []) × (room.old.hands.items ≡ []) }
     requires woken_room { length parked.old ≤ vec_capacity room.old.woken }
-    requires hands_room { length room.old.hands.items + length (option_list left.added) ≤ vec_capacity room.old.hands }
-    ensures left { IsLeft P.Lat.Event.cmp (⟦<P as Meaning>⟧.machine J.program) P.Lat.spot_of P.Lat.watched core.now logged left.own left.made left.added room.old.hands.items parked.old parked.new result.items }
+    requires concerned_room { length room.old.concerned.items + length (option_list left.added) ≤ vec_capacity room.old.concerned }
+    requires hands_room { length room.old.concerned.items + length (option_list left.added) ≤ vec_capacity room.old.hands }
+    ensures left { IsLeft P.Lat.Event.cmp (⟦<P as Meaning>⟧.machine J.program) P.Lat.spot_of P.Lat.watched core.now logged left.own left.made left.added room.old.concerned.items parked.old parked.new (works_of result) }
     ensures once { NoRepeats (tasks_of parked.old) → NoRepeats (tasks_of parked.new) }
 {
     let entries = fresh(core, logged);
     parked.wake(core, entries, &mut room.woken);
     let OwnWork { own, made, added } = left;
-    keep_candidates(entries, &mut room.hands, added);
+    keep_candidates(entries, &mut room.concerned, added);
+    let concerned = given(alloc, &mut room.concerned);
+    list_hands(core, &mut room.hands, concerned);
     let woken = given(alloc, &mut room.woken);
     let hands = given(alloc, &mut room.hands);
-    list_work(core, &mut room.list, own, made, woken, hands);
-    given(alloc, &mut room.list)
+    Works {
+        own,
+        made,
+        woken,
+        hands,
+    }
 }
 
 /// Leaves the handlers that a step may concern: none of a put's where it brought no entry, and an
 /// added one.
 fn keep_candidates<E: Drop>(
     entries: &[Entry<E>],
-    hands: &mut Vec<HandlerName<E>>,
+    concerned: &mut Vec<HandlerName<E>>,
     added: Option<HandlerName<E>>,
 )
-    requires room { length hands.old.items + length (option_list added) ≤ vec_capacity hands.old }
-    ensures are { hands.new.items ≡ candidates entries.now hands.old.items added }
-    ensures few { vec_len hands.new ≤ length hands.old.items + length (option_list added) }
+    requires room { length concerned.old.items + length (option_list added) ≤ vec_capacity concerned.old }
+    ensures are { concerned.new.items ≡ candidates entries.now concerned.old.items added }
+    ensures few { vec_len concerned.new ≤ length concerned.old.items + length (option_list added) }
 {
     if entries.is_empty() {
-        hands.clear();
+        concerned.clear();
     }
     if let Some(name) = added {
-        hands.push_reserved(name);
+        concerned.push_reserved(name);
     }
 }
 
-/// Fills the empty list with this work.
-fn list_work<P: Program, J: Named<P>>(
+/// Lists those of the handlers with something left for them, on the empty list.
+fn list_hands<P: Program>(
     core: &Core<'_, P>,
-    list: &mut Vec<Work<P, J>>,
-    own: Option<Ticket<P, J>>,
-    made: Option<Ticket<P, J>>,
-    woken: Vec<Asked<P, J>>,
-    hands: Vec<HandlerName<<P::Lat as Lattice>::Event>>,
+    list: &mut Vec<HandlerName<<P::Lat as Lattice>::Event>>,
+    concerned: Vec<HandlerName<<P::Lat as Lattice>::Event>>,
 )
     requires empty { list.old.items ≡ [] }
-    requires room { 2 + vec_len woken + vec_len hands ≤ vec_capacity list.old }
-    ensures { IsListOf (⟦<P as Meaning>⟧.machine core.now.program) core.now own made woken.items hands.items list.new.items }
+    requires room { vec_len concerned ≤ vec_capacity list.old }
+    ensures { AreThose (λ h. HasNext (⟦<P as Meaning>⟧.machine core.now.program) core.now h) concerned.items list.new.items }
 {
-    list_ticket(list, own);
-    list_ticket(list, made);
-    list_acts(list, woken);
-    list_hands(core, list, hands);
-}
-
-/// Lists the ticket, if there is one.
-fn list_ticket<P: Program, J: Named<P>>(list: &mut Vec<Work<P, J>>, ticket: Option<Ticket<P, J>>)
-    requires room { vec_len list.old < vec_capacity list.old }
-    ensures items { list.new.items ≡ list.old.items ++ stretches (option_list ticket) }
-    ensures capacity { vec_capacity list.new ≡ vec_capacity list.old }
-    ensures len { vec_len list.new ≤ vec_len list.old + 1 }
-{
-    if let Some(ticket) = ticket {
-        list.push_reserved(Work::Stretch(ticket));
-    }
-}
-
-/// Lists what the woken tasks ask for.
-fn list_acts<P: Program, J: Named<P>>(list: &mut Vec<Work<P, J>>, woken: Vec<Asked<P, J>>)
-    requires room { vec_len list.old + vec_len woken ≤ vec_capacity list.old }
-    ensures items { list.new.items ≡ list.old.items ++ acts woken.items }
-    ensures capacity { vec_capacity list.new ≡ vec_capacity list.old }
-    ensures len { vec_len list.new ≡ vec_len list.old + vec_len woken }
-{
-    for asked in woken {
-        list.push_reserved(Work::Act(asked));
-    }
-}
-
-/// Lists those of the handlers with something left for them.
-fn list_hands<P: Program, J: Named<P>>(
-    core: &Core<'_, P>,
-    list: &mut Vec<Work<P, J>>,
-    hands: Vec<HandlerName<<P::Lat as Lattice>::Event>>,
-)
-    requires room { vec_len list.old + vec_len hands ≤ vec_capacity list.old }
-    ensures { AddsHandings (λ h. HasNext (⟦<P as Meaning>⟧.machine core.now.program) core.now h) hands.items list.old.items list.new.items }
-{
-    for handler in hands {
+    for handler in concerned {
         if core.next(&handler).is_some() {
-            list.push_reserved(Work::Hand(handler));
+            list.push_reserved(handler);
         }
     }
 }

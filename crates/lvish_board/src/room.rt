@@ -5,7 +5,6 @@ ghost use Rattle.lvish_board.specs.Left.{AreConcerned, most_added};
 
 use crate::asked::Asked;
 use crate::named::Named;
-use crate::work::Work;
 use lvish_calculus::{Meaning, Program, Request};
 use lvish_core::{Core, CoreMeaning};
 use lvish_handlers::Held;
@@ -17,9 +16,10 @@ use std::mem;
 /// Room for the work of a step, taken before it, so that nothing is refused after it. A board keeps
 /// it from step to step, so that a step takes memory only where there isn't enough room.
 pub(crate) struct Room<P: Program, J: Named<P>> {
-    pub list: Vec<Work<P, J>>,
     pub woken: Vec<Asked<P, J>>,
-    /// The names of the handlers that a put may concern.
+    /// The names of the handlers that a step may concern.
+    pub concerned: Vec<HandlerName<<P::Lat as Lattice>::Event>>,
+    /// Those of them with something left for them.
     pub hands: Vec<HandlerName<<P::Lat as Lattice>::Event>>,
 }
 
@@ -27,8 +27,8 @@ pub(crate) struct Room<P: Program, J: Named<P>> {
 impl<P: Program, J: Named<P>> Drop for Room<P, J> {
     fn drop(self) {
         let Room {
-            list: _,
             woken: _,
+            concerned: _,
             hands: _,
         } = self;
     }
@@ -38,27 +38,26 @@ impl<P: Program, J: Named<P>> Room<P, J> {
     /// No room.
     pub(crate) fn new(alloc: Global) -> Room<P, J> {
         Room {
-            list: Vec::new(alloc),
             woken: Vec::new(alloc),
+            concerned: Vec::new(alloc),
             hands: Vec::new(alloc),
         }
     }
 
-    /// Empties it, with room for two tickets, this many parked tasks and this many handlers.
+    /// Empties it, with room for this many parked tasks and this many handlers.
     ///
     /// # Errors
     ///
     /// Where there is none.
     pub(crate) fn reserve(&mut self, parked: usize, handlers: usize) -> Result<(), AllocError>
-        ensures list { IfOk result (λ _. (self.new.list.items ≡ []) × (2 + parked + handlers ≤ vec_capacity self.new.list)) }
         ensures woken { IfOk result (λ _. (self.new.woken.items ≡ []) × (parked ≤ vec_capacity self.new.woken)) }
+        ensures concerned { IfOk result (λ _. (self.new.concerned.items ≡ []) × (handlers ≤ vec_capacity self.new.concerned)) }
         ensures hands { IfOk result (λ _. (self.new.hands.items ≡ []) × (handlers ≤ vec_capacity self.new.hands)) }
     {
-        let most = parked.saturating_add(handlers).saturating_add(2);
-        self.list.clear();
-        self.list.reserve(most)?;
         self.woken.clear();
         self.woken.reserve(parked)?;
+        self.concerned.clear();
+        self.concerned.reserve(handlers)?;
         self.hands.clear();
         self.hands.reserve(handlers)
     }
@@ -76,17 +75,17 @@ impl<P: Program, J: Named<P>> Room<P, J> {
         asked: &Asked<P, J>,
     ) -> Result<usize, AllocError>
         requires program { core.now.program ≡ J.program }
-        ensures empty { IfOk result (λ _. (self.new.list.items ≡ []) × (self.new.woken.items ≡ [])) }
-        ensures hands { IfOk result (λ n. AreConcerned P.Lat.Event.cmp (⟦<P as Meaning>⟧.machine core.now.program) core.now ((P.functions core.now.program).request asked.now.from) self.new.hands.items n) }
-        ensures list_room { IfOk result (λ _. 2 + parked + (length self.new.hands.items + most_added ((P.functions core.now.program).request asked.now.from)) ≤ vec_capacity self.new.list) }
+        ensures empty { IfOk result (λ _. (self.new.woken.items ≡ []) × (self.new.hands.items ≡ [])) }
+        ensures concerned { IfOk result (λ n. AreConcerned P.Lat.Event.cmp (⟦<P as Meaning>⟧.machine core.now.program) core.now ((P.functions core.now.program).request asked.now.from) self.new.concerned.items n) }
         ensures woken_room { IfOk result (λ _. parked ≤ vec_capacity self.new.woken) }
-        ensures hands_room { IfOk result (λ _. length self.new.hands.items + most_added ((P.functions core.now.program).request asked.now.from) ≤ vec_capacity self.new.hands) }
+        ensures concerned_room { IfOk result (λ _. length self.new.concerned.items + most_added ((P.functions core.now.program).request asked.now.from) ≤ vec_capacity self.new.concerned) }
+        ensures hands_room { IfOk result (λ _. length self.new.concerned.items + most_added ((P.functions core.now.program).request asked.now.from) ≤ vec_capacity self.new.hands) }
     {
         match &asked.asks().request {
             Request::Put(variable, _) => {
                 let handlers = core.handlers(*variable);
                 self.reserve(parked, handlers.len())?;
-                copy_names(handlers, &mut self.hands)?;
+                copy_names(handlers, &mut self.concerned)?;
                 Ok(core.states()[*variable].log().len())
             }
             Request::Add(_, _) => {

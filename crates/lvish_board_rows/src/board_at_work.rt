@@ -9,7 +9,7 @@ use crate::text::{write_label, write_machine, write_outcome};
 use crate::work::{after_space, count, place_of, text_of, write_works};
 use crate::work_left::WorkLeft;
 use crate::work_order::WorkOrder;
-use lvish_board::{Acted, Board, Named, TraceEntry, Work};
+use lvish_board::{Acted, Board, Named, TraceEntry, Work, Works};
 use lvish_calculus::{Label, Program};
 use lvish_core::MOST_STEPS;
 use lvish_lattice::{Lattice, Numbered};
@@ -17,14 +17,16 @@ use std::alloc::{AllocError, Global};
 use std::fmt::Write;
 use std::mem;
 
-/// A board, a copy of its first work, the work that it has left, the piece in hand, and what was
-/// answered last. So what is owned stands here, and what is written of it is borrowed.
+/// A board, a copy of its first work, the work that it has left, the piece in hand, what was answered
+/// last, and the work that this answer left. So what is owned stands here, and what is written of it is
+/// borrowed.
 pub struct BoardAtWork<'p, P: Program, J: Named<P>> {
     board: Board<'p, P, J>,
     first: Option<Work<P, J>>,
     left: WorkLeft<Work<P, J>>,
     work: Option<Work<P, J>>,
     act: Acted<P, J>,
+    fresh: Vec<Work<P, J>>,
 }
 
 // Written out, so that it is proved once, and not at each exit of a function that owns one.
@@ -36,6 +38,7 @@ impl<'p, P: Program, J: Named<P>> Drop for BoardAtWork<'p, P, J> {
             left: _,
             work: _,
             act: _,
+            fresh: _,
         } = self;
     }
 }
@@ -65,6 +68,7 @@ impl<'p, P: Program, J: Named<P>> BoardAtWork<'p, P, J> {
             left: WorkLeft::new(alloc),
             work: Some(work),
             act: Acted::Parked,
+            fresh: Vec::new(alloc),
         };
         seat.begin(alloc, program)?;
         Ok(seat)
@@ -90,12 +94,31 @@ impl<'p, P: Program, J: Named<P>> BoardAtWork<'p, P, J> {
     }
 
     /// Does the work in hand, if there is one.
-    fn tell(&mut self, alloc: Global, program: &P)
+    fn tell(&mut self, alloc: Global, program: &P) -> Result<(), AllocError>
         requires { program.now ≡ J.program }
     {
-        if let Some(work) = self.work.take() {
-            self.act = told(alloc, program, &mut self.board, work);
+        match self.work.take() {
+            Some(work) => {
+                self.act = told(alloc, program, &mut self.board, work);
+                self.list(alloc)
+            }
+            None => Ok(()),
         }
+    }
+
+    /// Lists the work that the last answer left, which is moved out of it.
+    fn list(&mut self, alloc: Global) -> Result<(), AllocError> {
+        self.fresh.clear();
+        if let Acted::Next(works) | Acted::Gone(works) = &mut self.act {
+            let none = Works {
+                own: None,
+                made: None,
+                woken: Vec::new(alloc),
+                hands: Vec::new(alloc),
+            };
+            self.fresh = mem::replace(works, none).into_list(alloc)?;
+        }
+        Ok(())
     }
 
     /// Takes the work in hand that came back for want of memory.
@@ -108,10 +131,7 @@ impl<'p, P: Program, J: Named<P>> BoardAtWork<'p, P, J> {
 
     /// Keeps the work that the last answer left.
     fn keep(&mut self) -> Result<(), AllocError> {
-        match &mut self.act {
-            Acted::Next(works) | Acted::Gone(works) => self.left.keep_all(works),
-            Acted::Over | Acted::Stale | Acted::Parked | Acted::Memory(_) => Ok(()),
-        }
+        self.left.keep_all(&mut self.fresh)
     }
 
     /// Takes the next piece of work in hand, unless the board is over or there is none.
@@ -130,6 +150,7 @@ impl<'p, P: Program, J: Named<P>> BoardAtWork<'p, P, J> {
             left: _,
             work: _,
             act: _,
+            fresh: _,
         } = self;
         board.into_trace()
     }
@@ -217,13 +238,13 @@ where
             Acted::Stale => text.push_str("Stale"),
             Acted::Parked => text.push_str("Parked"),
             Acted::Memory(_) => text.push_str("Memory"),
-            Acted::Next(works) => {
+            Acted::Next(_) => {
                 text.push_str("Next")?;
-                write_works(alloc, text, works)
+                write_works(alloc, text, &self.fresh)
             }
-            Acted::Gone(works) => {
+            Acted::Gone(_) => {
                 text.push_str("Gone")?;
-                write_works(alloc, text, works)
+                write_works(alloc, text, &self.fresh)
             }
         }
     }
@@ -241,11 +262,10 @@ where
     {
         let before = self.machine(alloc)?;
         let over = self.board.over().is_some();
-        self.tell(alloc, program);
+        self.tell(alloc, program)?;
         self.write_faults(alloc, text, given, before.as_str(), over)?;
         self.take_back();
-        self.tell(alloc, program);
-        Ok(())
+        self.tell(alloc, program)
     }
 
     /// Does the work in hand, writes what is answered, and keeps what is left.

@@ -1,7 +1,6 @@
 -- A run that a board has made so far by one worker, and its report.
 use Rattle.std.specs.Prelude.{◌≡◌, ◌⊎◌, ◌≤◌, ◌%◌, ℕ, Bool, true, false, List, [], ◌∷◌, ◌++◌, map, length, Option, Some, None, IsSome, slice_get}
 use Rattle.std.specs.List.{AllByRecursion}
-use Rattle.std.specs.Global.{Vec}
 use Rattle.std.specs.declared.cmp.Ordering.{Ordering}
 use Rattle.std.specs.declared.cmp.Ordering.TheVariants.{Less}
 use Rattle.lvish_calculus.specs.declared.label.Label.{Label}
@@ -16,7 +15,8 @@ use Rattle.lvish_core.specs.Labels.{label_cmp, AreLabels}
 use Rattle.lvish_board.specs.declared.trace_entry.TraceEntry.{TraceEntry}
 use Rattle.lvish_board.specs.Acts.{entry_of}
 use Rattle.lvish_board.specs.declared.work.Work.{Work}
-use Rattle.lvish_board.specs.Listed.{IsListed}
+use Rattle.lvish_board.specs.declared.works.Works.{Works}
+use Rattle.lvish_board.specs.Listed.{IsListed, works_of}
 use Rattle.lvish_board.specs.Place.{TaskPlace}
 use Rattle.lvish_board.specs.Standing.{Standing, labels_of}
 use Rattle.lvish_board.specs.Woken.{IsParkedBeside}
@@ -67,13 +67,13 @@ pub record IsPassed {P S E R A L : Type 0} (M : Machine S E R A L) (old : Standi
   pub why : IsSome new.over ⊎ ((CanTake M old.core (Act p.task) → ⊥) × IsParkedBeside old.parked p new.parked)
 
 -- what a task's request led to: the work that its step left
-abbrev pub IsTried : {P' P J S L R A W E Ans : Type 0} → (E → E → Ordering) → Machine S E R Ans L → Standing P' S E L → TaskPlace E L → Option (Vec (Work P J S L R A W E)) → Standing P' S E L → Type 0
-IsTried cmp M old p (Some ws) new = IsMade cmp M old (Act p.task) new ws.items
+abbrev pub IsTried : {P' P J S L R A W E Ans : Type 0} → (E → E → Ordering) → Machine S E R Ans L → Standing P' S E L → TaskPlace E L → Option (Works P J S L R A W E) → Standing P' S E L → Type 0
+IsTried cmp M old p (Some ws) new = IsMade cmp M old (Act p.task) new (works_of ws)
 IsTried cmp M old p None new = IsPassed M old p new
 
 -- what a handler for which something comes next led to: the work that its handing left, or none, because the board is over
-abbrev pub IsTriedHand : {P' P J S L R A W E Ans : Type 0} → (E → E → Ordering) → Machine S E R Ans L → Standing P' S E L → Handler E → Option (Vec (Work P J S L R A W E)) → Standing P' S E L → Type 0
-IsTriedHand {E = E} cmp M old h (Some ws) new = (e : E) → IsNext M.event_same old.core.table h e → IsMade cmp M old (Hand h e) new ws.items
+abbrev pub IsTriedHand : {P' P J S L R A W E Ans : Type 0} → (E → E → Ordering) → Machine S E R Ans L → Standing P' S E L → Handler E → Option (Works P J S L R A W E) → Standing P' S E L → Type 0
+IsTriedHand {E = E} cmp M old h (Some ws) new = (e : E) → IsNext M.event_same old.core.table h e → IsMade cmp M old (Hand h e) new (works_of ws)
 IsTriedHand cmp M old h None new = IsIdle old new × IsSome new.over
 
 -- whether the task's step was made: where it wasn't, the board is over, or the task is blocked

@@ -1,10 +1,11 @@
 //! What work opens in an agenda.
 
 ghost use Rattle.std.specs.Prelude.{◌≡◌, ◌∷◌, [], IfOk};
+ghost use Rattle.lvish_board.specs.Listed.{works_of};
 ghost use Rattle.lvish_run.specs.Agenda.{open_in, Adds};
 
 use crate::agenda::Agenda;
-use lvish_board::{Named, Work, stretch};
+use lvish_board::{Named, Work, Works, stretch};
 use lvish_calculus::Program;
 use std::alloc::{AllocError, Global};
 
@@ -33,12 +34,13 @@ pub(crate) fn open_all<P: Program, J: Named<P>>(
     alloc: Global,
     program: &P,
     agenda: &mut Agenda<P, J>,
-    works: Vec<Work<P, J>>,
+    works: Works<P, J>,
 ) -> Result<(), AllocError>
     requires program { program.now ≡ J.program }
-    ensures { IfOk result (λ _. Adds works.items (open_in P.Lat.Event.cmp agenda.old) (open_in P.Lat.Event.cmp agenda.new)) }
+    ensures { IfOk result (λ _. Adds (works_of works) (open_in P.Lat.Event.cmp agenda.old) (open_in P.Lat.Event.cmp agenda.new)) }
 {
-    for work in works {
+    let list = works.into_list(alloc)?;
+    for work in list {
         open_one(alloc, program, agenda, work)?;
     }
     Ok(())

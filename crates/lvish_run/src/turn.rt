@@ -9,7 +9,7 @@ ghost use Rattle.lvish_run.specs.Walk.{IsTried, IsTriedHand, IsActed, IsHandTurn
 
 use crate::agenda::Agenda;
 use crate::opening::open_all;
-use lvish_board::{Acted, Asked, Board, Named, Work};
+use lvish_board::{Acted, Asked, Board, Named, Works};
 use lvish_calculus::laws::lawful;
 use lvish_calculus::{Meaning, Program};
 use lvish_core::CoreMeaning;
@@ -63,7 +63,7 @@ fn take_act<P: Program, J: Named<P>>(
     alloc: Global,
     board: &mut Board<'_, P, J>,
     asked: Asked<P, J>,
-) -> Result<Option<Vec<Work<P, J>>>, AllocError>
+) -> Result<Option<Works<P, J>>, AllocError>
     requires current { IsCurrent (⟦<P as Meaning>⟧.machine J.program) board.old.core asked }
     ensures { IfOk result (λ o. IsTried P.Lat.Event.cmp (⟦<P as Meaning>⟧.machine J.program) board.old asked o board.new) }
 {
@@ -114,7 +114,7 @@ fn take_hand<P: Program, J: Named<P>>(
     alloc: Global,
     board: &mut Board<'_, P, J>,
     handler: HandlerName<<P::Lat as Lattice>::Event>,
-) -> Result<Option<Vec<Work<P, J>>>, AllocError>
+) -> Result<Option<Works<P, J>>, AllocError>
     requires running { board.old.over ≡ None }
     requires next { HasNext (⟦<P as Meaning>⟧.machine J.program) board.old.core handler }
     ensures { IfOk result (λ o. IsTriedHand P.Lat.Event.cmp (⟦<P as Meaning>⟧.machine J.program) board.old handler o board.new) }

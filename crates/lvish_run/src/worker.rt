@@ -7,12 +7,12 @@ ghost use Rattle.lvish_run.specs.declared.own_steps.Why.TheVariants.{Stopped};
 use crate::gate::Gate;
 use crate::own_steps::{OwnSteps, Step, Why};
 use crate::pause::Pause;
-use lvish_board::{Acted, Asked, Board, Named, Work, stretch};
+use lvish_board::{Acted, Asked, Board, Named, Ticket, Work, Works, stretch};
 use lvish_compound::Event;
 use lvish_deal::{Seat, Steal};
 use lvish_names::HandlerName;
 use lvish_task::ScriptCode;
-use std::alloc::Global;
+use std::alloc::{AllocError, Global};
 use std::sync::atomic::{AtomicBool, Ordering};
 use std::sync::{Mutex, Wait};
 
@@ -20,7 +20,7 @@ use std::sync::{Mutex, Wait};
 #[derive(Drop)]
 enum AfterWork<J: Named<ScriptCode>> {
     /// The worker goes on: with this, or with what it finds.
-    On(Option<Work<ScriptCode, J>>),
+    On(Option<Ticket<ScriptCode, J>>),
     /// The board is over.
     Over,
     /// A growth was refused, or a push on its deque.
@@ -90,19 +90,25 @@ fn take_turn<J: Named<ScriptCode>, R: Wait, G: Gate>(
     seat: &mut Seat<Work<ScriptCode, J>>,
     steps: &mut Vec<Step>,
     pause: &mut Pause,
-    own: Option<Work<ScriptCode, J>>,
-) -> Result<Option<Work<ScriptCode, J>>, Why>
+    own: Option<Ticket<ScriptCode, J>>,
+) -> Result<Option<Ticket<ScriptCode, J>>, Why>
     requires { code.now ≡ J.program }
     ensures { G.patient ≡ true → result ≢ Err Stopped }
 {
-    let Some(work) = own_or_found(seat, own) else {
-        return match idle(rt, board, gate, pause, seat.number()) {
-            Some(why) => Err(why),
-            None => Ok(None),
-        };
+    let after = match own {
+        Some(ticket) => run_on(rt, alloc, code, board, gate, seat, steps, pause, ticket),
+        None => match find(seat) {
+            Some(work) => {
+                pause.reset();
+                take_up(rt, alloc, code, board, gate, seat, steps, pause, work)
+            }
+            None => return match idle(rt, board, gate, pause, seat.number()) {
+                Some(why) => Err(why),
+                None => Ok(None),
+            },
+        },
     };
-    pause.reset();
-    match take_up(rt, alloc, code, board, gate, seat, steps, pause, work) {
+    match after {
         AfterWork::On(next) => Ok(next),
         AfterWork::Over => Err(Why::Over),
         AfterWork::Memory => Err(Why::Memory),
@@ -129,14 +135,6 @@ fn idle<J: Named<ScriptCode>, R: Wait, G: Gate>(
     }
     pause.make(rt);
     None
-}
-
-/// Its task's next ticket, or else what it finds.
-fn own_or_found<T: Drop>(seat: &mut Seat<T>, own: Option<T>) -> Option<T> {
-    match own {
-        Some(work) => Some(work),
-        None => find(seat),
-    }
 }
 
 /// The work at the front of its own deque, or of the first of the others that has some, from its own
@@ -198,14 +196,31 @@ fn take_up<J: Named<ScriptCode>, R: Wait, G: Gate>(
 {
     match work {
         Work::Stretch(ticket) => {
-            gate.enter(seat.number(), ticket.task());
-            match stretch(alloc, code, ticket) {
-                Ok(asked) => act(rt, alloc, board, seat, steps, pause, asked),
-                Err(_ticket) => AfterWork::Memory,
-            }
+            run_on(rt, alloc, code, board, gate, seat, steps, pause, ticket)
         }
         Work::Act(asked) => act(rt, alloc, board, seat, steps, pause, asked),
         Work::Hand(handler) => hand(rt, alloc, board, seat, steps, pause, handler),
+    }
+}
+
+/// Runs a task's local statements, and takes what it then asks for to the board.
+fn run_on<J: Named<ScriptCode>, R: Wait, G: Gate>(
+    rt: &R,
+    alloc: Global,
+    code: &ScriptCode,
+    board: &Mutex<Board<'_, ScriptCode, J>>,
+    gate: &G,
+    seat: &mut Seat<Work<ScriptCode, J>>,
+    steps: &mut Vec<Step>,
+    pause: &mut Pause,
+    ticket: Ticket<ScriptCode, J>,
+) -> AfterWork<J>
+    requires { code.now ≡ J.program }
+{
+    gate.enter(seat.number(), ticket.task());
+    match stretch(alloc, code, ticket) {
+        Ok(asked) => act(rt, alloc, board, seat, steps, pause, asked),
+        Err(_ticket) => AfterWork::Memory,
     }
 }
 
@@ -227,7 +242,7 @@ fn act<J: Named<ScriptCode>, R: Wait>(
     }
     let answer = pause.take(rt, board).act(alloc, seat.number(), asked);
     note(steps, Step::Act(task), is_made(&answer));
-    go_by(rt, board, seat, pause, true, answer)
+    go_by(rt, board, seat, pause, answer)
 }
 
 /// Takes a handler to the board.
@@ -248,7 +263,7 @@ fn hand<J: Named<ScriptCode>, R: Wait>(
     }
     let answer = pause.take(rt, board).hand(alloc, seat.number(), handler);
     note(steps, Step::Hand(name), is_made(&answer));
-    go_by(rt, board, seat, pause, false, answer)
+    go_by(rt, board, seat, pause, answer)
 }
 
 /// Whether the board made the step.
@@ -265,14 +280,12 @@ fn note(steps: &mut Vec<Step>, step: Step, made: bool)
     }
 }
 
-/// Goes on by what the board answered. Where the step is a task's that goes on, its next ticket is the
-/// first of the work.
+/// Goes on by what the board answered.
 fn go_by<J: Named<ScriptCode>, R: Wait>(
     rt: &R,
     board: &Mutex<Board<'_, ScriptCode, J>>,
     seat: &mut Seat<Work<ScriptCode, J>>,
     pause: &mut Pause,
-    is_act: bool,
     answer: Acted<ScriptCode, J>,
 ) -> AfterWork<J> {
     match answer {
@@ -280,50 +293,58 @@ fn go_by<J: Named<ScriptCode>, R: Wait>(
         Acted::Stale => AfterWork::On(None),
         Acted::Parked => look(rt, board, pause),
         Acted::Memory(_work) => AfterWork::Memory,
-        Acted::Next(works) => {
-            if is_act {
-                go_on(seat, works)
-            } else {
-                leave(rt, board, seat, pause, works)
-            }
-        }
-        Acted::Gone(works) => leave(rt, board, seat, pause, works),
+        Acted::Next(works) | Acted::Gone(works) => go_on(rt, board, seat, pause, works),
     }
 }
 
-/// Goes on with the first piece of work, and leaves the others on its deque.
-fn go_on<J: Named<ScriptCode>>(
-    seat: &mut Seat<Work<ScriptCode, J>>,
-    works: Vec<Work<ScriptCode, J>>,
-) -> AfterWork<J> {
-    let mut own = None;
-    for work in works {
-        if own.is_none() {
-            own = Some(work);
-        } else if seat.push(work).is_err() {
-            return AfterWork::Memory;
-        }
-    }
-    AfterWork::On(own)
-}
-
-/// Leaves all of the work on its deque. Where there is none, the board may be over.
-fn leave<J: Named<ScriptCode>, R: Wait>(
+/// Goes on with the next ticket of its task, and leaves the other work on its deque. Where there is
+/// none at all, the board may be over.
+fn go_on<J: Named<ScriptCode>, R: Wait>(
     rt: &R,
     board: &Mutex<Board<'_, ScriptCode, J>>,
     seat: &mut Seat<Work<ScriptCode, J>>,
     pause: &mut Pause,
-    works: Vec<Work<ScriptCode, J>>,
+    works: Works<ScriptCode, J>,
 ) -> AfterWork<J> {
-    if works.is_empty() {
+    let Works {
+        own,
+        made,
+        woken,
+        hands,
+    } = works;
+    if own.is_none() && made.is_none() && woken.is_empty() && hands.is_empty() {
         return look(rt, board, pause);
     }
-    for work in works {
-        if seat.push(work).is_err() {
-            return AfterWork::Memory;
-        }
+    if leave(seat, made, woken, hands).is_err() {
+        return AfterWork::Memory;
     }
-    AfterWork::On(None)
+    AfterWork::On(own)
+}
+
+/// Leaves this work on the deque, in this order.
+fn leave<J: Named<ScriptCode>>(
+    seat: &mut Seat<Work<ScriptCode, J>>,
+    made: Option<Ticket<ScriptCode, J>>,
+    woken: Vec<Asked<ScriptCode, J>>,
+    hands: Vec<HandlerName<Event>>,
+) -> Result<(), AllocError> {
+    if let Some(ticket) = made {
+        push(seat, Work::Stretch(ticket))?;
+    }
+    for asked in woken {
+        push(seat, Work::Act(asked))?;
+    }
+    for handler in hands {
+        push(seat, Work::Hand(handler))?;
+    }
+    Ok(())
+}
+
+fn push<T: Drop>(seat: &mut Seat<T>, item: T) -> Result<(), AllocError> {
+    match seat.push(item) {
+        Ok(()) => Ok(()),
+        Err(_item) => Err(AllocError),
+    }
 }
 
 /// Goes on unless the board is over.

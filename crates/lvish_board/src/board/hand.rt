@@ -126,9 +126,9 @@ impl<'p, P: Program, J: Named<P>> Board<'p, P, J> {
             made: ticket_of(moved.made),
             added: Some(handler),
         };
-        let list = leave(alloc, &self.core, &mut self.parked, left, &mut self.room, 0);
+        let works = leave(alloc, &self.core, &mut self.parked, left, &mut self.room, 0);
         self.settle();
-        Acted::Next(list)
+        Acted::Next(works)
     }
 }
 
@@ -151,9 +151,9 @@ fn hand_with_room<P: Program, J: Named<P>>(
     ensures made { IfOk result (λ m. (said : Stepped) × IsHanded (⟦<P as Meaning>⟧.machine J.program) core.old handler.now core.new said m) }
     ensures long { IfOk result (λ _. length core.old.table.variables ≡ length core.new.table.variables) }
     ensures written { IfOk result (λ _. trace.new.items ≡ trace.old.items ++ entry ∷ []) }
-    ensures empty { IfOk result (λ _. (room.new.list.items ≡ []) × (room.new.woken.items ≡ []) × (room.new.hands.items ≡ [])) }
-    ensures list_room { IfOk result (λ _. 2 + parked + 1 ≤ vec_capacity room.new.list) }
+    ensures empty { IfOk result (λ _. (room.new.woken.items ≡ []) × (room.new.concerned.items ≡ []) × (room.new.hands.items ≡ [])) }
     ensures woken_room { IfOk result (λ _. parked ≤ vec_capacity room.new.woken) }
+    ensures concerned_room { IfOk result (λ _. 1 ≤ vec_capacity room.new.concerned) }
     ensures hands_room { IfOk result (λ _. 1 ≤ vec_capacity room.new.hands) }
     ensures kept { IfErr result (λ _. (core.new ≡ core.old) × (trace.new.items ≡ trace.old.items)) }
 {

@@ -14,6 +14,7 @@ use crate::outcome::Outcome;
 use crate::room::Room;
 use crate::trace_entry::TraceEntry;
 use crate::work::Work;
+use crate::works::Works;
 use lvish_calculus::laws::lawful;
 use lvish_calculus::{ErrorKind, Label, Meaning, Program};
 use lvish_core::laws::{passes_at_its_spot, waiting_tasks};
@@ -57,12 +58,12 @@ impl<'p, P: Program, J: Named<P>> Board<'p, P, J> {
             Stepped::Error(kind) => {
                 drop(moved);
                 self.over = Some(error_outcome(&self.core, kind, asked));
-                Acted::Gone(Vec::new(alloc))
+                Acted::Gone(Works::none(alloc))
             }
             Stepped::Done => {
                 let left = left_by(asked, moved);
                 let goes_on = left.own.is_some();
-                let list = leave(
+                let works = leave(
                     alloc,
                     &self.core,
                     &mut self.parked,
@@ -71,21 +72,21 @@ impl<'p, P: Program, J: Named<P>> Board<'p, P, J> {
                     logged,
                 );
                 self.settle();
-                next_or_gone(goes_on, list)
+                next_or_gone(goes_on, works)
             }
         }
     }
 }
 
 /// The answer to a step that left this work: whether its task goes on.
-fn next_or_gone<P: Program, J: Named<P>>(goes_on: bool, list: Vec<Work<P, J>>) -> Acted<P, J>
-    ensures next { goes_on ≡ true → result ≡ Acted.Next list }
-    ensures gone { goes_on ≡ false → result ≡ Acted.Gone list }
+fn next_or_gone<P: Program, J: Named<P>>(goes_on: bool, works: Works<P, J>) -> Acted<P, J>
+    ensures next { goes_on ≡ true → result ≡ Acted.Next works }
+    ensures gone { goes_on ≡ false → result ≡ Acted.Gone works }
 {
     if goes_on {
-        Acted::Next(list)
+        Acted::Next(works)
     } else {
-        Acted::Gone(list)
+        Acted::Gone(works)
     }
 }
 
@@ -108,12 +109,12 @@ fn step_with_room<P: Program, J: Named<P>>(
     requires program { core.old.program ≡ J.program }
     requires live { ⟦<P as CoreMeaning>⟧.is_live core.old asked.now.task asked.now.from numbers }
     requires can { ⟦<P as CoreMeaning>⟧.can_take core.old (Act asked.now.task) }
-    ensures made { IfOk result (λ s. IsStepOf P.Lat.Event.cmp (⟦<P as Meaning>⟧.machine J.program) core.old asked.now core.new s.0 room.new.hands.items s.1 s.2) }
+    ensures made { IfOk result (λ s. IsStepOf P.Lat.Event.cmp (⟦<P as Meaning>⟧.machine J.program) core.old asked.now core.new s.0 room.new.concerned.items s.1 s.2) }
     ensures written { IfOk result (λ _. trace.new.items ≡ trace.old.items ++ entry_of worker (Act asked.now.task) ∷ []) }
-    ensures empty { IfOk result (λ _. (room.new.list.items ≡ []) × (room.new.woken.items ≡ [])) }
-    ensures list_room { IfOk result (λ _. 2 + parked + (length room.new.hands.items + most_added ((P.functions J.program).request asked.now.from)) ≤ vec_capacity room.new.list) }
+    ensures empty { IfOk result (λ _. (room.new.woken.items ≡ []) × (room.new.hands.items ≡ [])) }
     ensures woken_room { IfOk result (λ _. parked ≤ vec_capacity room.new.woken) }
-    ensures hands_room { IfOk result (λ _. length room.new.hands.items + most_added ((P.functions J.program).request asked.now.from) ≤ vec_capacity room.new.hands) }
+    ensures concerned_room { IfOk result (λ _. length room.new.concerned.items + most_added ((P.functions J.program).request asked.now.from) ≤ vec_capacity room.new.concerned) }
+    ensures hands_room { IfOk result (λ _. length room.new.concerned.items + most_added ((P.functions J.program).request asked.now.from) ≤ vec_capacity room.new.hands) }
     ensures kept { IfErr result (λ _. (core.new ≡ core.old) × (trace.new.items ≡ trace.old.items)) }
 {
     let logged = room.reserve_for(core, parked, asked)?;

@@ -30,7 +30,7 @@ where
         if self.work.is_none() {
             return Ok(false);
         }
-        self.tell(alloc, program);
+        self.tell(alloc, program)?;
         self.keep_on(alloc, text)?;
         Ok(true)
     }

@@ -15,7 +15,7 @@ loop-handler-init g c =
       finite = tt;
       long = at_first;
       room = search rules;
-      listing = list_begun _ _ _ _ it;
+      listing = list_begun _ _ _ _ it c.requires.empty;
     }
 
 long : (g : _) (c : In-Some g) → into_iter_len c.next.new.self ≡ length (into_iter_items c.next.new.self)
@@ -34,7 +34,7 @@ loop-handler-preserved-then-is_some g c =
       finite = tt;
       long = long g (goal.at.loop-handler-preserved-then-is_some g c).In-Some;
       room = search rules;
-      listing = list_more _ _ _ _ _ _ _ listing (there _ _ c.next-in-loop-handler.ensures (sym c.is_some.ensures ∙ c.if-is_some.true)) c.push_reserved.ensures.items;
+      listing = list_more _ _ _ _ _ _ listing (there _ _ c.next-in-loop-handler.ensures (sym c.is_some.ensures ∙ c.if-is_some.true)) c.push_reserved.ensures.items;
     }
 
 pub loop-handler-preserved : goal.loop-handler-preserved
@@ -46,10 +46,10 @@ loop-handler-preserved g c =
       finite = tt;
       long = long g (goal.at.loop-handler-preserved g c).In-Some;
       room = search rules;
-      listing = list_passed _ _ _ _ _ _ listing (none_there _ _ c.next-in-loop-handler.ensures (sym c.is_some.ensures ∙ c.if-is_some.false));
+      listing = list_passed _ _ _ _ _ listing (none_there _ _ c.next-in-loop-handler.ensures (sym c.is_some.ensures ∙ c.if-is_some.false));
     }
 
 pub returns : goal.returns
 returns g c =
     let empty : into_iter_items c.loop-handler.handler-iterator ≡ [] = nil_from_length _ (sym c.loop-handler.invariant.long ∙ c.in-None.ensures.steps.0) in
-    list_ended _ _ _ _ _ empty c.loop-handler.invariant.listing
+    list_ended _ _ _ _ empty c.loop-handler.invariant.listing

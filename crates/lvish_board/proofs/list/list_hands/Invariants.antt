@@ -13,5 +13,5 @@ invariant-loop-handler g l =
       finite : (goal.iterator-loop-handler g).is_finite l.handler-iterator;
       long : into_iter_len l.handler-iterator ≡ length (into_iter_items l.handler-iterator);
       room : vec_len l.list + into_iter_len l.handler-iterator ≤ vec_capacity l.list;
-      listing : IsListing (λ h. HasNext M l.core h) l.fn.hands.items l.initial.list.items (into_iter_items l.handler-iterator) l.list.items;
+      listing : IsListing (λ h. HasNext M l.core h) l.fn.concerned.items (into_iter_items l.handler-iterator) l.list.items;
     }

@@ -13,7 +13,7 @@ loop-work-init g c =
       can = tt;
       finite = tt;
       long = long;
-      adds = λ b adds. subst (λ ws. Adds ws (open_in g.P.Lat.Event.Ord.cmp c.args.agenda.now) b) it adds;
+      adds = λ b adds. subst (λ ws. Adds ws (open_in g.P.Lat.Event.Ord.cmp c.args.agenda.now) b) (it ∙ c.in_ok-list.ensures) adds;
     }
 
 pub loop-work-preserved : goal.loop-work-preserved

@@ -1,5 +1,6 @@
 use Rattle.std.proofs.Common.{◌≡◌, length}
 use Rattle.std.specs.Vec.Iter.{into_iter_items, into_iter_len}
+use Rattle.lvish_board.specs.Listed.{works_of}
 use Rattle.lvish_run.specs.Agenda.{Open, open_in, Adds}
 use Rattle.lvish_run.proofs.opening.open_all.Given as goal
 
@@ -9,5 +10,5 @@ invariant-loop-work g l = record {
   finite : (goal.iterator-loop-work g).is_finite l.work-iterator;
   long : into_iter_len l.work-iterator ≡ length (into_iter_items l.work-iterator);
   -- what adds the work that is left, adds all
-  adds : (c : Open _ _) → Adds (into_iter_items l.work-iterator) (open_in g.P.Lat.Event.Ord.cmp l.agenda) c → Adds l.fn.works.items (open_in g.P.Lat.Event.Ord.cmp l.initial.agenda) c;
+  adds : (c : Open _ _) → Adds (into_iter_items l.work-iterator) (open_in g.P.Lat.Event.Ord.cmp l.agenda) c → Adds (works_of l.fn.works) (open_in g.P.Lat.Event.Ord.cmp l.initial.agenda) c;
 }

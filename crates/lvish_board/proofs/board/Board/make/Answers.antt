@@ -4,7 +4,8 @@ use Rattle.lvish_board.specs.Vocabulary.{Act, ErrorStep}
 use Rattle.lvish_core.specs.Core.{IsStep}
 use Rattle.lvish_core.specs.Changes.{local_of}
 use Rattle.lvish_board.specs.Acts.{IsDone, entry_of}
-use Rattle.lvish_board.specs.Left.{option_list, most_added}
+use Rattle.lvish_board.specs.Listed.{option_list}
+use Rattle.lvish_board.specs.Left.{most_added}
 use Rattle.lvish_board.specs.Standing.{labels_of}
 use Rattle.lvish_board.proofs.Acting.{act_tickets, error_done, error_kept, error_listed, is_done, not_done}
 use Rattle.lvish_board.proofs.Blocked.{IsMade, is_listed, kept_made, still_current}
@@ -28,10 +29,10 @@ pub returns-in-Error : goal.returns-in-Error
 returns-in-Error g c =
     let step = failed g (goal.at.returns-in-Error g c).In-Error in
     let written = c.in-Ok.ensures.written ∙ ap (λ b. b.trace ++ entry_of c.args.worker (Act c.args.asked.task) ∷ []) c.self.view_is in
-    act_gone _ c.requires.running written (error_done _ _ _ _ _ step) (error_listed _ _ _ _ _ step _ c.args.self.now _ (seen_core c.self.view_is) refl (sym (seen_parked c.self.view_is)) _ c.new.ensures.items)
+    act_gone _ c.requires.running written (error_done _ _ _ _ _ step) (error_listed _ _ _ _ _ step _ c.args.self.now _ (seen_core c.self.view_is) refl (sym (seen_parked c.self.view_is)) _ c.none.ensures)
 
 -- a step that gave none, and how many handlers it added at most
-made : (g : _) (c : After-left_by-left g) → IsMade (machine_of g.P.Lat.PartialEq.eq g.P.Lat.Event.PartialEq.eq g.P.Lat.Event.Ord.cmp g.P.Lat.Lattice.least g.P.Lat.Lattice.joined g.P.Lat.Lattice.events_of g.P.Lat.Reads.answer_of (g.P.Program.functions g.J.Named.program)) g.P.Lat.Event.Ord.cmp c.self.inside.core (Act c.args.asked.task) c.step_with_room.new.core c.in-Ok.logged c.step_with_room.new.room.hands.items c.left_by-left.result.added c.in-Ok.moved
+made : (g : _) (c : After-left_by-left g) → IsMade (machine_of g.P.Lat.PartialEq.eq g.P.Lat.Event.PartialEq.eq g.P.Lat.Event.Ord.cmp g.P.Lat.Lattice.least g.P.Lat.Lattice.joined g.P.Lat.Lattice.events_of g.P.Lat.Reads.answer_of (g.P.Program.functions g.J.Named.program)) g.P.Lat.Event.Ord.cmp c.self.inside.core (Act c.args.asked.task) c.step_with_room.new.core c.in-Ok.logged c.step_with_room.new.room.concerned.items c.left_by-left.result.added c.in-Ok.moved
     × (length (option_list c.left_by-left.result.added) ≤ most_added ((g.P.Program.functions g.J.Named.program).request c.args.asked.from))
 made g c =
     let M = machine_of g.P.Lat.PartialEq.eq g.P.Lat.Event.PartialEq.eq g.P.Lat.Event.Ord.cmp g.P.Lat.Lattice.least g.P.Lat.Lattice.joined g.P.Lat.Lattice.events_of g.P.Lat.Reads.answer_of (g.P.Program.functions g.J.Named.program) in
@@ -43,33 +44,33 @@ made g c =
       few_added _ _ ok _ _ _ _ _ _ step at k.concerned k.long c.left_by-left.result.added (c.left_by-left.ensures.added ∙ ap (λ m. m.added) k.told),
     )
 
-pub leave-list-requires-clause-program : goal.leave-list-requires-clause-program
-leave-list-requires-clause-program g c = (made g (goal.at.leave-list-requires-clause-program g c).After-left_by-left).0.step.program ∙ c.self.invariant.1.program_is
+pub leave-works-requires-clause-program : goal.leave-works-requires-clause-program
+leave-works-requires-clause-program g c = (made g (goal.at.leave-works-requires-clause-program g c).After-left_by-left).0.step.program ∙ c.self.invariant.1.program_is
 
-pub leave-list-requires-clause-logged : goal.leave-list-requires-clause-logged
-leave-list-requires-clause-logged g c = (made g (goal.at.leave-list-requires-clause-logged g c).After-left_by-left).0.is_logged
+pub leave-works-requires-clause-logged : goal.leave-works-requires-clause-logged
+leave-works-requires-clause-logged g c = (made g (goal.at.leave-works-requires-clause-logged g c).After-left_by-left).0.is_logged
 
-pub leave-list-requires-clause-current : goal.leave-list-requires-clause-current
-leave-list-requires-clause-current g c = λ p i. still_current (c.waiting_tasks.ensures.until_touched g.J.Named.program) (made g (goal.at.leave-list-requires-clause-current g c).After-left_by-left).0 p (c.self.invariant.1.blocked p i)
+pub leave-works-requires-clause-current : goal.leave-works-requires-clause-current
+leave-works-requires-clause-current g c = λ p i. still_current (c.waiting_tasks.ensures.until_touched g.J.Named.program) (made g (goal.at.leave-works-requires-clause-current g c).After-left_by-left).0 p (c.self.invariant.1.blocked p i)
 
-pub leave-list-requires-clause-empty : goal.leave-list-requires-clause-empty
-leave-list-requires-clause-empty g c = c.in-Ok.ensures.empty
+pub leave-works-requires-clause-empty : goal.leave-works-requires-clause-empty
+leave-works-requires-clause-empty g c = c.in-Ok.ensures.empty
 
-pub leave-list-requires-clause-list_room : goal.leave-list-requires-clause-list_room
-leave-list-requires-clause-list_room g c = omega (arith, c.in-Ok.ensures.list_room, (made g (goal.at.leave-list-requires-clause-list_room g c).After-left_by-left).1, c.len-parked.ensures)
+pub leave-works-requires-clause-woken_room : goal.leave-works-requires-clause-woken_room
+leave-works-requires-clause-woken_room g c = subst (λ n. n ≤ vec_capacity c.step_with_room.new.room.woken) c.len-parked.ensures c.in-Ok.ensures.woken_room
 
-pub leave-list-requires-clause-woken_room : goal.leave-list-requires-clause-woken_room
-leave-list-requires-clause-woken_room g c = subst (λ n. n ≤ vec_capacity c.step_with_room.new.room.woken) c.len-parked.ensures c.in-Ok.ensures.woken_room
+pub leave-works-requires-clause-concerned_room : goal.leave-works-requires-clause-concerned_room
+leave-works-requires-clause-concerned_room g c = omega (arith, c.in-Ok.ensures.concerned_room, (made g (goal.at.leave-works-requires-clause-concerned_room g c).After-left_by-left).1)
 
-pub leave-list-requires-clause-hands_room : goal.leave-list-requires-clause-hands_room
-leave-list-requires-clause-hands_room g c = omega (arith, c.in-Ok.ensures.hands_room, (made g (goal.at.leave-list-requires-clause-hands_room g c).After-left_by-left).1)
+pub leave-works-requires-clause-hands_room : goal.leave-works-requires-clause-hands_room
+leave-works-requires-clause-hands_room g c = omega (arith, c.in-Ok.ensures.hands_room, (made g (goal.at.leave-works-requires-clause-hands_room g c).After-left_by-left).1)
 
 pub invariant_of-self-in-Done : goal.invariant_of-self-in-Done
 invariant_of-self-in-Done g c =
     let sound = c.self.invariant.1 in
     let k = (made g (goal.at.invariant_of-self-in-Done g c).After-left_by-left).0 in
     let going = ap (λ b. b.over) c.self.view_is ∙ c.requires.running in
-    (c.self.invariant.0, kept_made (c.waiting_tasks.ensures.until_touched g.J.Named.program) k (c.passes_at_its_spot.ensures g.J.Named.program) sound.blocked c.leave-list.ensures.left _ _ _ _ _ c.args.worker sound going (rw (← c.self.view_is) at c.requires.room) c.in-Ok.ensures.written (c.leave-list.ensures.once sound.once))
+    (c.self.invariant.0, kept_made (c.waiting_tasks.ensures.until_touched g.J.Named.program) k (c.passes_at_its_spot.ensures g.J.Named.program) sound.blocked c.leave-works.ensures.left _ _ _ _ _ c.args.worker sound going (rw (← c.self.view_is) at c.requires.room) c.in-Ok.ensures.written (c.leave-works.ensures.once sound.once))
 
 pub returns-in-Done : goal.returns-in-Done
 returns-in-Done g c =
@@ -78,7 +79,7 @@ returns-in-Done g c =
     let M = machine_of g.P.Lat.PartialEq.eq g.P.Lat.Event.PartialEq.eq g.P.Lat.Event.Ord.cmp g.P.Lat.Lattice.least g.P.Lat.Lattice.joined g.P.Lat.Lattice.events_of g.P.Lat.Reads.answer_of (g.P.Program.functions g.J.Named.program) in
     let written = c.settle.ensures.trace ∙ c.in-Ok.ensures.written ∙ ap (λ b. b.trace ++ entry_of c.args.worker (Act c.args.asked.task) ∷ []) c.self.view_is in
     let own = ap is_some (sym c.left_by-left.ensures.own) ∙ sym c.is_some-goes_on.ensures in
-    act_left c.is_some-goes_on.result c.leave-list.result _ c.next_or_gone.ensures.next c.next_or_gone.ensures.gone c.requires.running written
+    act_left c.is_some-goes_on.result c.leave-works.result _ c.next_or_gone.ensures.next c.next_or_gone.ensures.gone c.requires.running written
     (λ goes done. not_done ok k (own ∙ goes) (subst (λ z. IsDone M z c.args.asked.task) c.settle.ensures.core done))
     (λ ends. subst (λ z. IsDone M z c.args.asked.task) (sym c.settle.ensures.core) (is_done ok k (own ∙ ends)))
-    (is_listed (c.waiting_tasks.ensures.until_touched g.J.Named.program) k (c.passes_at_its_spot.ensures g.J.Named.program) c.self.invariant.1.blocked c.leave-list.ensures.left (act_tickets c.args.asked.task c.in-Ok.moved c.left_by-left.result.own c.left_by-left.result.made c.left_by-left.ensures.own c.left_by-left.ensures.made) c.args.self.now c.settle.new.self (seen_core c.self.view_is) (seen_parked c.self.view_is) c.settle.ensures.core c.settle.ensures.parked)
+    (is_listed (c.waiting_tasks.ensures.until_touched g.J.Named.program) k (c.passes_at_its_spot.ensures g.J.Named.program) c.self.invariant.1.blocked c.leave-works.ensures.left (act_tickets c.args.asked.task c.in-Ok.moved c.left_by-left.result.own c.left_by-left.result.made c.left_by-left.ensures.own c.left_by-left.ensures.made) c.args.self.now c.settle.new.self (seen_core c.self.view_is) (seen_parked c.self.view_is) c.settle.ensures.core c.settle.ensures.parked)

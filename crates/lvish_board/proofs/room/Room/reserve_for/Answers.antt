@@ -19,11 +19,11 @@ offset_bounds-states-variable g c = omega (arith, there g (goal.at.offset_bounds
 pub bounds-states-variable : goal.bounds-states-variable
 bounds-states-variable g c = omega (arith, there g (goal.at.bounds-states-variable g c).In-Put, c.states.ensures.count)
 
-pub returns-in_ok-copy_names-in-Put-clause-hands : goal.returns-in_ok-copy_names-in-Put-clause-hands
-returns-in_ok-copy_names-in-Put-clause-hands g c =
+pub returns-in_ok-copy_names-in-Put-clause-concerned : goal.returns-in_ok-copy_names-in-Put-clause-concerned
+returns-in_ok-copy_names-in-Put-clause-concerned g c =
     let M = machine_of g.P.Lat.PartialEq.eq g.P.Lat.Event.PartialEq.eq g.P.Lat.Event.Ord.cmp g.P.Lat.Lattice.least g.P.Lat.Lattice.joined g.P.Lat.Lattice.events_of g.P.Lat.Reads.answer_of (g.P.Program.functions c.args.core.now.program) in
     let asked : (g.P.Program.functions c.args.core.now.program).request c.args.asked.now.from ≡ Put c.in-Put.variable c.in-Put.field-1 = search rules in
-    let known = there g (goal.at.returns-in_ok-copy_names-in-Put-clause-hands g c).In-Put in
+    let known = there g (goal.at.returns-in_ok-copy_names-in-Put-clause-concerned g c).In-Put in
     let are = c.states.ensures.are in
     let within : c.in-Put.variable < length c.states.result.now = omega (arith, known, c.states.ensures.count) in
     let at = slice_get_read c.args.core.now.table.variables (length c.args.core.now.table.variables) c.in-Put.variable c.index-states-variable.result refl (subst (λ xs. c.in-Put.variable < length xs) are within) (subst (λ xs. c.index-states-variable.result ≡ get_or xs c.in-Put.variable c.index-states-variable.result) are c.index-states-variable.is) in
@@ -44,15 +44,15 @@ pub returns-in_ok-reserve-in_default : goal.returns-in_ok-reserve-in_default
 returns-in_ok-reserve-in_default g c =
     let M = machine_of g.P.Lat.PartialEq.eq g.P.Lat.Event.PartialEq.eq g.P.Lat.Event.Ord.cmp g.P.Lat.Lattice.least g.P.Lat.Lattice.joined g.P.Lat.Lattice.events_of g.P.Lat.Reads.answer_of (g.P.Program.functions c.args.core.now.program) in
     let asked : (g.P.Program.functions c.args.core.now.program).request c.args.asked.now.from ≡ c.asks.result.now.request = ap (λ p. (g.P.Program.functions p).request c.args.asked.now.from) c.requires.program ∙ sym c.asks.ensures.request in
-    let list = c.in_ok-reserve-in_default.ensures.list in
     let woken = c.in_ok-reserve-in_default.ensures.woken in
+    let concerned = c.in_ok-reserve-in_default.ensures.concerned in
     let hands = c.in_ok-reserve-in_default.ensures.hands in
-    let none = ap length hands.0 in
+    let none = ap length concerned.0 in
     let added = ap most_added asked ∙ none_added c.asks.result.now.request c.in_default.not-Add in
     record {
-      empty = (list.0, woken.0);
-      hands = subst (λ q. AreConcerned g.P.Lat.Event.Ord.cmp M c.args.core.now q c.reserve-in_default.new.self.hands.items 0) (sym asked) (other_concerned g.P.Lat.Event.Ord.cmp M c.args.core.now c.asks.result.now.request c.reserve-in_default.new.self.hands.items 0 c.in_default.not-Put hands.0);
-      list_room = omega (arith, list.1, none, added);
+      empty = (woken.0, hands.0);
+      concerned = subst (λ q. AreConcerned g.P.Lat.Event.Ord.cmp M c.args.core.now q c.reserve-in_default.new.self.concerned.items 0) (sym asked) (other_concerned g.P.Lat.Event.Ord.cmp M c.args.core.now c.asks.result.now.request c.reserve-in_default.new.self.concerned.items 0 c.in_default.not-Put concerned.0);
       woken_room = woken.1;
+      concerned_room = omega (arith, concerned.1, none, added);
       hands_room = omega (arith, hands.1, none, added);
     }

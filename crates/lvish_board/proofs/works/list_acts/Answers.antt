@@ -2,8 +2,8 @@ use Rattle.std.proofs.Common.{rules, ◌≡◌, ◌++◌, ◌∷◌, [], append-
 use Rattle.std.specs.Vec.Iter.{into_iter_items, into_iter_len}
 use Rattle.std.proofs.lemmas.List.{nil_from_length}
 use Rattle.lvish_board.specs.Listed.{acts}
-use Rattle.lvish_board.proofs.Those.{acts_more}
-use Rattle.lvish_board.proofs.list.list_acts.Goals as goal
+use Rattle.lvish_board.proofs.Listing.{acts_more}
+use Rattle.lvish_board.proofs.works.list_acts.Goals as goal
 
 pub loop-asked-init : goal.loop-asked-init
 loop-asked-init g c =

@@ -1,0 +1,98 @@
+ghost use Rattle.std.specs.Prelude.{◌≡◌, ◌<◌, ◌≤◌, ◌+◌, ◌++◌, [], IfOk, vec_len, vec_capacity};
+ghost use Rattle.lvish_board.specs.Listed.{works_of, stretches, acts, handings, option_list};
+
+use crate::asked::Asked;
+use crate::named::Named;
+use crate::ticket::Ticket;
+use crate::work::Work;
+use lvish_calculus::Program;
+use lvish_lattice::Lattice;
+use lvish_names::HandlerName;
+use std::alloc::{AllocError, Global};
+
+/// The work that a step leaves, in this order. All of it is to be done, by whomever and in any order.
+#[derive(Drop)]
+pub struct Works<P: Program, J: Named<P>> {
+    /// The next ticket of the task that acted, where it goes on.
+    pub own: Option<Ticket<P, J>>,
+    /// The ticket of a task that the step made.
+    pub made: Option<Ticket<P, J>>,
+    /// What the parked tasks ask for that the step woke, by their names.
+    pub woken: Vec<Asked<P, J>>,
+    /// The handlers that the step concerned with something left for them, by name.
+    pub hands: Vec<HandlerName<<P::Lat as Lattice>::Event>>,
+}
+
+impl<P: Program, J: Named<P>> Works<P, J> {
+    /// No work.
+    pub(crate) fn none(alloc: Global) -> Works<P, J>
+        ensures { works_of result ≡ [] }
+    {
+        Works {
+            own: None,
+            made: None,
+            woken: Vec::new(alloc),
+            hands: Vec::new(alloc),
+        }
+    }
+
+    /// The pieces of work in a list, in their order.
+    ///
+    /// # Errors
+    ///
+    /// Where there is no room for it.
+    pub fn into_list(self, alloc: Global) -> Result<Vec<Work<P, J>>, AllocError>
+        ensures { IfOk result (λ v. v.items ≡ works_of self) }
+    {
+        let Works {
+            own,
+            made,
+            woken,
+            hands,
+        } = self;
+        let most = woken.len().saturating_add(hands.len()).saturating_add(2);
+        let mut list = Vec::with_capacity(alloc, most)?;
+        list_ticket(&mut list, own);
+        list_ticket(&mut list, made);
+        list_acts(&mut list, woken);
+        list_handings(&mut list, hands);
+        Ok(list)
+    }
+}
+
+/// Lists the ticket, if there is one.
+fn list_ticket<P: Program, J: Named<P>>(list: &mut Vec<Work<P, J>>, ticket: Option<Ticket<P, J>>)
+    requires room { vec_len list.old < vec_capacity list.old }
+    ensures items { list.new.items ≡ list.old.items ++ stretches (option_list ticket) }
+    ensures capacity { vec_capacity list.new ≡ vec_capacity list.old }
+    ensures len { vec_len list.new ≤ vec_len list.old + 1 }
+{
+    if let Some(ticket) = ticket {
+        list.push_reserved(Work::Stretch(ticket));
+    }
+}
+
+/// Lists what these tasks ask for.
+fn list_acts<P: Program, J: Named<P>>(list: &mut Vec<Work<P, J>>, woken: Vec<Asked<P, J>>)
+    requires room { vec_len list.old + vec_len woken ≤ vec_capacity list.old }
+    ensures items { list.new.items ≡ list.old.items ++ acts woken.items }
+    ensures capacity { vec_capacity list.new ≡ vec_capacity list.old }
+    ensures len { vec_len list.new ≡ vec_len list.old + vec_len woken }
+{
+    for asked in woken {
+        list.push_reserved(Work::Act(asked));
+    }
+}
+
+/// Lists the next handing of each of these handlers.
+fn list_handings<P: Program, J: Named<P>>(
+    list: &mut Vec<Work<P, J>>,
+    hands: Vec<HandlerName<<P::Lat as Lattice>::Event>>,
+)
+    requires room { vec_len list.old + vec_len hands ≤ vec_capacity list.old }
+    ensures { list.new.items ≡ list.old.items ++ handings hands.items }
+{
+    for handler in hands {
+        list.push_reserved(Work::Hand(handler));
+    }
+}
