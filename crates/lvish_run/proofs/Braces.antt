@@ -1,18 +1,41 @@
--- Pieces that are joined.
-use Rattle.std.proofs.Common.{◌≡◌, ℕ, List, [], ◌∷◌, ◌++◌, append-nil, map, Result, IfOk, refl, sym, ap, ◌∙◌}
+-- Pieces in braces, written one after the other.
+use Rattle.std.proofs.Common.{◌≡◌, ℕ, Bool, true, false, codes, List, [], ◌∷◌, ◌++◌, append-nil, append_assoc, flat_map, map, refl, sym, ap, ◌∙◌}
 use Rattle.std.specs.List.{join_by}
 use Rattle.std.proofs.lemmas.List.Folds.{flat_map-map}
-use Rattle.std.proofs.lemmas.Result.{IfOk-weaker}
-use Rattle.lvish_run.specs.StateText.{braced}
+use Rattle.lvish_run.specs.StateText.{braced, gap}
 
--- a join of pieces is that of their texts
-pub join_by_map : {X : Type 0} (f : X → List ℕ) (sep : List ℕ) (xs : List X) → join_by f sep xs ≡ join_by (λ t. t) sep (map f xs)
-join_by_map f sep [] = refl
-join_by_map f sep (x ∷ xs) = ap (λ t. f x ++ t) (sym (flat_map-map (λ t. sep ++ t) f xs))
+module _ {X : Type 0} (show : X → List ℕ) where
+  -- the pieces of these, with what stands before each
+  abbrev pub pieces : Bool → List X → List ℕ
+  pieces true xs = join_by show (codes " ") xs
+  pieces false xs = flat_map (λ x. codes " " ++ show x) xs
 
--- pieces in braces are the text of all entries, where no entry is left
-pub all_braced : {X T Fault : Type 0} (bytes : T → List ℕ) (show : X → List ℕ) (text : Result T Fault) (pieces given : List T) (left all : List X)
-    → given ≡ pieces → left ≡ [] → map bytes pieces ++ map show left ≡ map show all → IfOk text (λ t. bytes t ≡ braced (map bytes given)) → IfOk text (λ t. bytes t ≡ braced (map show all))
-all_braced bytes show text pieces given left all same done so_far is =
-    let whole : map bytes pieces ≡ map show all = sym (append-nil (map bytes pieces)) ∙ ap (λ es. map bytes pieces ++ map show es) (sym done) ∙ so_far in
-    IfOk-weaker text _ _ (λ t e. e ∙ ap braced (ap (map bytes) same ∙ whole)) is
+  -- one piece is written
+  pub pieces_more : (first : Bool) (x : X) (xs : List X) → pieces first (x ∷ xs) ≡ gap first ++ (show x ++ pieces false xs)
+  pieces_more true x xs = refl
+  pieces_more false x xs = append_assoc (codes " ") (show x) (pieces false xs)
+
+  joined : (xs : List X) → join_by show (codes " ") xs ≡ join_by (λ t. t) (codes " ") (map show xs)
+  joined [] = refl
+  joined (x ∷ xs) = ap (λ t. show x ++ t) (sym (flat_map-map (λ t. codes " " ++ t) show xs))
+
+  -- all in braces
+  pub all_braced : (xs : List X) → codes "{" ++ (pieces true xs ++ codes "}") ≡ braced (map show xs)
+  all_braced xs = ap (λ t. codes "{" ++ (t ++ codes "}")) (joined xs)
+
+  pub none_left : (first : Bool) → pieces first [] ≡ []
+  none_left true = refl
+  none_left false = refl
+
+  -- where a piece was written after a text, what is to come is less by it
+  pub after_piece : (first : Bool) (x : X) (xs : List X) (text spaced longer : List ℕ) → spaced ≡ text ++ gap first → longer ≡ spaced ++ show x
+      → longer ++ (pieces false xs ++ codes "}") ≡ text ++ (pieces first (x ∷ xs) ++ codes "}")
+  after_piece first x xs text spaced longer s l =
+      rw (l, s) (
+      append_assoc (text ++ gap first) (show x) (pieces false xs ++ codes "}")
+      ∙ append_assoc text (gap first) (show x ++ (pieces false xs ++ codes "}"))
+      ∙ ap (λ t. text ++ t) (
+      sym (ap (λ t. gap first ++ t) (append_assoc (show x) (pieces false xs) (codes "}")))
+      ∙ sym (append_assoc (gap first) (show x ++ pieces false xs) (codes "}"))
+      ∙ ap (λ t. t ++ codes "}") (sym (pieces_more first x xs)))
+      )

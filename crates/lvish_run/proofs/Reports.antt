@@ -57,7 +57,7 @@ module _ {P S E R A L : Type 0} (M : Machine S E R A L) (c : CoreView P S E L) w
       by None e = e
       by (Some f) e = absurd (subst (λ g. IsEnded M (at_fault (state M c) g)) e end)
 
-  stuck_at_end : IsEnded M (picture M c) → IsStuck M c
+  pub stuck_at_end : IsEnded M (picture M c) → IsStuck M c
   stuck_at_end end l can =
       let at_end : IsEnded M (Running (state M c)) = subst (λ g. IsEnded M (at_fault (state M c) g)) (unfailed end) end in
       at_end l (subst (λ g. CanStep M (at_fault (state M c) g) l) (unfailed end) can.0)

@@ -1,5 +1,5 @@
 -- How the states of variables are printed.
-use Rattle.std.specs.Prelude.{ℕ, ℤ, codes, List, ◌++◌, map}
+use Rattle.std.specs.Prelude.{ℕ, ℤ, Bool, true, false, codes, List, [], ◌++◌, map}
 use Rattle.std.specs.List.{join_by}
 use Rattle.std.specs.Fmt.{signed_decimal}
 use Rattle.lvish_lattice.specs.declared.flat.Flat.{Flat}
@@ -23,6 +23,11 @@ use Rattle.lvish_syntax.specs.declared.kind.VariableKind.TheVariants.{Simple, Ma
 -- texts in braces, with one space between any two
 abbrev pub braced : List (List ℕ) → List ℕ
 braced texts = codes "{" ++ (join_by (λ t. t) (codes " ") texts ++ codes "}")
+
+-- what stands before a piece, by whether it is the first
+abbrev pub gap : Bool → List ℕ
+gap true = []
+gap false = codes " "
 
 -- the elements of a set
 abbrev pub set_text : List ℤ → List ℕ

@@ -86,11 +86,17 @@ pub fn outcome_of<P: Program>(
     if let Some(fault) = core.fault() {
         return failed(fault);
     }
-    let labels = core.labels(alloc)?;
-    if labels.is_empty() {
+    // (an end is known without a list of the labels)
+    let ended = core.is_ended(alloc)?;
+    if ended {
         return Ok(Outcome::Ended);
     }
-    Ok(Outcome::Budget)
+    let labels = core.labels(alloc)?;
+    if labels.is_empty() {
+        Ok(Outcome::Ended)
+    } else {
+        Ok(Outcome::Budget)
+    }
 }
 
 /// The account of a core whose steps came out like this.

@@ -24,6 +24,7 @@ mod gate;
 mod hall;
 mod limits;
 mod naming;
+mod number_text;
 mod opening;
 mod own_steps;
 mod pause;

@@ -1,51 +1,53 @@
 //! The texts of states, by the kinds of their variables.
 
-ghost use Rattle.std.specs.Prelude.{◌≡◌, IfOk, map, string_bytes};
-ghost use Rattle.std.specs.Fmt.{signed_decimal};
+ghost use Rattle.std.specs.Prelude.{◌≡◌, ◌++◌, IfOk, OnOk, string_bytes};
 ghost use Rattle.lvish_lattice.specs.GrowSet.{items_of};
 ghost use Rattle.lvish_compound.specs.MapOf.{entries_of};
 ghost use Rattle.lvish_compound.specs.Tally.{entries_of as amounts_of};
-ghost use Rattle.lvish_run.specs.StateText.{braced, set_text, entry_text, map_text, amount_text, tally_text, simple_text, sides_text, pair_text, state_text};
+ghost use Rattle.lvish_run.specs.StateText.{gap, set_text, entry_text, map_text, amount_text, tally_text, simple_text, sides_text, pair_text, state_text};
 
+use crate::number_text::push_number;
 use lvish_compound::{Any, MapOf, Part, Tally};
 use lvish_lattice::{Flat, GrowSet, MaxCounter};
 use lvish_syntax::{SimpleKind, VariableKind};
 use std::alloc::{AllocError, Global};
 
-/// The pieces in braces, with one space between any two.
-#[tactic(auto, using(crate::proofs::Braces::join_by_map))]
-fn braced(alloc: Global, pieces: &[String]) -> Result<String, AllocError>
-    ensures { IfOk result (λ t. string_bytes t ≡ braced (map string_bytes pieces.now)) }
+/// Adds the space that stands before all pieces in braces but the first.
+fn push_gap(text: &mut String, is_first: bool) -> Result<(), AllocError>
+    ensures { OnOk result (string_bytes text.new ≡ string_bytes text.old ++ gap is_first) }
 {
-    let joined = pieces.join(alloc, " ")?;
-    format!(in alloc; "{{{joined}}}")
-}
-
-/// An element of a set.
-fn element_text(alloc: Global, element: i64) -> Result<String, AllocError>
-    ensures { IfOk result (λ t. string_bytes t ≡ signed_decimal element) }
-{
-    format!(in alloc; "{element}")
+    if is_first {
+        return Ok(());
+    }
+    text.push_str(" ")
 }
 
 /// The elements of a set in braces.
 fn set_text(alloc: Global, set: &GrowSet<i64>) -> Result<String, AllocError>
     ensures { IfOk result (λ t. string_bytes t ≡ set_text (items_of set.now)) }
 {
-    let mut pieces = Vec::new(alloc);
+    let mut text = String::from_str(alloc, "{")?;
+    let mut is_first = true;
     for element in set.items() {
-        pieces.push(element_text(alloc, *element)?)?;
+        push_gap(&mut text, is_first)?;
+        push_number(&mut text, *element)?;
+        is_first = false;
     }
-    braced(alloc, &pieces)
+    text.push_str("}")?;
+    Ok(text)
 }
 
-/// A key and what it holds.
-fn entry_text(alloc: Global, key: i64, value: &Flat<i64>) -> Result<String, AllocError>
-    ensures { IfOk result (λ t. string_bytes t ≡ entry_text (key, value.now)) }
+/// Adds a key and what it holds.
+fn push_entry(text: &mut String, key: i64, value: &Flat<i64>) -> Result<(), AllocError>
+    ensures { OnOk result (string_bytes text.new ≡ string_bytes text.old ++ entry_text (key, value.now)) }
 {
+    push_number(text, key)?;
     match value {
-        Flat::Bottom => format!(in alloc; "{key}:empty"),
-        Flat::Value(number) => format!(in alloc; "{key}:{number}"),
+        Flat::Bottom => text.push_str(":empty"),
+        Flat::Value(number) => {
+            text.push_str(":")?;
+            push_number(text, *number)
+        }
     }
 }
 
@@ -53,30 +55,39 @@ fn entry_text(alloc: Global, key: i64, value: &Flat<i64>) -> Result<String, Allo
 fn map_text(alloc: Global, map: &MapOf<i64, Flat<i64>>) -> Result<String, AllocError>
     ensures { IfOk result (λ t. string_bytes t ≡ map_text (entries_of map.now)) }
 {
-    let mut pieces = Vec::new(alloc);
+    let mut text = String::from_str(alloc, "{")?;
+    let mut is_first = true;
     for (key, value) in map.entries() {
-        pieces.push(entry_text(alloc, *key, value)?)?;
+        push_gap(&mut text, is_first)?;
+        push_entry(&mut text, *key, value)?;
+        is_first = false;
     }
-    braced(alloc, &pieces)
+    text.push_str("}")?;
+    Ok(text)
 }
 
-/// A key and its amount.
-fn amount_text(alloc: Global, key: i64, amount: MaxCounter) -> Result<String, AllocError>
-    ensures { IfOk result (λ t. string_bytes t ≡ amount_text (key, amount)) }
+/// Adds a key and its amount.
+fn push_amount(text: &mut String, key: i64, amount: MaxCounter) -> Result<(), AllocError>
+    ensures { OnOk result (string_bytes text.new ≡ string_bytes text.old ++ amount_text (key, amount)) }
 {
-    let level = amount.get();
-    format!(in alloc; "{key}:{level}")
+    push_number(text, key)?;
+    text.push_str(":")?;
+    push_number(text, amount.get())
 }
 
 /// The amounts of a tally in braces.
 fn tally_text(alloc: Global, tally: &Tally) -> Result<String, AllocError>
     ensures { IfOk result (λ t. string_bytes t ≡ tally_text (amounts_of tally.now)) }
 {
-    let mut pieces = Vec::new(alloc);
+    let mut text = String::from_str(alloc, "{")?;
+    let mut is_first = true;
     for (key, amount) in tally.entries() {
-        pieces.push(amount_text(alloc, *key, *amount)?)?;
+        push_gap(&mut text, is_first)?;
+        push_amount(&mut text, *key, *amount)?;
+        is_first = false;
     }
-    braced(alloc, &pieces)
+    text.push_str("}")?;
+    Ok(text)
 }
 
 /// The text of a cell, a set or a counter; of another state, that of bottom.

@@ -1,4 +1,7 @@
 //! What a worker does: it finds work, does it, and leaves when the board is over.
+//!
+//! The functions of a turn are inlined into one, since what passes between them is large, and would be
+//! moved at each call.
 
 ghost use Rattle.std.specs.Prelude.{◌≡◌, ◌≢◌, ◌≤◌, ◌<◌, ◌⊎◌, length, true, Some, vec_len, vec_capacity};
 ghost use Rattle.lvish_deal.specs.Place.{IsSameSeat};
@@ -81,6 +84,7 @@ fn turns<J: Named<ScriptCode>, R: Wait, G: Gate>(
 
 /// One turn: its task's next ticket, or what it finds, or an idle turn. It answers the task's next
 /// ticket, or why the worker leaves.
+#[inline(always)]
 fn take_turn<J: Named<ScriptCode>, R: Wait, G: Gate>(
     rt: &R,
     alloc: Global,
@@ -139,6 +143,7 @@ fn idle<J: Named<ScriptCode>, R: Wait, G: Gate>(
 
 /// The work at the front of its own deque, or of the first of the others that has some, from its own
 /// number on.
+#[inline(always)]
 fn find<T>(seat: &mut Seat<T>) -> Option<T>
     ensures { IsSameSeat seat.old seat.new }
 {
@@ -181,6 +186,7 @@ fn is_seen_over<J: Named<ScriptCode>>(board: &Mutex<Board<'_, ScriptCode, J>>) -
 }
 
 /// Does one piece of work.
+#[inline(always)]
 fn take_up<J: Named<ScriptCode>, R: Wait, G: Gate>(
     rt: &R,
     alloc: Global,
@@ -204,6 +210,7 @@ fn take_up<J: Named<ScriptCode>, R: Wait, G: Gate>(
 }
 
 /// Runs a task's local statements, and takes what it then asks for to the board.
+#[inline(always)]
 fn run_on<J: Named<ScriptCode>, R: Wait, G: Gate>(
     rt: &R,
     alloc: Global,
@@ -225,6 +232,7 @@ fn run_on<J: Named<ScriptCode>, R: Wait, G: Gate>(
 }
 
 /// Takes what a task asks for to the board.
+#[inline(always)]
 fn act<J: Named<ScriptCode>, R: Wait>(
     rt: &R,
     alloc: Global,
@@ -246,6 +254,7 @@ fn act<J: Named<ScriptCode>, R: Wait>(
 }
 
 /// Takes a handler to the board.
+#[inline(always)]
 fn hand<J: Named<ScriptCode>, R: Wait>(
     rt: &R,
     alloc: Global,
@@ -272,6 +281,7 @@ fn is_made<J: Named<ScriptCode>>(answer: &Acted<ScriptCode, J>) -> bool {
 }
 
 /// Adds a step to the worker's own list, if it was made.
+#[inline(always)]
 fn note(steps: &mut Vec<Step>, step: Step, made: bool)
     requires room { vec_len steps.old < vec_capacity steps.old }
 {
@@ -281,6 +291,7 @@ fn note(steps: &mut Vec<Step>, step: Step, made: bool)
 }
 
 /// Goes on by what the board answered.
+#[inline(always)]
 fn go_by<J: Named<ScriptCode>, R: Wait>(
     rt: &R,
     board: &Mutex<Board<'_, ScriptCode, J>>,
@@ -299,6 +310,7 @@ fn go_by<J: Named<ScriptCode>, R: Wait>(
 
 /// Goes on with the next ticket of its task, and leaves the other work on its deque. Where there is
 /// none at all, the board may be over.
+#[inline(always)]
 fn go_on<J: Named<ScriptCode>, R: Wait>(
     rt: &R,
     board: &Mutex<Board<'_, ScriptCode, J>>,
@@ -322,6 +334,7 @@ fn go_on<J: Named<ScriptCode>, R: Wait>(
 }
 
 /// Leaves this work on the deque, in this order.
+#[inline(always)]
 fn leave<J: Named<ScriptCode>>(
     seat: &mut Seat<Work<ScriptCode, J>>,
     made: Option<Ticket<ScriptCode, J>>,
@@ -340,6 +353,7 @@ fn leave<J: Named<ScriptCode>>(
     Ok(())
 }
 
+#[inline(always)]
 fn push<T: Drop>(seat: &mut Seat<T>, item: T) -> Result<(), AllocError> {
     match seat.push(item) {
         Ok(()) => Ok(()),

@@ -1,14 +1,27 @@
-use Rattle.std.proofs.Common.{◌≡◌, ◌++◌, [], ap, sym, ◌∙◌, map, string_bytes}
+use Rattle.std.proofs.Common.{rules, ◌≡◌, ◌++◌, codes, sym, ap, ◌∙◌, string_bytes}
 use Rattle.std.specs.Fmt.{signed_decimal}
+use Rattle.lvish_lattice.specs.GrowSet.{items_of}
 use Rattle.std.specs.Map.Iter.{deref}
-use Rattle.std.proofs.lemmas.List.{append-nil}
 use Rattle.std.proofs.lemmas.Map.Iter.{rest_all}
-use Rattle.std.proofs.lemmas.Result.{IfOk-weaker}
-use Rattle.lvish_run.specs.StateText.{braced}
+use Rattle.lvish_run.proofs.Braces.{pieces, after_piece, none_left, all_braced}
 use Rattle.lvish_run.proofs.state_text.set_text.Goals as goal
+
+pub loop-element-preserved : goal.loop-element-preserved
+loop-element-preserved c =
+    let text = string_bytes c.loop-element.text in
+    let first = c.loop-element.is_first in
+    let longer : string_bytes c.push_number.new.text ≡ string_bytes c.push_gap.new.text ++ signed_decimal c.in-Some.element.now = search rules in
+    after_piece signed_decimal first c.in-Some.element.now c.next.new.self text (string_bytes c.push_gap.new.text) (string_bytes c.push_number.new.text) c.in_ok-push_gap.ensures longer
+    ∙ ap (λ xs. text ++ (pieces signed_decimal first xs ++ codes "}")) (sym c.in-Some.ensures.steps)
+    ∙ c.loop-element.invariant
 
 pub returns : goal.returns
 returns c =
-    let done : c.loop-element.element-iterator ≡ [] = rest_all deref _ _ _ c.in-None.is c.next.ensures.steps in
-    let all = sym (append-nil (map string_bytes c.loop-element.pieces.items)) ∙ ap (λ es. map string_bytes c.loop-element.pieces.items ++ map signed_decimal es) (sym done) ∙ c.loop-element.invariant in
-    IfOk-weaker c.braced.result _ _ (λ t e. e ∙ ap (λ ps. braced (map string_bytes ps)) c.deref.ensures.value ∙ ap braced all) c.braced.ensures
+    let text = string_bytes c.loop-element.text in
+    let first = c.loop-element.is_first in
+    let done = rest_all deref _ _ _ c.in-None.is c.next.ensures.steps in
+    c.in_ok-push_str.ensures.bytes
+    ∙ ap (λ t. text ++ (t ++ codes "}")) (sym (none_left signed_decimal first))
+    ∙ ap (λ xs. text ++ (pieces signed_decimal first xs ++ codes "}")) (sym done)
+    ∙ c.loop-element.invariant
+    ∙ all_braced signed_decimal (items_of c.args.set.now)

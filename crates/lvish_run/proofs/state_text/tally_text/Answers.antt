@@ -1,9 +1,27 @@
-use Rattle.std.proofs.Common.{string_bytes}
+use Rattle.std.proofs.Common.{rules, ◌≡◌, ◌++◌, codes, sym, ap, ◌∙◌, string_bytes}
+use Rattle.lvish_compound.specs.Tally.{entries_of}
+use Rattle.lvish_run.specs.StateText.{amount_text}
 use Rattle.std.specs.Map.Iter.{deref_pair}
 use Rattle.std.proofs.lemmas.Map.Iter.{rest_all}
-use Rattle.lvish_run.specs.StateText.{amount_text}
-use Rattle.lvish_run.proofs.Braces.{all_braced}
+use Rattle.lvish_run.proofs.Braces.{pieces, after_piece, none_left, all_braced}
 use Rattle.lvish_run.proofs.state_text.tally_text.Goals as goal
 
+pub loop-key-preserved : goal.loop-key-preserved
+loop-key-preserved c =
+    let text = string_bytes c.loop-key.text in
+    let first = c.loop-key.is_first in
+    let longer : string_bytes c.push_amount.new.text ≡ string_bytes c.push_gap.new.text ++ amount_text (c.in-Some.key.now, c.in-Some.amount.now) = search rules in
+    after_piece amount_text first (c.in-Some.key.now, c.in-Some.amount.now) c.next.new.self text (string_bytes c.push_gap.new.text) (string_bytes c.push_amount.new.text) c.in_ok-push_gap.ensures longer
+    ∙ ap (λ xs. text ++ (pieces amount_text first xs ++ codes "}")) (sym c.in-Some.ensures.steps)
+    ∙ c.loop-key.invariant
+
 pub returns : goal.returns
-returns c = all_braced string_bytes amount_text c.braced.result _ _ c.loop-key.key-iterator _ c.deref.ensures.value (rest_all deref_pair _ _ _ c.in-None.is c.next.ensures.steps) c.loop-key.invariant c.braced.ensures
+returns c =
+    let text = string_bytes c.loop-key.text in
+    let first = c.loop-key.is_first in
+    let done = rest_all deref_pair _ _ _ c.in-None.is c.next.ensures.steps in
+    c.in_ok-push_str.ensures.bytes
+    ∙ ap (λ t. text ++ (t ++ codes "}")) (sym (none_left amount_text first))
+    ∙ ap (λ xs. text ++ (pieces amount_text first xs ++ codes "}")) (sym done)
+    ∙ c.loop-key.invariant
+    ∙ all_braced amount_text (entries_of c.args.tally.now)
