@@ -8,8 +8,9 @@ ghost use Rattle.lvish_run.specs.declared.own_steps.Why.TheVariants.{Stopped};
 use crate::fault::RunFault;
 use crate::gate::Gate;
 use crate::own_steps::OwnSteps;
+use crate::piece::Piece;
 use crate::worker::work;
-use lvish_board::{Board, Named, TraceEntry, Work};
+use lvish_board::{Board, Named, TraceEntry};
 use lvish_compound::Event;
 use lvish_deal::Seat;
 use lvish_task::ScriptCode;
@@ -97,8 +98,8 @@ fn are_parts(owns: &[OwnSteps], trace: &[TraceEntry<Event>]) -> bool
 pub fn together<J: Named<ScriptCode> + Send + Sync, R: Threads + Wait + Sync, G: Gate>(
     rt: &R,
     alloc: Global,
-    mine: Seat<Work<ScriptCode, J>>,
-    others: Vec<Seat<Work<ScriptCode, J>>>,
+    mine: Seat<Piece<J>>,
+    others: Vec<Seat<Piece<J>>>,
     code: &ScriptCode,
     board: &Mutex<Board<'_, ScriptCode, J>>,
     left: &AtomicBool,

@@ -29,6 +29,7 @@ mod opening;
 mod own_steps;
 mod pause;
 mod picks;
+mod piece;
 mod report;
 mod runner;
 mod scripts;

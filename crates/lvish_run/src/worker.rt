@@ -10,7 +10,8 @@ ghost use Rattle.lvish_run.specs.declared.own_steps.Why.TheVariants.{Stopped};
 use crate::gate::Gate;
 use crate::own_steps::{OwnSteps, Step, Why};
 use crate::pause::Pause;
-use lvish_board::{Acted, Asked, Board, Named, Ticket, Work, Works, stretch};
+use crate::piece::Piece;
+use lvish_board::{Acted, Asked, Board, Named, Ticket, Works, stretch};
 use lvish_compound::Event;
 use lvish_deal::{Seat, Steal};
 use lvish_names::HandlerName;
@@ -34,7 +35,7 @@ enum AfterWork<J: Named<ScriptCode>> {
 pub fn work<J: Named<ScriptCode>, R: Wait, G: Gate>(
     rt: &R,
     alloc: Global,
-    seat: Seat<Work<ScriptCode, J>>,
+    seat: Seat<Piece<J>>,
     code: &ScriptCode,
     board: &Mutex<Board<'_, ScriptCode, J>>,
     left: &AtomicBool,
@@ -62,7 +63,7 @@ fn turns<J: Named<ScriptCode>, R: Wait, G: Gate>(
     board: &Mutex<Board<'_, ScriptCode, J>>,
     left: &AtomicBool,
     gate: &G,
-    seat: &mut Seat<Work<ScriptCode, J>>,
+    seat: &mut Seat<Piece<J>>,
     steps: &mut Vec<Step>,
 ) -> Why
     requires { code.now ≡ J.program }
@@ -91,7 +92,7 @@ fn take_turn<J: Named<ScriptCode>, R: Wait, G: Gate>(
     code: &ScriptCode,
     board: &Mutex<Board<'_, ScriptCode, J>>,
     gate: &G,
-    seat: &mut Seat<Work<ScriptCode, J>>,
+    seat: &mut Seat<Piece<J>>,
     steps: &mut Vec<Step>,
     pause: &mut Pause,
     own: Option<Ticket<ScriptCode, J>>,
@@ -102,9 +103,9 @@ fn take_turn<J: Named<ScriptCode>, R: Wait, G: Gate>(
     let after = match own {
         Some(ticket) => run_on(rt, alloc, code, board, gate, seat, steps, pause, ticket),
         None => match find(seat) {
-            Some(work) => {
+            Some(piece) => {
                 pause.reset();
-                take_up(rt, alloc, code, board, gate, seat, steps, pause, work)
+                take_up(rt, alloc, code, board, gate, seat, steps, pause, piece)
             }
             None => return match idle(rt, board, gate, pause, seat.number()) {
                 Some(why) => Err(why),
@@ -193,19 +194,19 @@ fn take_up<J: Named<ScriptCode>, R: Wait, G: Gate>(
     code: &ScriptCode,
     board: &Mutex<Board<'_, ScriptCode, J>>,
     gate: &G,
-    seat: &mut Seat<Work<ScriptCode, J>>,
+    seat: &mut Seat<Piece<J>>,
     steps: &mut Vec<Step>,
     pause: &mut Pause,
-    work: Work<ScriptCode, J>,
+    piece: Piece<J>,
 ) -> AfterWork<J>
     requires { code.now ≡ J.program }
 {
-    match work {
-        Work::Stretch(ticket) => {
+    match piece {
+        Piece::Stretch(ticket) => {
             run_on(rt, alloc, code, board, gate, seat, steps, pause, ticket)
         }
-        Work::Act(asked) => act(rt, alloc, board, seat, steps, pause, asked),
-        Work::Hand(handler) => hand(rt, alloc, board, seat, steps, pause, handler),
+        Piece::Act(asked) => { act(rt, alloc, board, seat, steps, pause, Box::into_inner(asked)) }
+        Piece::Hand(handler) => hand(rt, alloc, board, seat, steps, pause, handler),
     }
 }
 
@@ -217,7 +218,7 @@ fn run_on<J: Named<ScriptCode>, R: Wait, G: Gate>(
     code: &ScriptCode,
     board: &Mutex<Board<'_, ScriptCode, J>>,
     gate: &G,
-    seat: &mut Seat<Work<ScriptCode, J>>,
+    seat: &mut Seat<Piece<J>>,
     steps: &mut Vec<Step>,
     pause: &mut Pause,
     ticket: Ticket<ScriptCode, J>,
@@ -237,7 +238,7 @@ fn act<J: Named<ScriptCode>, R: Wait>(
     rt: &R,
     alloc: Global,
     board: &Mutex<Board<'_, ScriptCode, J>>,
-    seat: &mut Seat<Work<ScriptCode, J>>,
+    seat: &mut Seat<Piece<J>>,
     steps: &mut Vec<Step>,
     pause: &mut Pause,
     asked: Asked<ScriptCode, J>,
@@ -250,7 +251,7 @@ fn act<J: Named<ScriptCode>, R: Wait>(
     }
     let answer = pause.take(rt, board).act(alloc, seat.number(), asked);
     note(steps, Step::Act(task), is_made(&answer));
-    go_by(rt, board, seat, pause, answer)
+    go_by(rt, alloc, board, seat, pause, answer)
 }
 
 /// Takes a handler to the board.
@@ -259,7 +260,7 @@ fn hand<J: Named<ScriptCode>, R: Wait>(
     rt: &R,
     alloc: Global,
     board: &Mutex<Board<'_, ScriptCode, J>>,
-    seat: &mut Seat<Work<ScriptCode, J>>,
+    seat: &mut Seat<Piece<J>>,
     steps: &mut Vec<Step>,
     pause: &mut Pause,
     handler: HandlerName<Event>,
@@ -272,7 +273,7 @@ fn hand<J: Named<ScriptCode>, R: Wait>(
     }
     let answer = pause.take(rt, board).hand(alloc, seat.number(), handler);
     note(steps, Step::Hand(name), is_made(&answer));
-    go_by(rt, board, seat, pause, answer)
+    go_by(rt, alloc, board, seat, pause, answer)
 }
 
 /// Whether the board made the step.
@@ -294,8 +295,9 @@ fn note(steps: &mut Vec<Step>, step: Step, made: bool)
 #[inline(always)]
 fn go_by<J: Named<ScriptCode>, R: Wait>(
     rt: &R,
+    alloc: Global,
     board: &Mutex<Board<'_, ScriptCode, J>>,
-    seat: &mut Seat<Work<ScriptCode, J>>,
+    seat: &mut Seat<Piece<J>>,
     pause: &mut Pause,
     answer: Acted<ScriptCode, J>,
 ) -> AfterWork<J> {
@@ -304,7 +306,7 @@ fn go_by<J: Named<ScriptCode>, R: Wait>(
         Acted::Stale => AfterWork::On(None),
         Acted::Parked => look(rt, board, pause),
         Acted::Memory(_work) => AfterWork::Memory,
-        Acted::Next(works) | Acted::Gone(works) => go_on(rt, board, seat, pause, works),
+        Acted::Next(works) | Acted::Gone(works) => go_on(rt, alloc, board, seat, pause, works),
     }
 }
 
@@ -313,8 +315,9 @@ fn go_by<J: Named<ScriptCode>, R: Wait>(
 #[inline(always)]
 fn go_on<J: Named<ScriptCode>, R: Wait>(
     rt: &R,
+    alloc: Global,
     board: &Mutex<Board<'_, ScriptCode, J>>,
-    seat: &mut Seat<Work<ScriptCode, J>>,
+    seat: &mut Seat<Piece<J>>,
     pause: &mut Pause,
     works: Works<ScriptCode, J>,
 ) -> AfterWork<J> {
@@ -327,7 +330,7 @@ fn go_on<J: Named<ScriptCode>, R: Wait>(
     if own.is_none() && made.is_none() && woken.is_empty() && hands.is_empty() {
         return look(rt, board, pause);
     }
-    if leave(seat, made, woken, hands).is_err() {
+    if leave(alloc, seat, made, woken, hands).is_err() {
         return AfterWork::Memory;
     }
     AfterWork::On(own)
@@ -336,19 +339,20 @@ fn go_on<J: Named<ScriptCode>, R: Wait>(
 /// Leaves this work on the deque, in this order.
 #[inline(always)]
 fn leave<J: Named<ScriptCode>>(
-    seat: &mut Seat<Work<ScriptCode, J>>,
+    alloc: Global,
+    seat: &mut Seat<Piece<J>>,
     made: Option<Ticket<ScriptCode, J>>,
     woken: Vec<Asked<ScriptCode, J>>,
     hands: Vec<HandlerName<Event>>,
 ) -> Result<(), AllocError> {
     if let Some(ticket) = made {
-        push(seat, Work::Stretch(ticket))?;
+        push(seat, Piece::Stretch(ticket))?;
     }
     for asked in woken {
-        push(seat, Work::Act(asked))?;
+        push(seat, Piece::Act(Box::new(alloc, asked)?))?;
     }
     for handler in hands {
-        push(seat, Work::Hand(handler))?;
+        push(seat, Piece::Hand(handler))?;
     }
     Ok(())
 }

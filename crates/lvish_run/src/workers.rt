@@ -11,6 +11,7 @@ use crate::gate::Gate;
 use crate::hall::{Crew, together};
 use crate::limits::{MOST_STEPS, MOST_WORKERS};
 use crate::naming::{Naming, Of};
+use crate::piece::Piece;
 use crate::report::Report;
 use crate::scripts::RunMeaning;
 use lvish_board::{Board, Named};
@@ -77,6 +78,7 @@ fn run_named<N: Naming + Send + Sync, R: Threads + Wait + Sync, G: Gate>(
     let (board, first) = Board::<ScriptCode, Of<N>>::new(alloc, code, budget)?;
     let mut others = deal(alloc, workers)?;
     let mut mine = others.remove(0);
+    let first = Piece::of(alloc, first)?;
     if mine.push(first).is_err() {
         return Err(RunFault::Memory);
     }
