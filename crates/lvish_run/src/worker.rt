@@ -249,9 +249,12 @@ fn act<J: Named<ScriptCode>, R: Wait>(
     if steps.reserve(1).is_err() {
         return AfterWork::Memory;
     }
-    let answer = pause.take(rt, board).act(alloc, seat.number(), asked);
+    let mut held = pause.take(rt, board);
+    let answer = held.act(alloc, seat.number(), asked);
+    let over = is_over(&held);
+    drop(held);
     note(steps, Step::Act(task), is_made(&answer));
-    go_by(rt, alloc, board, seat, pause, answer)
+    go_by(alloc, seat, over, answer)
 }
 
 /// Takes a handler to the board.
@@ -271,9 +274,12 @@ fn hand<J: Named<ScriptCode>, R: Wait>(
     if steps.reserve(1).is_err() {
         return AfterWork::Memory;
     }
-    let answer = pause.take(rt, board).hand(alloc, seat.number(), handler);
+    let mut held = pause.take(rt, board);
+    let answer = held.hand(alloc, seat.number(), handler);
+    let over = is_over(&held);
+    drop(held);
     note(steps, Step::Hand(name), is_made(&answer));
-    go_by(rt, alloc, board, seat, pause, answer)
+    go_by(alloc, seat, over, answer)
 }
 
 /// Whether the board made the step.
@@ -291,34 +297,30 @@ fn note(steps: &mut Vec<Step>, step: Step, made: bool)
     }
 }
 
-/// Goes on by what the board answered.
+/// Goes on by what the board answered, and by whether it is over.
 #[inline(always)]
-fn go_by<J: Named<ScriptCode>, R: Wait>(
-    rt: &R,
+fn go_by<J: Named<ScriptCode>>(
     alloc: Global,
-    board: &Mutex<Board<'_, ScriptCode, J>>,
     seat: &mut Seat<Piece<J>>,
-    pause: &mut Pause,
+    over: bool,
     answer: Acted<ScriptCode, J>,
 ) -> AfterWork<J> {
+    if over {
+        return AfterWork::Over;
+    }
     match answer {
         Acted::Over => AfterWork::Over,
-        Acted::Stale => AfterWork::On(None),
-        Acted::Parked => look(rt, board, pause),
+        Acted::Stale | Acted::Parked => AfterWork::On(None),
         Acted::Memory(_work) => AfterWork::Memory,
-        Acted::Next(works) | Acted::Gone(works) => go_on(rt, alloc, board, seat, pause, works),
+        Acted::Next(works) | Acted::Gone(works) => go_on(alloc, seat, works),
     }
 }
 
-/// Goes on with the next ticket of its task, and leaves the other work on its deque. Where there is
-/// none at all, the board may be over.
+/// Goes on with the next ticket of its task, and leaves the other work on its deque.
 #[inline(always)]
-fn go_on<J: Named<ScriptCode>, R: Wait>(
-    rt: &R,
+fn go_on<J: Named<ScriptCode>>(
     alloc: Global,
-    board: &Mutex<Board<'_, ScriptCode, J>>,
     seat: &mut Seat<Piece<J>>,
-    pause: &mut Pause,
     works: Works<ScriptCode, J>,
 ) -> AfterWork<J> {
     let Works {
@@ -327,13 +329,10 @@ fn go_on<J: Named<ScriptCode>, R: Wait>(
         woken,
         hands,
     } = works;
-    if own.is_none() && made.is_none() && woken.is_empty() && hands.is_empty() {
-        return look(rt, board, pause);
+    match leave(alloc, seat, made, woken, hands) {
+        Ok(()) => AfterWork::On(own),
+        Err(_refused) => AfterWork::Memory,
     }
-    if leave(alloc, seat, made, woken, hands).is_err() {
-        return AfterWork::Memory;
-    }
-    AfterWork::On(own)
 }
 
 /// Leaves this work on the deque, in this order.
@@ -362,18 +361,5 @@ fn push<T: Drop>(seat: &mut Seat<T>, item: T) -> Result<(), AllocError> {
     match seat.push(item) {
         Ok(()) => Ok(()),
         Err(_item) => Err(AllocError),
-    }
-}
-
-/// Goes on unless the board is over.
-fn look<J: Named<ScriptCode>, R: Wait>(
-    rt: &R,
-    board: &Mutex<Board<'_, ScriptCode, J>>,
-    pause: &mut Pause,
-) -> AfterWork<J> {
-    if is_over(&pause.take(rt, board)) {
-        AfterWork::Over
-    } else {
-        AfterWork::On(None)
     }
 }
