@@ -1,5 +1,5 @@
 -- All that a board says of its answer, for each answer, over any machine.
-use Rattle.std.proofs.Common.{◌≡◌, ◌++◌, ◌∷◌, [], Bool, true, false, ℕ, Ordering, Option, None, IsSome, refl, sym, ap, subst, ◌∙◌}
+use Rattle.std.proofs.Common.{◌≡◌, ◌++◌, ◌∷◌, [], Bool, true, false, ℕ, Ordering, Option, None, Some, is_some, IsSome, refl, sym, ap, subst, ◌∙◌}
 use Rattle.std.proofs.lemmas.Bool.{false≢true, true≢false}
 use Rattle.lvish_board.specs.Vocabulary.{Act, Hand, Acted, Over, Stale, Parked, Next, Gone, Works}
 use Rattle.lvish_calculus.specs.Machine.{Machine}
@@ -13,6 +13,10 @@ use Rattle.lvish_board.specs.Standing.{Standing}
 pub not_over : {X Y : Type 0} (o : Option X) → o ≡ None → IsSome o → Y
 not_over o none some = absurd (false≢true (subst (λ z. IsSome z) none some))
 
+none_is : {X : Type 0} (o : Option X) → is_some o ≡ false → o ≡ None
+none_is None e = refl
+none_is (Some x) e = absurd cc
+
 module _ {P S E R Ans L P1 J1 A1 W : Type 0} {cmp : E → E → Ordering} {M : Machine S E R Ans L} {Stands Can : Type 0} {worker : ℕ} {asked : TaskPlace E L} {old new : Standing P S E L} where
   -- the board is over
   pub act_over : new.trace ≡ old.trace → new.core ≡ old.core → IsSome new.over → (IsSome old.over → new ≡ old) → ComesOfAct {P = P1} {J = J1} {A = A1} {W = W} cmp M Stands Can worker asked old new Over
@@ -21,6 +25,7 @@ module _ {P S E R Ans L P1 J1 A1 W : Type 0} {cmp : E → E → Ordering} {M : M
     step = λ e. absurd (false≢true e);
     gone = λ e. absurd (false≢true e);
     list = tt;
+    own = tt;
     over = λ _. some;
     done = λ e. (refl, before e);
     stale = λ e. absurd (false≢true e);
@@ -35,6 +40,7 @@ module _ {P S E R Ans L P1 J1 A1 W : Type 0} {cmp : E → E → Ordering} {M : M
     step = λ e. absurd (false≢true e);
     gone = λ e. absurd (false≢true e);
     list = tt;
+    own = tt;
     over = λ e. absurd (false≢true e);
     done = not_over old.over (sym (ap (λ b. b.over) same) ∙ none);
     stale = λ _. (never, same);
@@ -43,12 +49,13 @@ module _ {P S E R Ans L P1 J1 A1 W : Type 0} {cmp : E → E → Ordering} {M : M
   }
 
   -- a step was made, and the task goes on
-  pub act_next : (list : Works P1 J1 S L R A1 W E) → old.over ≡ None → new.trace ≡ old.trace ++ entry_of worker (Act asked.task) ∷ [] → (IsDone M new.core asked.task → ⊥) → IsListed cmp M old (Act asked.task) new (works_of list) → ComesOfAct {P = P1} {J = J1} {A = A1} {W = W} cmp M Stands Can worker asked old new (Next list)
-  act_next list none written goes listed = record {
+  pub act_next : (list : Works P1 J1 S L R A1 W E) → old.over ≡ None → new.trace ≡ old.trace ++ entry_of worker (Act asked.task) ∷ [] → (IsDone M new.core asked.task → ⊥) → IsListed cmp M old (Act asked.task) new (works_of list) → IsSome list.own → ComesOfAct {P = P1} {J = J1} {A = A1} {W = W} cmp M Stands Can worker asked old new (Next list)
+  act_next list none written goes listed own = record {
     stays = λ e. absurd (true≢false e);
     step = λ _. written;
     gone = λ _. (λ e. absurd (false≢true e), λ done. absurd (goes done));
     list = listed;
+    own = own;
     over = λ e. absurd (false≢true e);
     done = not_over old.over none;
     stale = λ e. absurd (false≢true e);
@@ -57,12 +64,13 @@ module _ {P S E R Ans L P1 J1 A1 W : Type 0} {cmp : E → E → Ordering} {M : M
   }
 
   -- a step was made, and the task goes on no more
-  pub act_gone : (list : Works P1 J1 S L R A1 W E) → old.over ≡ None → new.trace ≡ old.trace ++ entry_of worker (Act asked.task) ∷ [] → IsDone M new.core asked.task → IsListed cmp M old (Act asked.task) new (works_of list) → ComesOfAct {P = P1} {J = J1} {A = A1} {W = W} cmp M Stands Can worker asked old new (Gone list)
-  act_gone list none written done listed = record {
+  pub act_gone : (list : Works P1 J1 S L R A1 W E) → old.over ≡ None → new.trace ≡ old.trace ++ entry_of worker (Act asked.task) ∷ [] → IsDone M new.core asked.task → IsListed cmp M old (Act asked.task) new (works_of list) → list.own ≡ None → ComesOfAct {P = P1} {J = J1} {A = A1} {W = W} cmp M Stands Can worker asked old new (Gone list)
+  act_gone list none written done listed own = record {
     stays = λ e. absurd (true≢false e);
     step = λ _. written;
     gone = λ _. (λ _. done, λ _. refl);
     list = listed;
+    own = own;
     over = λ e. absurd (false≢true e);
     done = not_over old.over none;
     stale = λ e. absurd (false≢true e);
@@ -73,9 +81,9 @@ module _ {P S E R Ans L P1 J1 A1 W : Type 0} {cmp : E → E → Ordering} {M : M
   -- a step was made, and the answer says whether the task goes on
   pub act_left : (goes_on : Bool) (list : Works P1 J1 S L R A1 W E) (result : Acted P1 J1 S L R A1 W E) → (goes_on ≡ true → result ≡ Next list) → (goes_on ≡ false → result ≡ Gone list)
       → old.over ≡ None → new.trace ≡ old.trace ++ entry_of worker (Act asked.task) ∷ [] → (goes_on ≡ true → IsDone M new.core asked.task → ⊥) → (goes_on ≡ false → IsDone M new.core asked.task)
-      → IsListed cmp M old (Act asked.task) new (works_of list) → ComesOfAct cmp M Stands Can worker asked old new result
-  act_left true list result next gone none written goes ends listed = subst (λ r. ComesOfAct cmp M Stands Can worker asked old new r) (sym (next refl)) (act_next list none written (goes refl) listed)
-  act_left false list result next gone none written goes ends listed = subst (λ r. ComesOfAct cmp M Stands Can worker asked old new r) (sym (gone refl)) (act_gone list none written (ends refl) listed)
+      → IsListed cmp M old (Act asked.task) new (works_of list) → is_some list.own ≡ goes_on → ComesOfAct cmp M Stands Can worker asked old new result
+  act_left true list result next gone none written goes ends listed own = subst (λ r. ComesOfAct cmp M Stands Can worker asked old new r) (sym (next refl)) (act_next list none written (goes refl) listed own)
+  act_left false list result next gone none written goes ends listed own = subst (λ r. ComesOfAct cmp M Stands Can worker asked old new r) (sym (gone refl)) (act_gone list none written (ends refl) listed (none_is list.own own))
 
 module _ {P S E R Ans L P1 J1 A1 W : Type 0} {cmp : E → E → Ordering} {M : Machine S E R Ans L} {Held : Type 0} {IsNext : E → Type 0} {worker : ℕ} {handler : Handler E} {old new : Standing P S E L} where
   -- the board is over
@@ -85,6 +93,7 @@ module _ {P S E R Ans L P1 J1 A1 W : Type 0} {cmp : E → E → Ordering} {M : M
     step = λ e. absurd (false≢true e);
     gone = refl;
     list = λ e next. tt;
+    own = tt;
     over = λ _. some;
     done = λ e. (refl, before e);
     stale = λ e. absurd (false≢true e);
@@ -99,6 +108,7 @@ module _ {P S E R Ans L P1 J1 A1 W : Type 0} {cmp : E → E → Ordering} {M : M
     step = λ e. absurd (false≢true e);
     gone = refl;
     list = λ e next. tt;
+    own = tt;
     over = λ e. absurd (false≢true e);
     done = not_over old.over (sym (ap (λ b. b.over) same) ∙ none);
     stale = λ _. (never, same);
@@ -113,6 +123,7 @@ module _ {P S E R Ans L P1 J1 A1 W : Type 0} {cmp : E → E → Ordering} {M : M
     step = λ e. absurd (false≢true e);
     gone = refl;
     list = λ e next. tt;
+    own = tt;
     over = λ e. absurd (false≢true e);
     done = not_over old.over (sym (ap (λ b. b.over) same) ∙ none);
     stale = λ e. absurd (false≢true e);
@@ -121,12 +132,13 @@ module _ {P S E R Ans L P1 J1 A1 W : Type 0} {cmp : E → E → Ordering} {M : M
   }
 
   -- what came next was handed
-  pub hand_next : (list : Works P1 J1 S L R A1 W E) (event : E) → ((e : E) → IsNext e → event ≡ e) → old.over ≡ None → new.trace ≡ old.trace ++ entry_of worker (Hand handler event) ∷ [] → IsListed cmp M old (Hand handler event) new (works_of list) → ComesOfHand {P = P1} {J = J1} {A = A1} {W = W} cmp M Held IsNext worker handler old new (Next list)
-  hand_next list event one none written listed = record {
+  pub hand_next : (list : Works P1 J1 S L R A1 W E) (event : E) → ((e : E) → IsNext e → event ≡ e) → old.over ≡ None → new.trace ≡ old.trace ++ entry_of worker (Hand handler event) ∷ [] → IsListed cmp M old (Hand handler event) new (works_of list) → list.own ≡ None → ComesOfHand {P = P1} {J = J1} {A = A1} {W = W} cmp M Held IsNext worker handler old new (Next list)
+  hand_next list event one none written listed own = record {
     stays = λ e. absurd (true≢false e);
     step = λ _ e next. subst (λ x. new.trace ≡ old.trace ++ entry_of worker (Hand handler x) ∷ []) (one e next) written;
     gone = refl;
     list = λ e next. subst (λ x. IsListed cmp M old (Hand handler x) new (works_of list)) (one e next) listed;
+    own = own;
     over = λ e. absurd (false≢true e);
     done = not_over old.over none;
     stale = λ e. absurd (false≢true e);

@@ -61,12 +61,24 @@ ListsWork cmp M old l new (Next ws) = IsListed cmp M old l new (works_of ws)
 ListsWork cmp M old l new (Gone ws) = IsListed cmp M old l new (works_of ws)
 ListsWork cmp M old l new _ = Unit {0}
 
+-- the acting task's next ticket is there just where the task goes on
+abbrev pub HasOwn : {P J S L R A W E : Type 0} → Acted P J S L R A W E → Type 0
+HasOwn (Next ws) = IsSome ws.own
+HasOwn (Gone ws) = ws.own ≡ None
+HasOwn _ = Unit {0}
+
+-- no task has acted
+abbrev pub HasNoOwn : {P J S L R A W E : Type 0} → Acted P J S L R A W E → Type 0
+HasNoOwn (Next ws) = ws.own ≡ None
+HasNoOwn _ = Unit {0}
+
 -- all that `act` says of its answer, clause by clause, in one: Stands says that the task is at its state, Can that its step can be made
 pub record ComesOfAct {P' P J S L R A W E Ans : Type 0} (cmp : E → E → Ordering) (M : Machine S E R Ans L) (Stands Can : Type 0) (worker : ℕ) (asked : TaskPlace E L) (old new : Standing P' S E L) (result : Acted P J S L R A W E) : Type 0 where
   pub stays : is_step result ≡ false → (new.trace ≡ old.trace) × (new.core ≡ old.core)
   pub step : is_step result ≡ true → new.trace ≡ old.trace ++ entry_of worker (Act asked.task) ∷ []
   pub gone : is_step result ≡ true → (is_gone result ≡ true) ↔ IsDone M new.core asked.task
   pub list : ListsWork cmp M old (Act asked.task) new result
+  pub own : HasOwn result
   pub over : is_over result ≡ true → IsSome new.over
   pub done : IsSome old.over → (result ≡ Over) × (new ≡ old)
   pub stale : is_stale result ≡ true → (Stands → ⊥) × (new ≡ old)
@@ -79,6 +91,7 @@ pub record ComesOfHand {P' P J S L R A W E Ans : Type 0} (cmp : E → E → Orde
   pub step : is_step result ≡ true → (e : E) → Next e → new.trace ≡ old.trace ++ entry_of worker (Hand handler e) ∷ []
   pub gone : is_gone result ≡ false
   pub list : (e : E) → Next e → ListsWork cmp M old (Hand handler e) new result
+  pub own : HasNoOwn result
   pub over : is_over result ≡ true → IsSome new.over
   pub done : IsSome old.over → (result ≡ Over) × (new ≡ old)
   pub stale : is_stale result ≡ true → (Held → ⊥) × (new ≡ old)

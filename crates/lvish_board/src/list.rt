@@ -96,6 +96,7 @@ pub(crate) fn leave<P: Program, J: Named<P>>(
     requires concerned_room { length room.old.concerned.items + length (option_list left.added) ≤ vec_capacity room.old.concerned }
     requires hands_room { length room.old.concerned.items + length (option_list left.added) ≤ vec_capacity room.old.hands }
     ensures left { IsLeft P.Lat.Event.cmp (⟦<P as Meaning>⟧.machine J.program) P.Lat.spot_of P.Lat.watched core.now logged left.own left.made left.added room.old.concerned.items parked.old parked.new (works_of result) }
+    ensures own { result.own ≡ left.own }
     ensures once { NoRepeats (tasks_of parked.old) → NoRepeats (tasks_of parked.new) }
 {
     let entries = fresh(core, logged);

@@ -1,4 +1,4 @@
-ghost use Rattle.std.specs.Prelude.{◌≡◌, ◌<◌, ◌≤◌, ◌+◌, ◌++◌, [], IfOk, vec_len, vec_capacity};
+ghost use Rattle.std.specs.Prelude.{◌≡◌, ◌<◌, ◌≤◌, ◌+◌, ◌++◌, [], None, IfOk, vec_len, vec_capacity};
 ghost use Rattle.lvish_board.specs.Listed.{works_of, stretches, acts, handings, option_list};
 
 use crate::asked::Asked;
@@ -26,7 +26,8 @@ pub struct Works<P: Program, J: Named<P>> {
 impl<P: Program, J: Named<P>> Works<P, J> {
     /// No work.
     pub(crate) fn none(alloc: Global) -> Works<P, J>
-        ensures { works_of result ≡ [] }
+        ensures list { works_of result ≡ [] }
+        ensures own { result.own ≡ None }
     {
         Works {
             own: None,

@@ -5,7 +5,7 @@ ghost use Rattle.lvish_calculus.specs.declared.label.Label.TheVariants.{Hand};
 ghost use Rattle.lvish_board.specs.declared.work.Work.TheVariants.{Hand as HandTo};
 ghost use Rattle.lvish_core.specs.declared.fault.Stepped.{Stepped};
 ghost use Rattle.lvish_core.specs.Handed.{IsHanded};
-ghost use Rattle.lvish_board.specs.Acts.{entry_of, is_step, is_gone, is_over, is_stale, is_parked, GivesBack, ComesOfHand, ListsWork, KeepsAtMemory};
+ghost use Rattle.lvish_board.specs.Acts.{entry_of, is_step, is_gone, is_over, is_stale, is_parked, GivesBack, ComesOfHand, HasNoOwn, ListsWork, KeepsAtMemory};
 
 use super::Board;
 use super::make::has_all_variables;
@@ -37,6 +37,8 @@ impl<'p, P: Program, J: Named<P>> Board<'p, P, J> {
         ensures step { is_step result ≡ true → (e : P.Lat.Event) → ⟦<P as CoreMeaning>⟧.is_next self.old.core handler e → self.new.trace ≡ self.old.trace ++ entry_of worker (Hand handler e) ∷ [] }
         ensures gone { is_gone result ≡ false }
         ensures list { (e : P.Lat.Event) → ⟦<P as CoreMeaning>⟧.is_next self.old.core handler e → ListsWork P.Lat.Event.cmp (⟦<P as Meaning>⟧.machine J.program) self.old (Hand handler e) self.new result }
+        // No task has acted.
+        ensures own { HasNoOwn result }
         // A board that is over stays as it is.
         ensures over { is_over result ≡ true → IsSome self.new.over }
         ensures done { IsSome self.old.over → (result ≡ Acted.Over) × (self.new ≡ self.old) }

@@ -29,7 +29,7 @@ pub returns-in-Error : goal.returns-in-Error
 returns-in-Error g c =
     let step = failed g (goal.at.returns-in-Error g c).In-Error in
     let written = c.in-Ok.ensures.written ∙ ap (λ b. b.trace ++ entry_of c.args.worker (Act c.args.asked.task) ∷ []) c.self.view_is in
-    act_gone _ c.requires.running written (error_done _ _ _ _ _ step) (error_listed _ _ _ _ _ step _ c.args.self.now _ (seen_core c.self.view_is) refl (sym (seen_parked c.self.view_is)) _ c.none.ensures)
+    act_gone _ c.requires.running written (error_done _ _ _ _ _ step) (error_listed _ _ _ _ _ step _ c.args.self.now _ (seen_core c.self.view_is) refl (sym (seen_parked c.self.view_is)) _ c.none.ensures.list) c.none.ensures.own
 
 -- a step that gave none, and how many handlers it added at most
 made : (g : _) (c : After-left_by-left g) → IsMade (machine_of g.P.Lat.PartialEq.eq g.P.Lat.Event.PartialEq.eq g.P.Lat.Event.Ord.cmp g.P.Lat.Lattice.least g.P.Lat.Lattice.joined g.P.Lat.Lattice.events_of g.P.Lat.Reads.answer_of (g.P.Program.functions g.J.Named.program)) g.P.Lat.Event.Ord.cmp c.self.inside.core (Act c.args.asked.task) c.step_with_room.new.core c.in-Ok.logged c.step_with_room.new.room.concerned.items c.left_by-left.result.added c.in-Ok.moved
@@ -83,3 +83,4 @@ returns-in-Done g c =
     (λ goes done. not_done ok k (own ∙ goes) (subst (λ z. IsDone M z c.args.asked.task) c.settle.ensures.core done))
     (λ ends. subst (λ z. IsDone M z c.args.asked.task) (sym c.settle.ensures.core) (is_done ok k (own ∙ ends)))
     (is_listed (c.waiting_tasks.ensures.until_touched g.J.Named.program) k (c.passes_at_its_spot.ensures g.J.Named.program) c.self.invariant.1.blocked c.leave-works.ensures.left (act_tickets c.args.asked.task c.in-Ok.moved c.left_by-left.result.own c.left_by-left.result.made c.left_by-left.ensures.own c.left_by-left.ensures.made) c.args.self.now c.settle.new.self (seen_core c.self.view_is) (seen_parked c.self.view_is) c.settle.ensures.core c.settle.ensures.parked)
+    (ap is_some c.leave-works.ensures.own ∙ sym c.is_some-goes_on.ensures)

@@ -43,3 +43,4 @@ returns g c =
     let written = c.settle.ensures.trace ∙ c.in-Ok-hand_with_room.ensures.written ∙ ap (λ e. c.self.inside.trace.items ++ e ∷ []) c.in-Ok.ensures ∙ ap (λ b. b.trace ++ entry_of c.args.worker (Hand c.args.handler c.args.event) ∷ []) c.self.view_is in
     hand_next c.leave-works.result c.args.event one c.requires.running written
     (is_listed (c.waiting_tasks.ensures.until_touched g.J.Named.program) k (c.passes_at_its_spot.ensures g.J.Named.program) c.self.invariant.1.blocked c.leave-works.ensures.left (hand_tickets c.args.handler c.args.event c.in-Ok-hand_with_room.moved c.ticket_of.result c.ticket_of.ensures) c.args.self.now c.settle.new.self (seen_core c.self.view_is) (seen_parked c.self.view_is) c.settle.ensures.core c.settle.ensures.parked)
+    c.leave-works.ensures.own
