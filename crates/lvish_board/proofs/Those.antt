@@ -1,6 +1,7 @@
 -- Those elements of a list that something holds of, and lists that are filled with them.
-use Rattle.std.proofs.Common.{◌≡◌, ◌↔◌, inl, inr, true, false, List, [], ◌∷◌, ◌++◌, Ordering, Option, Some, None, is_some, MatchOption, refl, sym, ap, subst, ◌∙◌, append_assoc, append-nil, Less}
+use Rattle.std.proofs.Common.{◌≡◌, ◌↔◌, inl, inr, true, false, List, [], ◌∷◌, ◌++◌, Ordering, Option, Some, None, is_some, MatchOption, sym, ap, subst, ◌∙◌, append_assoc, append-nil, reverse, Less}
 use Rattle.std.specs.List.{AllByRecursion}
+use Rattle.std.proofs.lemmas.List.{reverse-append}
 use Rattle.std.specs.List.Sorted.{IsStrictlySortedBy}
 use Rattle.lvish_calculus.specs.Handing.{IsAmong}
 use Rattle.lvish_core.specs.laws.Lists.{all_always}
@@ -58,20 +59,28 @@ unfolding IsStrictlySortedBy
 one_sorted cmp x = (tt, tt)
 
 module _ {X : Type 0} (Has : X → Type 0) (all : List X) where
-  -- so far these, with those on the left to come
-  pub record IsListing (left those : List X) : Type 0 where
-    pub rest : (ys : List X) → AreThose Has left ys → AreThose Has all (those ++ ys)
+  -- the elements after those on the left were looked at, from the last one on, and these are on the list
+  pub record IsListing (left list : List X) : Type 0 where
+    pub seen : List X
+    pub is : left ++ seen ≡ all
+    pub those : AreThose Has seen (reverse list)
 
-  pub list_begun : (left those : List X) → left ≡ all → those ≡ [] → IsListing left those
-  list_begun left those e none = record { rest = λ ys z. subst (λ xs. AreThose Has all (xs ++ ys)) (sym none) (subst (λ xs. AreThose Has xs ys) e z) }
+  pub list_begun : (list : List X) → list ≡ [] → IsListing all list
+  list_begun list none = record { seen = []; is = append-nil all; those = ap (λ xs. reverse xs) none }
 
-  pub list_more : (x : X) (left those after : List X) → IsListing (x ∷ left) those → Has x → after ≡ those ++ x ∷ [] → IsListing left after
-  list_more x left those after k has e = record {
-    rest = λ ys z. subst (λ xs. AreThose Has all xs) (sym (ap (λ xs. xs ++ ys) e ∙ append_assoc those (x ∷ []) ys)) (k.rest (x ∷ ys) (inl (ys, refl, has, z)));
+  pub list_more : (x : X) (before left list after : List X) → before ≡ left ++ x ∷ [] → IsListing before list → Has x → after ≡ list ++ x ∷ [] → IsListing left after
+  list_more x before left list after e k has more = record {
+    seen = x ∷ k.seen;
+    is = sym (append_assoc left (x ∷ []) k.seen) ∙ ap (λ xs. xs ++ k.seen) (sym e) ∙ k.is;
+    those = inl (reverse list, ap (λ xs. reverse xs) more ∙ reverse-append list (x ∷ []), has, k.those);
   }
 
-  pub list_passed : (x : X) (left those : List X) → IsListing (x ∷ left) those → (Has x → ⊥) → IsListing left those
-  list_passed x left those k none = record { rest = λ ys z. k.rest ys (inr (none, z)) }
+  pub list_passed : (x : X) (before left list : List X) → before ≡ left ++ x ∷ [] → IsListing before list → (Has x → ⊥) → IsListing left list
+  list_passed x before left list e k none = record {
+    seen = x ∷ k.seen;
+    is = sym (append_assoc left (x ∷ []) k.seen) ∙ ap (λ xs. xs ++ k.seen) (sym e) ∙ k.is;
+    those = inr (none, k.those);
+  }
 
-  pub list_ended : (left those : List X) → left ≡ [] → IsListing left those → AreThose Has all those
-  list_ended left those none k = subst (λ xs. AreThose Has all xs) (append-nil those) (k.rest [] (subst (λ xs. AreThose Has xs []) (sym none) refl))
+  pub list_ended : (left list after : List X) → left ≡ [] → IsListing left list → after ≡ reverse list → AreThose Has all after
+  list_ended left list after none k e = subst (λ ys. AreThose Has all ys) (sym e) (subst (λ xs. AreThose Has xs (reverse list)) (sym (ap (λ xs. xs ++ k.seen) none) ∙ k.is) k.those)

@@ -103,8 +103,7 @@ pub(crate) fn leave<P: Program, J: Named<P>>(
     parked.wake(core, entries, &mut room.woken);
     let OwnWork { own, made, added } = left;
     keep_candidates(entries, &mut room.concerned, added);
-    let concerned = given(alloc, &mut room.concerned);
-    list_hands(core, &mut room.hands, concerned);
+    list_hands(core, &mut room.concerned, &mut room.hands);
     let woken = given(alloc, &mut room.woken);
     let hands = given(alloc, &mut room.hands);
     Works {
@@ -134,19 +133,21 @@ fn keep_candidates<E: Drop>(
     }
 }
 
-/// Lists those of the handlers with something left for them, on the empty list.
+/// Lists those of the handlers with something left for them, on the empty list, and empties the other.
 fn list_hands<P: Program>(
     core: &Core<'_, P>,
+    concerned: &mut Vec<HandlerName<<P::Lat as Lattice>::Event>>,
     list: &mut Vec<HandlerName<<P::Lat as Lattice>::Event>>,
-    concerned: Vec<HandlerName<<P::Lat as Lattice>::Event>>,
 )
     requires empty { list.old.items ≡ [] }
-    requires room { vec_len concerned ≤ vec_capacity list.old }
-    ensures { AreThose (λ h. HasNext (⟦<P as Meaning>⟧.machine core.now.program) core.now h) concerned.items list.new.items }
+    requires room { vec_len concerned.old ≤ vec_capacity list.old }
+    ensures { AreThose (λ h. HasNext (⟦<P as Meaning>⟧.machine core.now.program) core.now h) concerned.old.items list.new.items }
 {
-    for handler in concerned {
+    // from the last one on, so that none is moved but out
+    while let Some(handler) = concerned.pop() {
         if core.next(&handler).is_some() {
             list.push_reserved(handler);
         }
     }
+    list.reverse();
 }

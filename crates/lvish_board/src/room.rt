@@ -106,6 +106,9 @@ pub(crate) fn given<T: Drop>(alloc: Global, buffer: &mut Vec<T>) -> Vec<T>
     ensures { result.items ≡ buffer.old.items }
 {
     let mut items = Vec::new(alloc);
+    if buffer.is_empty() {
+        return items;
+    }
     match items.append(buffer) {
         Ok(()) => items,
         Err(_refused) => mem::replace(buffer, Vec::new(alloc)),

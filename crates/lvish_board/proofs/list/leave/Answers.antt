@@ -12,7 +12,7 @@ pub returns-clause-left : goal.returns-clause-left
 returns-clause-left g c =
     let machine = λ (p : g.row.P.Denot). machine_of g.P.Lat.PartialEq.eq g.P.Lat.Event.PartialEq.eq g.P.Lat.Event.Ord.cmp g.P.Lat.Lattice.least g.P.Lat.Lattice.joined g.P.Lat.Lattice.events_of g.P.Lat.Reads.answer_of (g.P.Program.functions p) in
     let M = machine c.args.core.now.program in
-    let concerned = c.given-concerned.ensures ∙ c.keep_candidates.ensures.are ∙ ap (λ es. candidates es c.args.room.now.concerned.items c.args.left.added) c.fresh-entries.ensures in
+    let concerned = c.keep_candidates.ensures.are ∙ ap (λ es. candidates es c.args.room.now.concerned.items c.args.left.added) c.fresh-entries.ensures in
     let tickets = stretches (option_list c.args.left.own ++ option_list c.args.left.made) in
     own_left machine g.J.Named.program c.args.core.now c.requires.program g.P.Lat.Event.Ord.cmp g.P.Lat.Reads.spot_of g.P.Lat.Reads.watched c.args.logged c.args.left.own c.args.left.made c.args.left.added c.args.room.now.concerned.items c.args.parked.now c.wake.new.self _ (record {
       woken = c.wake.new.woken.items;
