@@ -1,5 +1,5 @@
 -- All that a board says of its answer, for each answer, over any machine.
-use Rattle.std.proofs.Common.{◌≡◌, ◌++◌, ◌∷◌, [], Bool, true, false, ℕ, Ordering, Option, None, Some, is_some, IsSome, refl, sym, ap, subst, ◌∙◌}
+use Rattle.std.proofs.Common.{◌≡◌, ◌++◌, ◌∷◌, [], Bool, true, false, ℕ, Ordering, Option, None, is_some, IsSome, refl, sym, ap, subst, ◌∙◌}
 use Rattle.std.proofs.lemmas.Bool.{false≢true, true≢false}
 use Rattle.lvish_board.specs.Vocabulary.{Act, Hand, Acted, Over, Stale, Parked, Next, Gone, Works}
 use Rattle.lvish_calculus.specs.Machine.{Machine}
@@ -8,14 +8,11 @@ use Rattle.lvish_board.specs.Acts.{ComesOfAct, IsDone, ComesOfHand, entry_of}
 use Rattle.lvish_board.specs.Listed.{IsListed, works_of}
 use Rattle.lvish_board.specs.Place.{TaskPlace}
 use Rattle.lvish_board.specs.Standing.{Standing}
+use Rattle.lvish_board.proofs.Steps.{none_is}
 
 -- what isn't over is over in no way
 pub not_over : {X Y : Type 0} (o : Option X) → o ≡ None → IsSome o → Y
 not_over o none some = absurd (false≢true (subst (λ z. IsSome z) none some))
-
-none_is : {X : Type 0} (o : Option X) → is_some o ≡ false → o ≡ None
-none_is None e = refl
-none_is (Some x) e = absurd cc
 
 module _ {P S E R Ans L P1 J1 A1 W : Type 0} {cmp : E → E → Ordering} {M : Machine S E R Ans L} {Stands Can : Type 0} {worker : ℕ} {asked : TaskPlace E L} {old new : Standing P S E L} where
   -- the board is over

@@ -62,11 +62,11 @@ impl<'p, P: Program, J: Named<P>> Board<'p, P, J> {
         if self.over.is_some() {
             return Acted::Over;
         }
-        if !self.holds(&handler) {
-            return Acted::Stale;
-        }
         let Some(event) = self.next(&handler) else {
-            return Acted::Parked;
+            if self.holds(&handler) {
+                return Acted::Parked;
+            }
+            return Acted::Stale;
         };
         if self.trace.len() as u64 >= self.budget {
             self.over = Some(Outcome::Budget);

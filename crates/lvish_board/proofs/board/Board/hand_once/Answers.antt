@@ -18,15 +18,15 @@ invariant_of-self g c =
 pub returns-then-is_some : goal.returns-then-is_some
 returns-then-is_some g c = hand_over refl refl refl (rw (← c.self.view_is) (sym c.is_some.ensures ∙ c.if-is_some.true)) (λ _. refl)
 
-pub returns-then-not-holds : goal.returns-then-not-holds
-returns-then-not-holds g c =
+pub returns-then-holds : goal.returns-then-holds
+returns-then-holds g c =
     let none : c.args.self.now.over ≡ None = rw (← c.self.view_is) (none_is c.self.inside.over (sym c.is_some.ensures ∙ c.if-is_some.false)) in
-    hand_stale refl none (λ s. true≢false (sym (c.holds.ensures.1 s) ∙ c.if-not-holds.true))
+    hand_drained refl none c.in_default.ensures
 
 pub returns-in_default : goal.returns-in_default
 returns-in_default g c =
     let none : c.args.self.now.over ≡ None = rw (← c.self.view_is) (none_is c.self.inside.over (sym c.is_some.ensures ∙ c.if-is_some.false)) in
-    hand_drained refl none c.in_default.ensures
+    hand_stale refl none (λ s. true≢false (sym (c.holds.ensures.1 s) ∙ c.if-holds.false))
 
 pub returns-then-len-self : goal.returns-then-len-self
 returns-then-len-self g c =
