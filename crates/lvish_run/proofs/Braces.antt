@@ -1,5 +1,5 @@
 -- Pieces in braces, written one after the other.
-use Rattle.std.proofs.Common.{◌≡◌, ℕ, Bool, true, false, codes, List, [], ◌∷◌, ◌++◌, append-nil, append_assoc, flat_map, map, refl, sym, ap, ◌∙◌}
+use Rattle.std.proofs.Common.{◌≡◌, ℕ, Bool, true, false, codes, List, [], ◌∷◌, ◌++◌, append_assoc, flat_map, map, refl, sym, ap, ◌∙◌}
 use Rattle.std.specs.List.{join_by}
 use Rattle.std.proofs.lemmas.List.Folds.{flat_map-map}
 use Rattle.lvish_run.specs.StateText.{braced, gap}
