@@ -143,7 +143,7 @@ fn list_hands<P: Program>(
     requires room { vec_len concerned.old ≤ vec_capacity list.old }
     ensures { AreThose (λ h. HasNext (⟦<P as Meaning>⟧.machine core.now.program) core.now h) concerned.old.items list.new.items }
 {
-    // from the last one on, so that none is moved but out
+    // (from the back, since what is taken out there moves no other)
     while let Some(handler) = concerned.pop() {
         if core.next(&handler).is_some() {
             list.push_reserved(handler);
