@@ -1,13 +1,15 @@
 -- What a call on entries means for the map.
-use Rattle.std.proofs.Common.{◌≡◌, Bool, true, false, not, ◌&&◌, MatchOption, List, [], ◌∷◌, map, Option, Some, None, Result, Ok, Err, IfOk, IfErr, is_some, unwrap_or, option_and_then, refl, sym, ◌∙◌, ap, subst}
+use Rattle.std.proofs.Common.{◌≡◌, Bool, true, false, not, ◌&&◌, MatchOption, List, [], ◌∷◌, map, Option, Some, None, Result, Ok, Err, IfOk, IfErr, is_some, unwrap_or, option_and_then, refl, sym, ◌∙◌, ap, subst, true≢false}
 use Rattle.std.proofs.lemmas.Result.{IfErr-weaker, IfOk-weaker}
 use Rattle.std.specs.Cmp.{IsTotalOrder, both_tied}
 use Rattle.std.specs.Ordering.{eq_by_cmp, is_eq}
 use Rattle.lvish_compound.specs.Vocabulary.{Ordering, Equal, OrdGhosts, PartialEqGhosts, PartialOrdGhosts, HashGhosts, LatticeGhosts}
 use Rattle.std.specs.List.Sorted.{IsStrictlySortedBy}
+use Rattle.std.proofs.lemmas.List.{append-nil}
+use Rattle.lvish_lattice.specs.Listed.{unless_some}
 use Rattle.lvish_lattice.specs.Lattice.{IsIdentity, IsJoin, HasEvents, fresh_of, events_beyond}
-use Rattle.lvish_compound.specs.Keyed.{key, has_no, add, add_all, events_by}
-use Rattle.lvish_compound.specs.laws.KeyedLaws.{add_rises, add_above}
+use Rattle.lvish_compound.specs.Keyed.{key, has_no, add, add_all, of_key, events_by}
+use Rattle.lvish_compound.specs.laws.KeyedLaws.{add_rises, add_above, add_there}
 use Rattle.lvish_compound.specs.MapOf.{MapOf, same_map, map_of, map_of-entries, joined, at, map_events_of}
 use Rattle.lvish_compound.specs.laws.MapLaws.{with_entries, joins_places}
 use Rattle.lvish_compound.proofs.Brought.{brought}
@@ -82,3 +84,18 @@ module _ {K L E : Type 0} {ko : OrdGhosts K} {ke : PartialEqGhosts K} {kp : Part
             ∙ sym (brought eo.cmp oc same_event j h ko.cmp o same_key a.entries b.entries w.0.entries a.ascending b.ascending w.0.ascending (joins_places o same_key j itself same a b w.0 w.2))
             ∙ ap (λ (t : K × E → K × E → Bool). events_beyond t map_events_of a (Some w.0)) (λ i x y. sym (both_tied (keq x.0 y.0) (eeq x.1 y.1) (ko.cmp x.0 y.0) (eo.cmp x.1 y.1) (kt x.0 y.0) (et x.1 y.1)) i)
             ∙ sym (ap (events_beyond (λ (x y : K × E). keq x.0 y.0 && eeq x.1 y.1) map_events_of a) w.2)
+
+    -- where the put has one key, what its part brings there
+    pub fresh_one : (a b : MapOf K L E ko ke kp l le eo ee ep eh) (k : K) (x p : L) → b.entries ≡ (k, p) ∷ [] → x ≡ at a k → of_key k (fresh_of l.joined eeq l.events_of x p) ≡ fresh_of joined (λ (x y : K × E). keq x.0 y.0 && eeq x.1 y.1) map_events_of a b
+    fresh_one a b k x p one e = map_fresh a b (of_key k (fresh_of l.joined eeq l.events_of x p)) (by_add (add_all ko.cmp l.least l.joined a.entries b.entries) refl)
+      where
+        here : of_key k (fresh_of l.joined eeq l.events_of x p) ≡ of_key k (fresh_of l.joined eeq l.events_of (at a k) p)
+        here = ap (λ y. of_key k (fresh_of l.joined eeq l.events_of y p)) e
+
+        by_add : (r : Option (List (K × L))) → add_all ko.cmp l.least l.joined a.entries b.entries ≡ r → MatchOption r (of_key k (fresh_of l.joined eeq l.events_of x p) ≡ []) (λ _. of_key k (fresh_of l.joined eeq l.events_of x p) ≡ events_by (λ k p. fresh_of l.joined eeq l.events_of (at a k) p) b.entries)
+        by_add None is =
+            let top : l.joined (at a k) p ≡ None = unless_some (l.joined (at a k) p) (λ w joins.
+            let m : (gs : List (K × L)) × (add ko.cmp l.least l.joined k p a.entries ≡ Some gs) = add_there ko.cmp l.least l.joined o j k p a.entries w joins in
+            true≢false (ap is_some (sym m.1 ∙ sym (one_added a b k p one) ∙ is))) in
+            here ∙ ap (λ r. of_key k (events_beyond eeq l.events_of (at a k) r)) top
+        by_add (Some gs) is = here ∙ sym (append-nil (of_key k (fresh_of l.joined eeq l.events_of (at a k) p))) ∙ ap (events_by (λ k p. fresh_of l.joined eeq l.events_of (at a k) p)) (sym one)

@@ -1,5 +1,5 @@
 -- What comparing, merging and fresh events are on parts.
-use Rattle.std.proofs.Common.{◌≡◌, ◌↔◌, ℤ, Bool, true, false, not, IsTrue, List, [], filter, refl, sym, ◌∙◌, ap}
+use Rattle.std.proofs.Common.{◌≡◌, ◌↔◌, ℤ, pos, Bool, true, false, not, IsTrue, List, [], ◌∷◌, map, filter, refl, sym, ◌∙◌, ap}
 use Rattle.std.specs.Set.{is_member}
 use Rattle.std.specs.Ordering.{int_eq}
 use Rattle.std.proofs.lemmas.Cmp.{int_eq_equiv}
@@ -7,6 +7,8 @@ use Rattle.lvish_lattice.specs.Lattice.{IsAtOrBelow, fresh_of}
 use Rattle.lvish_compound.specs.Vocabulary.{MaxCounter, Part, Empty, Set, Max, SideOf, One, Two}
 use Rattle.lvish_lattice.specs.GrowSet as set
 use Rattle.lvish_lattice.specs.MaxCounter as max
+use Rattle.lvish_compound.specs.declared.kind.Kind.TheVariants as kind
+use Rattle.lvish_compound.specs.EventNames.{part_event, number_event}
 use Rattle.lvish_compound.specs.Held.{HeldState, held, held_agrees}
 use Rattle.lvish_compound.proofs.Carried.{carried_leq, carried_fresh, held_carried, none_beyond, all_beyond}
 use Rattle.lvish_compound.specs.Parts.{joined, events_of, set_in, max_in}
@@ -20,6 +22,16 @@ sets_leq = carried_leq (held_carried Set Empty joined (λ x z. refl)) set_in (in
 
 pub maxes_leq : (t : Bool) (s r : Part) (x z : _) (p q : MaxCounter) → s ≡ Max x → r ≡ Max z → p ≡ x.state → q ≡ z.state → IsTrue t ↔ IsAtOrBelow max.joined p q → IsTrue t ↔ IsAtOrBelow joined s r
 maxes_leq = carried_leq (held_carried Max Empty joined (λ x z. refl)) max_in (inside OfMax)
+
+-- the numbers of a set, named as events of a part
+pub set_names : (xs : List ℤ) → map (number_event kind.Set) xs ≡ map (part_event (pos 0)) (sides [] (sides xs []))
+set_names [] = refl
+set_names (x ∷ xs) = ap (λ l. number_event kind.Set x ∷ l) (set_names xs)
+
+-- the numbers of a counter, named as events of a part
+pub max_names : (xs : List ℤ) → map (number_event kind.Max) xs ≡ map (part_event (pos 0)) (sides [] (sides [] xs))
+max_names [] = refl
+max_names (x ∷ xs) = ap (λ l. number_event kind.Max x ∷ l) (max_names xs)
 
 -- a test of events by their kinds
 pub record IsByKind (eq : SideOf ℤ (SideOf ℤ ℤ) → SideOf ℤ (SideOf ℤ ℤ) → Bool) : Type 0 where

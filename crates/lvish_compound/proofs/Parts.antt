@@ -3,10 +3,11 @@ use Rattle.std.proofs.Common.{◌≡◌, ◌↔◌, ℕ, ◌<◌, length, slice_
 use Rattle.std.proofs.lemmas.Map.{lookup-none}
 use Rattle.std.proofs.lemmas.Result.{IfErr-weaker, IfOk-weaker}
 use Rattle.std.proofs.lemmas.Map.Entries.{none_below_head}
+use Rattle.std.specs.Option.{UnwrapsOrElse}
 use Rattle.std.specs.Map.{lookup, set_value}
 use Rattle.std.specs.BTreeMap.{is_at, insert_entry}
 use Rattle.lvish_compound.specs.Vocabulary.{Ordering, Less, Equal, Greater}
-use Rattle.std.specs.Ordering.{eq_by_cmp, is_eq, is_lt, ordering_reverse, match_ordering}
+use Rattle.std.specs.Ordering.{eq_by_cmp, is_eq, ordering_reverse, match_ordering}
 use Rattle.std.specs.Cmp.{IsTotalOrder, Equal-is}
 use Rattle.std.specs.List.{AllByRecursion}
 use Rattle.std.specs.List.Sorted.{IsStrictlySortedBy}
@@ -19,6 +20,11 @@ use Rattle.lvish_compound.specs.laws.KeyedLaws.{at_below, at_first, all_joins, a
 use Rattle.lvish_compound.specs.laws.Embedded.{map_twice}
 use Rattle.lvish_compound.specs.laws.Pointwise.{right_unit}
 
+-- what was made where there was none
+pub made_for_none : {T : Type 0} (o : Option T) (P : T → Type 0) (x : T) → o ≡ None → UnwrapsOrElse o P x → P x
+made_for_none None P x e h = h
+made_for_none (Some y) P x e h = absurd (cc e)
+
 -- the only entry, read as the first
 pub only_by : {A K L : Type 0} (shows : A → K × L) (es : List (K × L)) (n : ℕ) (r : Option A) → n ≡ length es → n ≡ 1 → (IsSome r ↔ (0 < length es)) → IfSome r (λ p. slice_get es 0 ≡ Some (shows p))
     → MatchOption r (length es ≡ 1 → ⊥) (λ p. es ≡ shows p ∷ [])
@@ -30,10 +36,6 @@ only_by shows (x ∷ y ∷ es) n (Some p) e one has first = absurd (omega arith)
 module _ {K L : Type 0} (R : K → K → Ordering) where
   abbrev S : List (K × L) → Type 0
   S es = IsStrictlySortedBy R (map key es)
-
-  -- no entry has a key that is above the greatest
-  pub past_last : (k last : K) (es : List (K × L)) → R last k ≡ Less → (IsSome (lookup (is_at (R k)) es) → is_lt (R last k) ≡ false) → lookup (is_at (R k)) es ≡ None
-  past_last k last es r h = unless_some (lookup (is_at (R k)) es) (λ x e. true≢false (sym (ap is_lt r) ∙ h (ap is_some e)))
 
   set_same : (k : K) (x : L) (es : List (K × L)) → lookup (is_at (R k)) es ≡ Some x → set_value (is_at (R k)) es x ≡ es
   set_same k x [] h = refl
@@ -77,12 +79,6 @@ module _ {K L : Type 0} (R : K → K → Ordering) (least : L) (join : L → L �
         | Greater ↦ λ h. ap (option_map (λ fs. e ∷ fs)) (add_new k v es h)
       ] h
 
-  -- a part at a key that holds none
-  pub put_new : {Refused : Type 0} (k : K) (v : L) (es fs : List (K × L)) (q : Result Bool Refused) → lookup (is_at (R k)) es ≡ None → IfOk q (λ b. (b ≡ true) × (fs ≡ insert_entry R es k v))
-      → IfOk q (λ b. (b ≡ is_some (add R least join k v es)) × (fs ≡ unwrap_or (add R least join k v es) es))
-  put_new k v es fs q h put = let there : add R least join k v es ≡ Some (insert_entry R es k v) = add_new k v es h in
-      IfOk-weaker q _ _ (λ b p. (p.0 ∙ ap is_some (sym there), p.1 ∙ ap (λ a. unwrap_or a es) (sym there))) put
-
   module _ (o : IsTotalOrder R) where
     add_found : (k : K) (v x : L) (es : List (K × L)) → S R es → lookup (is_at (R k)) es ≡ Some x → add R least join k v es ≡ option_map (λ w. set_value (is_at (R k)) es w) (join x v)
     unfolding IsStrictlySortedBy
@@ -94,6 +90,16 @@ module _ {K L : Type 0} (R : K → K → Ordering) (least : L) (join : L → L �
           | Greater ↦ λ r h. ap (option_map (λ fs. e ∷ fs)) (add_found k v x es s.1 h) ∙ map_twice (λ w. set_value (is_at (R k)) es w) (λ fs. e ∷ fs) (join x v)
         ] refl h
 
+    -- an entry that is there gets another part where it stands
+    insert_found : (k : K) (x w : L) (es : List (K × L)) → S R es → lookup (is_at (R k)) es ≡ Some x → insert_entry R es k w ≡ set_value (is_at (R k)) es w
+    unfolding IsStrictlySortedBy
+    insert_found k x w [] s h = absurd (cc h)
+    insert_found k x w (e ∷ es) s h = elim (R k e.0) as (λ r. R k e.0 ≡ r → cond (is_eq r) (Some e.1) (lookup (is_at (R k)) es) ≡ Some x → match_ordering r ((k, w) ∷ e ∷ es) ((e.0, w) ∷ es) (e ∷ insert_entry R es k w) ≡ cond (is_eq r) ((e.0, w) ∷ es) (e ∷ set_value (is_at (R k)) es w)) [
+      | Less ↦ λ r h. absurd (cc (sym (lookup-none (is_at (R k)) es (none_below_head o k e es s r).1) ∙ h))
+      | Equal ↦ λ r h. refl
+      | Greater ↦ λ r h. ap (λ fs. e ∷ fs) (insert_found k x w es s.1 h)
+    ] refl h
+
     -- a part that is joined where it stands, unless the join is top
     put_found : (k : K) (v x w : L) (es fs : List (K × L)) (b : Bool) → S R es → lookup (is_at (R k)) es ≡ Some x → fs ≡ set_value (is_at (R k)) es w → b ≡ is_some (join x v) → w ≡ unwrap_or (join x v) x
         → (b ≡ is_some (add R least join k v es)) × (fs ≡ unwrap_or (add R least join k v es) es)
@@ -104,12 +110,26 @@ module _ {K L : Type 0} (R : K → K → Ordering) (least : L) (join : L → L �
           | Some u ↦ λ is new. (is, new)
         ] is (new ∙ ap (set_value (is_at (R k)) es) part))
 
-    pub put_by : {Refused : Type 0} (k : K) (v x w : L) (es fs : List (K × L)) (q : Result Bool Refused) → S R es → lookup (is_at (R k)) es ≡ Some x → fs ≡ set_value (is_at (R k)) es w
+    put_by : {Refused : Type 0} (k : K) (v x w : L) (es fs : List (K × L)) (q : Result Bool Refused) → S R es → lookup (is_at (R k)) es ≡ Some x → fs ≡ set_value (is_at (R k)) es w
         → IfOk q (λ b. (b ≡ is_some (join x v)) × (w ≡ unwrap_or (join x v) x)) → IfOk q (λ b. (b ≡ is_some (add R least join k v es)) × (fs ≡ unwrap_or (add R least join k v es) es))
     put_by k v x w es fs q s h new m = IfOk-weaker q _ _ (λ b p. put_found k v x w es fs b s h new p.0 p.1) m
 
-    pub kept_by : {Refused : Type 0} (k : K) (x w : L) (es fs : List (K × L)) (q : Result Bool Refused) → lookup (is_at (R k)) es ≡ Some x → fs ≡ set_value (is_at (R k)) es w → IfErr q (λ _. w ≡ x) → IfErr q (λ _. fs ≡ es)
+    kept_by : {Refused : Type 0} (k : K) (x w : L) (es fs : List (K × L)) (q : Result Bool Refused) → lookup (is_at (R k)) es ≡ Some x → fs ≡ set_value (is_at (R k)) es w → IfErr q (λ _. w ≡ x) → IfErr q (λ _. fs ≡ es)
     kept_by k x w es fs q h new m = IfErr-weaker q _ _ (λ _ p. new ∙ ap (set_value (is_at (R k)) es) p ∙ set_same R k x es h) m
+
+    -- the same of a part that is written at its key
+    module _ {Refused : Type 0} (k : K) (v x w : L) (es ns fs : List (K × L)) (q : Result Bool Refused) (s : S R es) (h : lookup (is_at (R k)) es ≡ Some x) (written : ns ≡ insert_entry R es k w) (new : fs ≡ ns) where
+      pub put_written : IfOk q (λ b. (b ≡ is_some (join x v)) × (w ≡ unwrap_or (join x v) x)) → IfOk q (λ b. (b ≡ is_some (add R least join k v es)) × (fs ≡ unwrap_or (add R least join k v es) es))
+      put_written = put_by k v x w es fs q s h (new ∙ written ∙ insert_found k x w es s h)
+
+      pub kept_written : IfErr q (λ _. w ≡ x) → IfErr q (λ _. fs ≡ es)
+      kept_written = kept_by k x w es fs q h (new ∙ written ∙ insert_found k x w es s h)
+
+  -- the same where the key held none
+  pub new_written : (k : K) (v w : L) (es ns fs : List (K × L)) → lookup (is_at (R k)) es ≡ None → ns ≡ insert_entry R es k w → w ≡ v → fs ≡ ns → (true ≡ is_some (add R least join k v es)) × (fs ≡ unwrap_or (add R least join k v es) es)
+  new_written k v w es ns fs h written is new =
+      let there : add R least join k v es ≡ Some (insert_entry R es k v) = add_new k v es h in
+      (ap is_some (sym there), new ∙ written ∙ ap (insert_entry R es k) is ∙ ap (λ a. unwrap_or a es) (sym there))
 
   -- one entry of the second list joined to the first
   pub joined_more : (all : Option (List (K × L))) (es fs xs ys : List (K × L)) (k : K) (p : L) (b : Bool) → add_all R least join es xs ≡ all → xs ≡ (k, p) ∷ ys → b ≡ true

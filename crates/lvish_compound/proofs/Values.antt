@@ -12,7 +12,7 @@ use Rattle.lvish_lattice.specs.MaxCounter.{level, level_within, number_of, zero 
 use Rattle.lvish_lattice.specs.laws.MaxCounterLaws.{same_counter}
 use Rattle.lvish_compound.specs.declared.part.Part as part
 use Rattle.lvish_compound.specs.Numbers.{max_of, max_by}
-use Rattle.lvish_compound.specs.Held.{HeldState, held, state_in, held_above}
+use Rattle.lvish_compound.specs.Held.{HeldState, is_bottom, held, state_in, held_above}
 use Rattle.lvish_compound.specs.MapOf as map_of
 use Rattle.lvish_compound.specs.MapReads.{holding}
 use Rattle.lvish_compound.specs.laws.PairLaws.{same_pair}
@@ -47,6 +47,10 @@ counter_is n c x e f = ap counter (sym e) ∙ ap (option_map (λ d. Part (held M
 
 abbrev one_entry : ℤ → ℤ → HeldState Map
 one_entry k v = holding k (Value v)
+
+-- a map of one entry isn't empty
+pub entry_rises : (m : HeldState Map) (k v : ℤ) → map_of.entries_of m ≡ map_of.entries_of (one_entry k v) → is_bottom Map m ≡ false
+entry_rises m k v h = ap (is_bottom Map) (map_of.same_map m (one_entry k v) h)
 
 -- the map of one entry
 pub entry_is : (m : HeldState Map) (k v l w : ℤ) → l ≡ k → w ≡ v → map_of.entries_of m ≡ map_of.entries_of (one_entry l w) → of_map m ≡ entry k v

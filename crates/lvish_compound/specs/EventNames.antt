@@ -1,6 +1,6 @@
 -- The events of a script's variables, named by key, kind and number.
 use Rattle.std.specs.Prelude.{ℤ, pos}
-use Rattle.lvish_compound.specs.Vocabulary.{Event, SideOf, One, Two, Ordering}
+use Rattle.lvish_compound.specs.Vocabulary.{Event, Kind, SideOf, One, Two, Ordering}
 use Rattle.lvish_compound.specs.declared.kind.Kind.TheVariants.{Cell, Set, Max, Map, Tally}
 use Rattle.std.specs.Ordering.{int_cmp, nat_cmp, ordering_then}
 use Rattle.lvish_compound.specs.Kinds.{rank}
@@ -13,6 +13,10 @@ abbrev pub part_event : ℤ → PartEvent → Event
 part_event k (One n) = record { key = k; kind = Cell; number = n }
 part_event k (Two (One n)) = record { key = k; kind = Set; number = n }
 part_event k (Two (Two n)) = record { key = k; kind = Max; number = n }
+
+-- an event of a set or a counter that is a variable of its own, and so has no key
+abbrev pub number_event : Kind → ℤ → Event
+number_event kind n = record { key = pos 0; kind = kind; number = n }
 
 -- a key of a map and its value
 abbrev pub entry_event : ℤ × ℤ → Event

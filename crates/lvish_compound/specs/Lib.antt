@@ -17,6 +17,7 @@ pub mod Refusals
 pub mod Sides
 pub mod StateReads
 pub mod States
+pub mod Stored
 pub mod Tally
 pub mod Vocabulary
 pub mod laws

@@ -5,7 +5,9 @@ ghost use Rattle.lvish_compound.specs.declared.amount_fault.AmountFault.TheVaria
 
 use crate::above::Above;
 use crate::amount_fault::AmountFault;
-use crate::any_events::{entry_events, part_events, side_events, tally_events};
+use crate::any_events::{
+    entry_events, fresh_in_map, fresh_in_part, part_events, side_events, tally_events,
+};
 use crate::event::Event;
 use crate::map_of::MapOf;
 use crate::pair::Pair;
@@ -81,8 +83,8 @@ impl Any {
     pub fn entry(alloc: Global, key: i64, value: i64) -> Result<Any, AllocError>
         ensures { IfOk result (λ s. s ≡ entry key value) }
     {
-        let map = MapOf::one(alloc, key, Flat::Value(value))?;
-        Ok(Any::of_map(alloc, map))
+        let map = MapOf::rising(alloc, key, Flat::Value(value));
+        Ok(Any::Map(Above::rising(map)))
     }
 
     /// The tally in which the key has the amount, where that is from 0 to `HIGHEST_LEVEL`; at 0 it is empty.
@@ -250,10 +252,8 @@ impl Lattice for Any {
 
     fn fresh(alloc: Global, old: &Any, put: &Any) -> Result<Vec<Event>, AllocError> {
         match (old, put) {
-            (Any::Part(a), Any::Part(b)) => part_events(alloc, &Part::fresh(alloc, a, b)?),
-            (Any::Map(a), Any::Map(b)) => {
-                entry_events(alloc, &MapOf::fresh(alloc, &a.state, &b.state)?)
-            }
+            (Any::Part(a), Any::Part(b)) => fresh_in_part(alloc, a, b),
+            (Any::Map(a), Any::Map(b)) => fresh_in_map(alloc, &a.state, &b.state),
             (Any::Sides(a), Any::Sides(b)) => {
                 side_events(alloc, &Pair::fresh(alloc, a.pair(), b.pair())?)
             }

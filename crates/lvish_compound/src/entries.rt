@@ -1,38 +1,75 @@
-ghost use Rattle.std.specs.Prelude.{◌≡◌, ◌∷◌, [], IfOk, IfErr, IsTrue, None, MatchOption, is_some, unwrap_or, true, false, map, length, ◌&&◌};
+ghost use Rattle.std.specs.Prelude.{◌≡◌, ◌∷◌, [], IfOk, IfErr, MatchOption, is_some, unwrap_or, true, false, map, length, ◌&&◌};
 ghost use Rattle.std.specs.Option.{option_copied};
-ghost use Rattle.std.specs.BTreeMap.{insert_entry, is_at};
-ghost use Rattle.std.specs.Map.{lookup};
+ghost use Rattle.std.specs.BTreeMap.{insert_entry};
 ghost use Rattle.std.specs.Cmp.Lexicographic.{pointwise};
 ghost use Rattle.std.specs.List.Sorted.{IsStrictlySortedBy};
 ghost use Rattle.lvish_compound.specs.Keyed.{key, has_no, add, at};
+ghost use Rattle.lvish_compound.specs.Stored.{few, entries};
 
+use crate::entry_iter::EntryIter;
+use crate::tree::Tree;
 use lvish_lattice::{Lattice, Plain};
 use std::alloc::{AllocError, Global};
-use std::cmp::Ordering;
-use std::collections::BTreeMap;
-use std::collections::btree_map::Iter;
 use std::marker::Model;
+
+/// At most one entry in place, as most puts have it, else a tree.
+#[derive(Debug)]
+pub(crate) enum Stored<K: Ord, L> {
+    Few(Option<(K, L)>),
+    Tree(Tree<K, L>),
+}
+
+// Written out, so that it is proved once, and not at each exit of a function that owns one.
+impl<K: Ord + Drop, L: Drop> Drop for Stored<K, L> {
+    fn drop(self) {
+        match self {
+            Stored::Few(_) => {}
+            Stored::Tree(_) => {}
+        }
+    }
+}
 
 /// Keys with their parts, seen as the list of entries in the order of the keys.
 #[derive(Debug)]
 pub struct Entries<K: Ord, L> {
-    parts: BTreeMap<K, L>,
+    stored: Stored<K, L>,
     alloc: Global,
 }
 
 // Written out, so that it is proved once, and not at each exit of a function that owns one.
 impl<K: Ord + Drop, L: Drop> Drop for Entries<K, L> {
     fn drop(self) {
-        let Entries { parts: _, alloc: _ } = self;
+        let Entries {
+            stored: _,
+            alloc: _,
+        } = self;
     }
 }
 
 impl<K: Ord, L> Model for Entries<K, L> {
     ghost use Rattle.std.specs.Prelude.{List};
+    ghost use Rattle.lvish_compound.specs.Stored.{entries};
 
     ghost Value = { List (K × L) };
 
-    ghost view = { λ s. s.parts.entries };
+    ghost view = { λ s. entries s.stored };
+}
+
+/// At most one entry, into which a copy of another was put.
+fn grown<K: Plain, L: Lattice>(
+    alloc: Global,
+    held: &Option<(K, L)>,
+    of: K,
+    part: &L,
+) -> Result<Stored<K, L>, AllocError>
+    ensures { IfOk result (λ s. entries s ≡ insert_entry K.cmp (few held.now) of part.now) }
+{
+    let part = part.copy(alloc)?;
+    let Some((key, held)) = held else {
+        return Ok(Stored::Few(Some((of, part))));
+    };
+    let first = (*key, held.copy(alloc)?);
+    Ok(Stored::Tree(Tree::of_two(alloc, first, (of, part))?))
 }
 
 impl<K: Ord, L> Entries<K, L> {
@@ -40,17 +77,31 @@ impl<K: Ord, L> Entries<K, L> {
         ensures { result ≡ [] }
     {
         Entries {
-            parts: BTreeMap::new(alloc),
+            stored: Stored::Few(None),
+            alloc,
+        }
+    }
+
+    /// One entry.
+    pub fn one(alloc: Global, key: K, part: L) -> Entries<K, L>
+        ensures { result ≡ (key, part) ∷ [] }
+    {
+        Entries {
+            stored: Stored::Few(Some((key, part))),
             alloc,
         }
     }
 
     /// The entries in the order of their keys.
-    pub fn iter(&self) -> Iter<'_, K, L>
+    pub fn iter(&self) -> EntryIter<'_, K, L>
         ensures same { result ≡ self.now }
         ensures ascending { IsStrictlySortedBy K.cmp (map key self.now) }
     {
-        self.parts.iter()
+        match &self.stored {
+            Stored::Few(None) => EntryIter::of_few(None),
+            Stored::Few(Some((key, part))) => EntryIter::of_few(Some((key, part))),
+            Stored::Tree(tree) => EntryIter::of_tree(tree.iter()),
+        }
     }
 
     pub fn alloc(&self) -> Global {
@@ -61,35 +112,11 @@ impl<K: Ord, L> Entries<K, L> {
     pub fn only(&self) -> Option<(&K, &L)>
         ensures { MatchOption result (length self.now ≡ 1 → ⊥) (λ e. self.now ≡ (e.0.now, e.1.now) ∷ []) }
     {
-        if self.parts.len() != 1 {
-            return None;
+        match &self.stored {
+            Stored::Few(None) => None,
+            Stored::Few(Some((key, part))) => Some((key, part)),
+            Stored::Tree(tree) => tree.only(),
         }
-        self.parts.first_key_value()
-    }
-
-    /// Whether the key is above the greatest one there.
-    fn is_past_last(&self, of: &K) -> bool
-        ensures { IsTrue result → lookup (is_at (K.cmp of.now)) self.now ≡ None }
-    {
-        let Some((last, _part)) = self.parts.last_key_value() else {
-            return false;
-        };
-        if let Ordering::Less = last.cmp(of) {
-            return true;
-        }
-        false
-    }
-
-    /// Puts an entry in its place.
-    pub fn insert(&mut self, key: K, part: L) -> Result<(), AllocError>
-    where
-        K: Drop,
-        L: Drop,
-        ensures inserted { IfOk result (λ _. self.new ≡ insert_entry K.cmp self.old key part) }
-        ensures refused { IfErr result (λ _. self.new ≡ self.old) }
-    {
-        self.parts.insert(key, part)?;
-        Ok(())
     }
 
     pub fn is_equal(&self, other: &Entries<K, L>) -> bool
@@ -97,7 +124,15 @@ impl<K: Ord, L> Entries<K, L> {
         L: PartialEq,
         ensures { result ≡ pointwise (λ p q. K.eq p.0 q.0 && L.eq p.1 q.1) self.now other.now }
     {
-        self.parts == other.parts
+        let mut first = self.iter();
+        let mut second = other.iter();
+        loop {
+            match (first.next(), second.next()) {
+                (None, None) => return true,
+                (Some(x), Some(y)) if *x.0 == *y.0 && *x.1 == *y.1 => {}
+                _ => return false,
+            }
+        }
     }
 }
 
@@ -106,7 +141,16 @@ impl<K: Plain, L: Lattice> Entries<K, L> {
     pub fn get(&self, of: K) -> Option<&L>
         ensures { unwrap_or (option_copied result) L.least ≡ at K.cmp L.least L.joined self.now of }
     {
-        self.parts.get(&of)
+        match &self.stored {
+            Stored::Few(None) => None,
+            Stored::Few(Some((key, part))) => {
+                if of == *key {
+                    return Some(part);
+                }
+                None
+            }
+            Stored::Tree(tree) => tree.get(of),
+        }
     }
 
     /// Puts a copy of the part in its place, and answers true.
@@ -114,43 +158,41 @@ impl<K: Plain, L: Lattice> Entries<K, L> {
         ensures put { IfOk result (λ b. (b ≡ true) × (self.new ≡ insert_entry K.cmp self.old of part.now)) }
         ensures refused { IfErr result (λ _. self.new ≡ self.old) }
     {
-        let part = part.copy(alloc)?;
-        self.insert(of, part)?;
+        self.stored = match &mut self.stored {
+            Stored::Few(held) => grown(alloc, held, of, part)?,
+            Stored::Tree(tree) => return tree.put_copy(alloc, of, part),
+        };
         Ok(true)
     }
 
     pub fn copy(&self, alloc: Global) -> Result<Entries<K, L>, AllocError>
         ensures { IfOk result (λ es. es ≡ self.now) }
     {
-        let mut entries = Entries::new(alloc);
-        for (key, part) in self.iter() {
-            entries.put_copy(alloc, *key, part)?;
-        }
-        Ok(entries)
-    }
-
-    /// Joins the part to what the key holds, by a search for the key.
-    fn join_found(&mut self, alloc: Global, of: K, part: &L) -> Result<bool, AllocError>
-        ensures added { IfOk result (λ b. (b ≡ is_some (add K.cmp L.least L.joined of part.now self.old)) × (self.new ≡ unwrap_or (add K.cmp L.least L.joined of part.now self.old) self.old)) }
-        ensures refused { IfErr result (λ _. self.new ≡ self.old) }
-    {
-        if let Some(held) = self.parts.get_mut(&of) {
-            return held.merge(alloc, part);
-        }
-        self.put_copy(alloc, of, part)
+        let stored = match &self.stored {
+            Stored::Few(None) => Stored::Few(None),
+            Stored::Few(Some((key, part))) => Stored::Few(Some((*key, part.copy(alloc)?))),
+            Stored::Tree(tree) => Stored::Tree(tree.copy(alloc)?),
+        };
+        Ok(Entries { stored, alloc })
     }
 
     /// Joins the part to what the key holds. Answers false, and changes nothing, where that is top.
-    ///
-    /// Keys that come in ascending order are put at the end without a search for them.
     pub fn join_at(&mut self, alloc: Global, of: K, part: &L) -> Result<bool, AllocError>
         ensures added { IfOk result (λ b. (b ≡ is_some (add K.cmp L.least L.joined of part.now self.old)) × (self.new ≡ unwrap_or (add K.cmp L.least L.joined of part.now self.old) self.old)) }
         ensures refused { IfErr result (λ _. self.new ≡ self.old) }
     {
-        if self.is_past_last(&of) {
-            return self.put_copy(alloc, of, part);
+        match &mut self.stored {
+            Stored::Few(held) => match held {
+                None => self.put_copy(alloc, of, part),
+                Some((key, held)) => {
+                    if of == *key {
+                        return held.merge(alloc, part);
+                    }
+                    self.put_copy(alloc, of, part)
+                }
+            },
+            Stored::Tree(tree) => tree.join_at(alloc, of, part),
         }
-        self.join_found(alloc, of, part)
     }
 
     /// Joins a part that isn't bottom to what the key holds, after which no key holds bottom.

@@ -1,13 +1,14 @@
-ghost use Rattle.std.specs.Prelude.{◌≡◌, [], map, true, IfOk, unwrap_or};
+ghost use Rattle.std.specs.Prelude.{◌≡◌, ◌&&◌, [], ◌∷◌, ⊤, MatchOption, map, true, false, IfOk, unwrap_or};
 ghost use Rattle.std.specs.Option.{option_copied};
 ghost use Rattle.std.specs.List.Sorted.{IsStrictlySortedBy, IsStrictlySortedBy-prop};
-ghost use Rattle.lvish_compound.specs.Keyed.{key, has_no, single_entry};
+ghost use Rattle.lvish_compound.specs.Keyed.{key, has_no, of_key, single_entry};
+ghost use Rattle.lvish_lattice.specs.Lattice.{fresh_of};
 
 use crate::entries::Entries;
+use crate::entry_iter::EntryIter;
 use crate::keyed;
 use lvish_lattice::{Lattice, Plain};
 use std::alloc::{AllocError, Global};
-use std::collections::btree_map::Iter;
 use std::hash::Hash;
 
 /// A map that only grows: its entries, in the order of their keys. No key holds bottom.
@@ -26,7 +27,7 @@ impl<K: Plain, L: Lattice> Drop for MapOf<K, L> {
 }
 
 impl<K: Plain, L: Lattice> MapOf<K, L> {
-    ghost use Rattle.lvish_compound.specs.MapOf.{entries_of, at};
+    ghost use Rattle.lvish_compound.specs.MapOf.{entries_of, at, joined, map_events_of};
 
     /// The empty map.
     pub fn new(alloc: Global) -> MapOf<K, L>
@@ -41,15 +42,36 @@ impl<K: Plain, L: Lattice> MapOf<K, L> {
     pub fn one(alloc: Global, key: K, part: L) -> Result<MapOf<K, L>, AllocError>
         ensures { IfOk result (λ m. entries_of m ≡ single_entry L.eq L.least key part) }
     {
-        let mut entries = Entries::new(alloc);
-        if part != L::bottom(alloc) {
-            entries.insert(key, part)?;
+        if part == L::bottom(alloc) {
+            return Ok(MapOf::new(alloc));
         }
-        Ok(MapOf { entries })
+        Ok(MapOf::rising(alloc, key, part))
+    }
+
+    /// The map with one key, whose part isn't bottom.
+    pub(crate) fn rising(alloc: Global, key: K, part: L) -> MapOf<K, L>
+        requires { L.eq part L.least ≡ false }
+        ensures { entries_of result ≡ (key, part) ∷ [] }
+    {
+        MapOf {
+            entries: Entries::one(alloc, key, part),
+        }
+    }
+
+    /// The only key of a put, with what it holds here and what is put there; `None` where the put
+    /// has several keys, or none.
+    pub(crate) fn at_only_key<'a>(
+        &'a self,
+        put: &'a MapOf<K, L>,
+    ) -> Option<(K, Option<&'a L>, &'a L)>
+        ensures { MatchOption result ⊤ (λ r. of_key r.0 (fresh_of L.joined L.Event.eq L.events_of (unwrap_or (option_copied r.1) L.least) r.2.now) ≡ fresh_of joined (λ x y. K.eq x.0 y.0 && L.Event.eq x.1 y.1) map_events_of self.now put.now) }
+    {
+        let (key, part) = put.entries.only()?;
+        Some((*key, self.get(*key), part))
     }
 
     /// The entries in the order of their keys. No part is bottom.
-    pub fn entries(&self) -> Iter<'_, K, L>
+    pub fn entries(&self) -> EntryIter<'_, K, L>
         ensures same { result ≡ entries_of self.now }
         ensures ascending { IsStrictlySortedBy K.cmp (map key (entries_of self.now)) }
         ensures above { has_no L.eq L.least (entries_of self.now) ≡ true }

@@ -7,11 +7,11 @@ ghost use Rattle.lvish_compound.specs.Keyed.{key, has_no, single_entry};
 ghost use Rattle.lvish_lattice.specs.MaxCounter.{level, zero};
 ghost use Rattle.lvish_compound.specs.MapOf as map_of;
 
+use crate::entry_iter::EntryIter;
 use crate::limits::HIGHEST_TOTAL;
 use crate::map_of::MapOf;
 use lvish_lattice::{Lattice, MaxCounter};
 use std::alloc::{AllocError, Global};
-use std::collections::btree_map::Iter;
 
 /// A map from keys to amounts that only grows, and whose amounts add up to at most `HIGHEST_TOTAL`.
 ///
@@ -73,7 +73,7 @@ impl Tally {
     }
 
     /// The entries in the order of their keys. No amount is 0.
-    pub fn entries(&self) -> Iter<'_, i64, MaxCounter>
+    pub fn entries(&self) -> EntryIter<'_, i64, MaxCounter>
         ensures same { result ≡ entries_of self.now }
         ensures ascending { IsStrictlySortedBy int_cmp (map key (entries_of self.now)) }
         ensures above { has_no amount_test zero (entries_of self.now) ≡ true }

@@ -17,9 +17,10 @@ module _ {V : Type 0} where
 
   -- the elements in their order
   abbrev pub elements : Stored V → List V
-  elements (stored.Few held) = few held
+  elements stored.Nothing = []
+  elements (stored.One x) = x ∷ []
   elements (stored.Row row) = row
-  elements (stored.Tree tree) = tree.keys
+  elements (stored.Tree tree) = tree.value.keys
 
   -- those that are left
   abbrev pub left : Rest V → List V

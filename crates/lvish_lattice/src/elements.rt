@@ -13,20 +13,24 @@ use std::cmp::Ordering;
 use std::collections::BTreeSet;
 use std::marker::Model;
 
-/// At most one element in place, as most puts have it; a row, as long as each further element comes
-/// behind the others; else a tree.
+/// Nothing, or one element in place, as most puts have it; a row, as long as each further element
+/// comes behind the others; else a tree.
+///
+/// Row and tree stand in blocks of their own, so that a state is small: it is moved at each step.
 #[derive(Debug)]
 pub(crate) enum Stored<V: Ord> {
-    Few(Option<V>),
+    Nothing,
+    One(V),
     Row(Row<V>),
-    Tree(BTreeSet<V>),
+    Tree(Box<BTreeSet<V>>),
 }
 
 // Written out, so that it is proved once, and not at each exit of a function that owns one.
 impl<V: Ord + Drop> Drop for Stored<V> {
     fn drop(self) {
         match self {
-            Stored::Few(_) => {}
+            Stored::Nothing => {}
+            Stored::One(_) => {}
             Stored::Row(_) => {}
             Stored::Tree(_) => {}
         }
@@ -88,20 +92,20 @@ fn broken<V: Plain>(alloc: Global, row: &Row<V>, x: V) -> Result<Stored<V>, Allo
 {
     let mut tree = tree_of_row(alloc, row)?;
     put_in_tree(&mut tree, x)?;
-    Ok(Stored::Tree(tree))
+    Ok(Stored::Tree(Box::new(alloc, tree)?))
 }
 
-/// At most one element, with another.
-fn grown<V: Plain>(alloc: Global, held: Option<V>, x: V) -> Result<Stored<V>, AllocError>
-    ensures { IfOk result (λ s. elements s ≡ sorted_merge V.cmp true (x ∷ []) (few held)) }
+/// One element, with another.
+fn grown<V: Plain>(alloc: Global, y: V, x: V) -> Result<Stored<V>, AllocError>
+    ensures { IfOk result (λ s. elements s ≡ sorted_merge V.cmp true (x ∷ []) (y ∷ [])) }
 {
-    let Some(y) = held else {
-        return Ok(Stored::Few(Some(x)));
-    };
     match y.cmp(&x) {
         Ordering::Less => Ok(Stored::Row(Row::of_two(alloc, y, x)?)),
-        Ordering::Equal => Ok(Stored::Few(Some(y))),
-        Ordering::Greater => Ok(Stored::Tree(tree_of_two(alloc, x, y)?)),
+        Ordering::Equal => Ok(Stored::One(y)),
+        Ordering::Greater => {
+            let tree = tree_of_two(alloc, x, y)?;
+            Ok(Stored::Tree(Box::new(alloc, tree)?))
+        }
     }
 }
 
@@ -119,7 +123,7 @@ impl<V: Plain> Elements<V> {
         ensures { result ≡ [] }
     {
         Elements {
-            stored: Stored::Few(None),
+            stored: Stored::Nothing,
         }
     }
 
@@ -140,7 +144,8 @@ impl<V: Plain> Elements<V> {
         ensures { result ≡ self.now }
     {
         match &self.stored {
-            Stored::Few(held) => SetIter::of_few(held.as_ref()),
+            Stored::Nothing => SetIter::of_few(None),
+            Stored::One(x) => SetIter::of_few(Some(x)),
             Stored::Row(row) => SetIter::of_row(row.as_slice().iter()),
             Stored::Tree(tree) => SetIter::of_tree(tree.iter()),
         }
@@ -150,8 +155,8 @@ impl<V: Plain> Elements<V> {
         ensures { result ≡ length self.now }
     {
         match &self.stored {
-            Stored::Few(None) => 0,
-            Stored::Few(Some(_)) => 1,
+            Stored::Nothing => 0,
+            Stored::One(_) => 1,
             Stored::Row(row) => row.as_slice().len(),
             Stored::Tree(tree) => tree.len(),
         }
@@ -162,8 +167,8 @@ impl<V: Plain> Elements<V> {
         ensures { MatchOption result ⊤ (λ x. self.now ≡ x ∷ []) }
     {
         match &self.stored {
-            Stored::Few(held) => *held,
-            Stored::Row(_) | Stored::Tree(_) => None,
+            Stored::One(x) => Some(*x),
+            Stored::Nothing | Stored::Row(_) | Stored::Tree(_) => None,
         }
     }
 
@@ -171,8 +176,8 @@ impl<V: Plain> Elements<V> {
         ensures { result ≡ is_member V.eq self.now x }
     {
         match &self.stored {
-            Stored::Few(None) => false,
-            Stored::Few(Some(y)) => x == *y,
+            Stored::Nothing => false,
+            Stored::One(y) => x == *y,
             Stored::Row(row) => row.has(x),
             Stored::Tree(tree) => tree.contains(&x),
         }
@@ -184,7 +189,8 @@ impl<V: Plain> Elements<V> {
         ensures refused { IfErr result (λ _. self.new ≡ self.old) }
     {
         self.stored = match &mut self.stored {
-            Stored::Few(held) => grown(alloc, *held, x)?,
+            Stored::Nothing => Stored::One(x),
+            Stored::One(y) => grown(alloc, *y, x)?,
             Stored::Row(row) if row.ends_below(x) => return row.push(x),
             Stored::Row(row) if row.has(x) => return Ok(()),
             Stored::Row(row) => broken(alloc, row, x)?,
@@ -225,15 +231,19 @@ impl<V: Plain> Elements<V> {
         ensures { IfOk result (λ es. es ≡ self.now) }
     {
         match &self.stored {
-            Stored::Few(held) => Ok(Elements {
-                stored: Stored::Few(*held),
+            Stored::Nothing => Ok(Elements::new()),
+            Stored::One(x) => Ok(Elements {
+                stored: Stored::One(*x),
             }),
             Stored::Row(row) => Ok(Elements {
                 stored: Stored::Row(row.copy(alloc)?),
             }),
-            Stored::Tree(tree) => Ok(Elements {
-                stored: Stored::Tree(tree_copy(alloc, tree)?),
-            }),
+            Stored::Tree(tree) => {
+                let tree = tree_copy(alloc, tree)?;
+                Ok(Elements {
+                    stored: Stored::Tree(Box::new(alloc, tree)?),
+                })
+            }
         }
     }
 

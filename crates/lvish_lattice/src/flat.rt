@@ -14,7 +14,7 @@ pub enum Flat<V> {
 }
 
 /// Where a cell is read: as a whole.
-#[derive(Clone, Copy, Debug, PartialEq, Eq, PartialOrd, Ord)]
+#[derive(Clone, Copy, Debug, PartialEq, Eq, PartialOrd, Ord, Hash)]
 pub struct Whole;
 
 impl Plain for Whole {

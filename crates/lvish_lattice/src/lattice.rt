@@ -81,7 +81,7 @@ pub trait Reads: Lattice {
     type Answer: Copy;
 
     /// What an event has in common with the reads that it can wake.
-    type Spot: Plain;
+    type Spot: Plain + Hash;
 
     /// The members of a threshold set, each a state with the answer of its group; those with one answer
     /// are one group.

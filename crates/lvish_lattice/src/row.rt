@@ -9,9 +9,11 @@ use std::alloc::{AllocError, Global};
 use std::marker::Model;
 
 /// Elements that came in ascending order: each stands behind those that came before it.
+///
+/// The vector stands behind a box, since whatever may hold a row would be as large as it otherwise.
 #[derive(Debug)]
 pub(crate) struct Row<V: Ord> {
-    items: Vec<V>,
+    items: Box<Vec<V>>,
 }
 
 // Written out, so that it is proved once, and not at each exit of a function that owns one.
@@ -27,9 +29,9 @@ impl<V: Ord> Model for Row<V> {
 
     ghost Value = { List V };
 
-    ghost view = { λ r. r.items.items };
+    ghost view = { λ r. r.items.value.items };
 
-    ghost invariant = { λ r. IsStrictlySortedBy V.cmp r.items.items };
+    ghost invariant = { λ r. IsStrictlySortedBy V.cmp r.items.value.items };
 }
 
 impl<V: Plain> Row<V> {
@@ -41,7 +43,9 @@ impl<V: Plain> Row<V> {
         let mut items = Vec::with_capacity(alloc, 2)?;
         items.push(first)?;
         items.push(second)?;
-        Ok(Row { items })
+        Ok(Row {
+            items: Box::new(alloc, items)?,
+        })
     }
 
     /// The elements in ascending order.
@@ -49,7 +53,7 @@ impl<V: Plain> Row<V> {
         ensures same { result.now ≡ self.now }
         ensures ascending { IsStrictlySortedBy V.cmp self.now }
     {
-        &self.items
+        self.items.as_slice()
     }
 
     /// Whether all are below this one.
@@ -77,14 +81,15 @@ impl<V: Plain> Row<V> {
         ensures member { result ≡ is_member V.eq self.now x }
         ensures put { IsTrue result → sorted_merge V.cmp true (x ∷ []) self.now ≡ self.now }
     {
-        self.items.binary_search(&x).is_ok()
+        self.as_slice().binary_search(&x).is_ok()
     }
 
     pub fn copy(&self, alloc: Global) -> Result<Row<V>, AllocError>
         ensures { IfOk result (λ r. r ≡ self.now) }
     {
+        let items = Vec::from_slice(alloc, self.as_slice())?;
         Ok(Row {
-            items: Vec::from_slice(alloc, &self.items)?,
+            items: Box::new(alloc, items)?,
         })
     }
 }

@@ -1,5 +1,5 @@
 -- What a put leaves: a log that grows by the fresh events has each event of the join once.
-use Rattle.std.proofs.Common.{◌≡◌, ◌≢◌, ◌↔◌, inl, inr, ℕ, zero, suc, Bool, true, not, ◌&&◌, List, [], ◌∷◌, ◌++◌, Option, Some, None, is_some, unwrap_or, refl, sym, ap, ◌∙◌, subst, arith, AllPairs, Contains, filter, get_or}
+use Rattle.std.proofs.Common.{◌≡◌, ◌≢◌, ◌↔◌, inl, inr, ℕ, zero, suc, Bool, true, not, ◌&&◌, List, [], ◌∷◌, ◌++◌, Option, Some, refl, sym, ap, ◌∙◌, subst, arith, AllPairs, Contains, filter, get_or}
 use Rattle.std.specs.Bool.{Decides}
 use Rattle.std.specs.Set.{is_member, IsUnion}
 use Rattle.std.specs.List.Sorted.{IsStrictlySortedBy}
@@ -41,16 +41,7 @@ logged-entries task number (e ∷ es) = ap (λ z. e ∷ z) (logged-entries task 
 pub logged-append : {E : Type 0} (log : List (Entry E)) (task : Name E) (number : ℕ) (es : List E) → logged (log ++ entries task number es) ≡ logged log ++ es
 logged-append log task number es = map-append _ log (entries task number es) ∙ ap (λ z. logged log ++ z) (logged-entries task number es)
 
--- a log with room made and the entries of one put appended
-pub appended : {E : Type 0} (task : Name E) (number : ℕ) (log same more all : List (Entry E)) (es seen : List E) → all ≡ same ++ more → same ≡ log → more ≡ entries task number seen → seen ≡ es → all ≡ log ++ entries task number es
-appended task number log same more all es seen a b c d = a ∙ ap (λ z. z ++ more) b ∙ ap (λ z. log ++ z) (c ∙ ap (λ z. entries task number z) d)
-
 -- ---- the fresh events
-
--- a merge that answers true leaves the join
-pub merged_join : {S : Type 0} (o : Option S) (b : Bool) (old new : S) → b ≡ is_some o → new ≡ unwrap_or o old → b ≡ true → o ≡ Some new
-merged_join (Some s) b old new e f g = ap (λ z. Some z) (sym f)
-merged_join None b old new e f g = absurd cc
 
 -- those of the second list that the first hasn't
 abbrev beyond : {E : Type 0} → (E → E → Bool) → List E → List E → List E

@@ -1,9 +1,9 @@
-ghost use Rattle.std.specs.Prelude.{◌≡◌, IfOk};
+ghost use Rattle.std.specs.Prelude.{◌≡◌, ◌++◌, IfOk, IfErr};
 ghost use Rattle.lvish_variable.specs.Variable.{entries};
 
 use lvish_lattice::Plain;
 use lvish_names::TaskName;
-use std::alloc::{AllocError, Global};
+use std::alloc::AllocError;
 
 /// An event of a variable, and the put that brought it.
 #[derive(Debug)]
@@ -26,23 +26,28 @@ impl<E: Drop> Drop for Entry<E> {
     }
 }
 
-/// The entries of one put.
-pub(crate) fn entries_of<E: Plain>(
-    alloc: Global,
+/// Puts the entries of one put onto the log's end, or none where there is no room for them all.
+pub(crate) fn note<E: Plain>(
+    log: &mut Vec<Entry<E>>,
     events: &[E],
     task: &TaskName<E>,
     number: u64,
-) -> Result<Vec<Entry<E>>, AllocError>
-    ensures { IfOk result (λ v. v.items ≡ entries task.now number events.now) }
+) -> Result<(), AllocError>
+    ensures ok { IfOk result (λ _. log.new.items ≡ log.old.items ++ entries task.now number events.now) }
+    ensures refused { IfErr result (λ _. log.new.items ≡ log.old.items) }
 {
-    let mut made = Vec::with_capacity(alloc, events.len())?;
+    log.reserve(events.len())?;
+    let before = log.len();
     for event in events {
-        let task = task.copy()?;
-        made.push(Entry {
+        let Ok(task) = task.copy() else {
+            log.truncate(before);
+            return Err(AllocError);
+        };
+        log.push_reserved(Entry {
             event: *event,
             task,
             number,
-        })?;
+        });
     }
-    Ok(made)
+    Ok(())
 }

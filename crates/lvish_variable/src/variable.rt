@@ -1,7 +1,8 @@
-ghost use Rattle.std.specs.Prelude.{◌≡◌, [], false, true, Some, IsTrue, IfOk, IfErr};
+ghost use Rattle.std.specs.Prelude.{◌≡◌, ◌⊎◌, [], false, true, Some, None, IsTrue, IfOk, IfErr};
+ghost use Rattle.lvish_variable.specs.declared.put_fault.PutFault.TheVariants.{Conflict, Memory};
 ghost use Rattle.lvish_variable.specs.Variable.{IsLogOf, IsPut, IsPutRefused};
 
-use crate::entry::{Entry, entries_of};
+use crate::entry::{Entry, note};
 use crate::put_fault::PutFault;
 use lvish_lattice::{Lattice, Reads};
 use lvish_names::TaskName;
@@ -71,13 +72,13 @@ impl<L: Lattice> Variable<L> {
             return self.allow(alloc, put);
         }
         let fresh = L::fresh(alloc, &self.state, put)?;
-        let mut entries = entries_of(alloc, &fresh, task, number)?;
-        self.log.reserve(entries.len())?;
-        if !self.state.merge(alloc, put)? {
-            return Err(PutFault::Conflict);
+        let before = self.log.len();
+        note(&mut self.log, &fresh, task, number)?;
+        // The log goes first, since it can be cut back, and the state can't.
+        if let Err(refused) = raise(&mut self.state, alloc, put) {
+            self.log.truncate(before);
+            return Err(refused);
         }
-        // There is room for the entries, so this isn't refused.
-        self.log.append(&mut entries)?;
         Ok(())
     }
 
@@ -111,6 +112,18 @@ impl<L: Lattice> Variable<L> {
         Ok(state)
     }
 
+    /// The state, and whether it is frozen, without a copy.
+    pub fn into_state(self) -> (L, bool)
+        ensures { result ≡ (self.state, self.frozen) }
+    {
+        let Variable {
+            state,
+            frozen,
+            log: _,
+        } = self;
+        (state, frozen)
+    }
+
     pub fn state(&self) -> &L
         ensures { result.now ≡ self.now.state }
     {
@@ -138,5 +151,18 @@ impl<L: Reads> Variable<L> {
         ensures { result ≡ L.answer_of read.now self.now.state }
     {
         L::trigger(read, &self.state)
+    }
+}
+
+/// Joins `put` to the state.
+fn raise<L: Lattice>(state: &mut L, alloc: Global, put: &L) -> Result<(), PutFault>
+    ensures ok { IfOk result (λ _. L.joined state.old put.now ≡ Some state.new) }
+    ensures why { IfErr result (λ f. (f ≡ Memory) ⊎ ((f ≡ Conflict) × (L.joined state.old put.now ≡ None))) }
+    ensures refused { IfErr result (λ _. state.new ≡ state.old) }
+{
+    if state.merge(alloc, put)? {
+        Ok(())
+    } else {
+        Err(PutFault::Conflict)
     }
 }

@@ -8,4 +8,4 @@ returns g c =
     let v = g.met.V in
     let R = g.V.Ord.cmp in
     let made = c.in_ok-tree.ensures.made in
-    c.in_ok-put_in_tree.ensures.put ∙ ap (sorted_merge R true (c.args.x ∷ [])) (same_members v.Ord.total (ties_are_same R v.Plain.identical v.Ord.matches_eq) _ _ made.1 c.tree_of_row.ensures.ascending made.0)
+    ap (λ t. t.keys) c.in_ok-new.ensures.ok ∙ c.in_ok-put_in_tree.ensures.put ∙ ap (sorted_merge R true (c.args.x ∷ [])) (same_members v.Ord.total (ties_are_same R v.Plain.identical v.Ord.matches_eq) _ _ made.1 c.tree_of_row.ensures.ascending made.0)

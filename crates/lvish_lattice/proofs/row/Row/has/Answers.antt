@@ -8,13 +8,12 @@ use Rattle.lvish_lattice.proofs.row.Row.has.Goals as goal
 pub returns-clause-member : goal.returns-clause-member
 returns-clause-member g c =
     let v = g.met.V in
-    let rises : IsStrictlySortedBy g.V.Ord.cmp c.deref.result.now = subst (IsStrictlySortedBy g.V.Ord.cmp) (sym c.deref.ensures.value) c.self.invariant in
+    let rises : IsStrictlySortedBy g.V.Ord.cmp c.as_slice.result.now = subst (IsStrictlySortedBy g.V.Ord.cmp) (sym c.as_slice.ensures.same) c.as_slice.ensures.ascending in
     c.is_ok.ensures.value
-    ∙ search_has_by v.Ord.total (ties_are_same g.V.Ord.cmp v.Plain.identical v.Ord.matches_eq) g.V.PartialEq.eq v.Ord.matches_eq c.args.x c.deref.result.now c.binary_search.result rises c.binary_search.ensures.bound c.binary_search.ensures.position
-    ∙ ap (λ xs. is_member g.V.PartialEq.eq xs c.args.x) (c.deref.ensures.value ∙ c.self.view_is)
+    ∙ search_has_by v.Ord.total (ties_are_same g.V.Ord.cmp v.Plain.identical v.Ord.matches_eq) g.V.PartialEq.eq v.Ord.matches_eq c.args.x c.as_slice.result.now c.binary_search.result rises c.binary_search.ensures.bound c.binary_search.ensures.position
+    ∙ ap (λ xs. is_member g.V.PartialEq.eq xs c.args.x) c.as_slice.ensures.same
 
 pub returns-clause-put : goal.returns-clause-put
 returns-clause-put g c =
     let v = g.met.V in
-    let rises : IsStrictlySortedBy g.V.Ord.cmp c.args.self.now = subst (IsStrictlySortedBy g.V.Ord.cmp) c.self.view_is c.self.invariant in
-    λ h. put_again v.Ord.total (ties_are_same g.V.Ord.cmp v.Plain.identical v.Ord.matches_eq) g.V.PartialEq.eq v.Ord.matches_eq c.args.x c.args.self.now rises (sym (returns-clause-member g c) ∙ h)
+    λ h. put_again v.Ord.total (ties_are_same g.V.Ord.cmp v.Plain.identical v.Ord.matches_eq) g.V.PartialEq.eq v.Ord.matches_eq c.args.x c.args.self.now c.as_slice.ensures.ascending (sym (returns-clause-member g c) ∙ h)

@@ -2,7 +2,7 @@ use Rattle.std.specs.Prelude.{refl}
 use Rattle.std.specs.Map.Iter.{deref_pair}
 use Rattle.std.proofs.lemmas.Map.Iter.{rest_more}
 use Rattle.lvish_compound.proofs.Parts.{copied_more}
-use Rattle.lvish_compound.proofs.entries.Entries.copy.Goals as goal
+use Rattle.lvish_compound.proofs.tree.Tree.copy.Goals as goal
 
 pub loop-key-preserved : goal.loop-key-preserved
 loop-key-preserved g c =
