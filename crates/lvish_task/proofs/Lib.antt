@@ -7,3 +7,6 @@ mod Meant
 mod Freezing
 mod Filled
 mod Strides
+mod Pairs
+mod Left
+mod ByNumbers

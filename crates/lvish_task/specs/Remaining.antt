@@ -1,13 +1,17 @@
--- What is left of shared events.
-use Rattle.std.specs.Prelude.{ℕ, List, [], length, drop, Option, Some, None}
+-- The events that local states share, however they are kept.
+use Rattle.std.specs.Prelude.{ℤ, List, [], map}
+use Rattle.std.specs.Arc.{arc_slice_items}
 use Rattle.lvish_compound.specs.declared.event.Event.{Event}
+use Rattle.lvish_compound.specs.declared.kind.Kind.{Kind}
+use Rattle.lvish_task.specs.declared.remaining.Shared.{Shared}
+use Rattle.lvish_task.specs.declared.remaining.Shared.TheVariants as shared
 
--- how many events are shared
-abbrev pub event_count : Option (List Event) → ℕ
-event_count None = 0
-event_count (Some all) = length all
+-- the events of one key and kind that have these numbers
+abbrev pub alike : ℤ → Kind → List ℤ → List Event
+alike key kind numbers = map (λ n. record { key = key; kind = kind; number = n }) numbers
 
--- what is left from the next one on
-abbrev pub remaining : Option (List Event) → ℕ → List Event
-remaining None next = []
-remaining (Some all) next = drop next all
+-- the events that are shared
+abbrev pub events_in : Shared → List Event
+events_in shared.Nothing = []
+events_in (shared.Alike key kind numbers) = alike key kind (arc_slice_items numbers)
+events_in (shared.Mixed events) = arc_slice_items events

@@ -31,7 +31,7 @@ impl Frame {
                 self.values.set(*local, events.len() as i64);
                 if let Some(procedure) = each {
                     self.each = *procedure;
-                    self.events = Remaining::of(events)?;
+                    self.events = Remaining::of(alloc, events)?;
                 }
             }
             _ => {}
