@@ -1,13 +1,14 @@
 -- What is among lists, and lists in which nothing comes twice.
-use Rattle.std.proofs.Common.{◌≡◌, ◌⊎◌, inl, inr, List, [], ◌∷◌, ◌++◌, map, Ordering, refl, sym, subst, append_assoc, Less}
-use Rattle.std.specs.Cmp.{IsTotalOrder}
-use Rattle.std.specs.List.{AllByRecursion}
-use Rattle.std.specs.List.Sorted.{IsStrictlySortedBy, IsPermutation}
+use Rattle.std.proofs.Common.{◌≡◌, ◌⊎◌, inl, inr, Bool, true, false, List, [], ◌∷◌, ◌++◌, map, refl, sym, subst, append_assoc}
+use Rattle.std.specs.Cmp.{IsEquivalence}
+use Rattle.std.specs.List.{AllByRecursion, IsDistinct}
+use Rattle.std.specs.List.Sorted.{IsPermutation}
+use Rattle.std.proofs.lemmas.Bool.{both_ways, false_from_ne_true}
 use Rattle.std.proofs.lemmas.List.Sorted.{Contains-permutation}
-use Rattle.std.proofs.lemmas.Cmp.{tied_itself}
+use Rattle.std.proofs.lemmas.Map.Keys.{IsDistinct-IsPermutation}
 use Rattle.lvish_calculus.specs.Handing.{IsAmong, NoRepeats}
 use Rattle.lvish_picture.proofs.Slots.{among, contained}
-use Rattle.lvish_core.specs.laws.Lists.{among_first}
+use Rattle.lvish_core.specs.laws.Lists.{all_always, among_first}
 use Rattle.lvish_core.proofs.Listing.{all_at}
 
 module _ {X : Type 0} where
@@ -72,12 +73,23 @@ of_map f y [] i = absurd i
 of_map f y (x ∷ xs) (inl e) = (x, inl refl, sym e)
 of_map f y (x ∷ xs) (inr i) = let r = of_map f y xs i in (r.0, inr r.1, r.2)
 
-module _ {X : Type 0} {cmp : X → X → Ordering} (o : IsTotalOrder cmp) where
-  not_above : (x : X) (xs : List X) → AllByRecursion (λ y. cmp x y ≡ Less) xs → IsAmong x xs → ⊥
-  not_above x xs a i = let less = all_at (λ y. cmp x y ≡ Less) xs a x i in let equal = tied_itself o x in absurd cc
+-- lists without repeats are those that a test of identity finds distinct: each of them is
+module _ {X : Type 0} {eq : X → X → Bool} (exact : (x y : X) → eq x y ≡ true → x ≡ y) where
+  differs : (x : X) (ys : List X) → (IsAmong x ys → ⊥) → AllByRecursion (λ y. eq x y ≡ false) ys
+  differs x ys other = all_always (λ y. eq x y ≡ false) ys (λ y i. false_from_ne_true (eq x y) (λ e. other (subst (λ z. IsAmong z ys) (sym (exact x y e)) i)))
 
-  -- what ascends doesn't repeat
-  pub once_ascending : (xs : List X) → IsStrictlySortedBy cmp xs → NoRepeats xs
-  unfolding IsStrictlySortedBy
-  once_ascending [] s = tt
-  once_ascending (x ∷ xs) s = (not_above x xs s.0, once_ascending xs s.1)
+  pub distinct : (xs : List X) → NoRepeats xs → IsDistinct eq xs
+  unfolding IsDistinct
+  distinct [] n = tt
+  distinct (x ∷ xs) n = (differs x xs n.0, distinct xs n.1)
+
+module _ {X : Type 0} {eq : X → X → Bool} (laws : IsEquivalence eq) where
+  -- and no other is
+  pub once_distinct : (xs : List X) → IsDistinct eq xs → NoRepeats xs
+  unfolding IsDistinct
+  once_distinct [] d = tt
+  once_distinct (x ∷ xs) d = (λ i. both_ways _ (all_at (λ y. eq x y ≡ false) xs d.0 x i) (laws.refl x), once_distinct xs d.1)
+
+  -- in another order nothing repeats either
+  pub once_permuted : ((x y : X) → eq x y ≡ true → x ≡ y) → (xs ys : List X) → IsPermutation xs ys → NoRepeats xs → NoRepeats ys
+  once_permuted exact xs ys moved n = once_distinct ys (IsDistinct-IsPermutation eq laws.symm xs ys moved (distinct exact xs n))

@@ -1,10 +1,9 @@
 -- One more is parked.
-use Rattle.std.proofs.Common.{◌≡◌, ◌⊎◌, ◌↔◌, inl, inr, ℕ, List, [], ◌∷◌, refl, sym, ap, subst, ◌∙◌}
-use Rattle.lvish_board.specs.Vocabulary.{Request, Get, Freeze}
+use Rattle.std.proofs.Common.{◌≡◌, ◌⊎◌, ◌↔◌, inl, inr, List, [], ◌∷◌, Result, Ok, Err, IfOk, IfErr, sym, ap, subst, ◌∙◌}
 use Rattle.lvish_calculus.specs.Handing.{IsAmong, NoRepeats}
 use Rattle.lvish_board.specs.Place.{TaskPlace}
 use Rattle.lvish_board.specs.Standing.{tasks_of}
-use Rattle.lvish_board.specs.Woken.{IsParkedBeside, IsWaiting}
+use Rattle.lvish_board.specs.Woken.{IsParkedBeside}
 use Rattle.lvish_board.proofs.Steps.{of_task}
 use Rattle.lvish_board.proofs.Waking.{task_among}
 
@@ -50,8 +49,13 @@ module _ {E L : Type 0} where
     );
   }
 
--- a task waits for a get or for a freeze
-pub waits_for_one : {S R L : Type 0} (r : Request S R L) → IsWaiting r → ((v : ℕ) (read : R) → r ≡ Get v read → ⊥) → ((v : ℕ) (pools : List ℕ) → r ≡ Freeze v pools → ⊥) → ⊥
-waits_for_one (Get v read) waiting get freeze = get v read refl
-waits_for_one (Freeze v pools) waiting get freeze = freeze v pools refl
-waits_for_one r waiting get freeze = absurd waiting
+  -- of an answer to the parking of one more: what is parked is that one, or was parked before
+  pub parked_or_before : {R : Type 0} (r : Result R (TaskPlace E L)) (p : TaskPlace E L) (ps qs : List (TaskPlace E L)) → IfOk r (λ _. (q : TaskPlace E L) → IsAmong q qs ↔ ((q ≡ p) ⊎ IsAmong q ps)) → IfErr r (λ a. (a ≡ p) × (qs ≡ ps))
+      → (q : TaskPlace E L) → IsAmong q qs → (q ≡ p) ⊎ IsAmong q ps
+  parked_or_before (Ok x) p ps qs one none q i = (one q).0 i
+  parked_or_before (Err a) p ps qs one none q i = inr (subst (λ rs. IsAmong q rs) none.1 i)
+
+  -- and where the answer is not an error, it is parked beside the others
+  pub beside_if_ok : {R : Type 0} (r : Result R (TaskPlace E L)) (p : TaskPlace E L) (ps qs : List (TaskPlace E L)) → (IsAmong p.task (tasks_of ps) → ⊥) → IfOk r (λ _. (q : TaskPlace E L) → IsAmong q qs ↔ ((q ≡ p) ⊎ IsAmong q ps)) → IfOk r (λ _. IsParkedBeside ps p qs)
+  beside_if_ok (Ok x) p ps qs absent one = beside_others p ps qs absent one
+  beside_if_ok (Err a) p ps qs absent one = tt

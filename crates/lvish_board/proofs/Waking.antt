@@ -1,13 +1,16 @@
 -- Tasks are woken one after another.
-use Rattle.std.proofs.Common.{◌≡◌, inl, inr, List, [], ◌∷◌, ◌++◌, refl, sym, ap, subst, ◌∙◌, arith, append_assoc, append-nil, length-append, IsPermutation}
+use Rattle.std.proofs.Common.{◌≡◌, inl, inr, Bool, true, List, [], ◌∷◌, ◌++◌, refl, sym, ap, subst, ◌∙◌, arith, append_assoc, append-nil, length-append, IsPermutation}
+use Rattle.std.specs.Cmp.{IsEquivalence}
 use Rattle.std.proofs.lemmas.List.{map-append}
+use Rattle.std.proofs.lemmas.List.Sorted.{IsPermutation-append_right, IsPermutation-map, IsPermutation-sym, length_permutation}
+use Rattle.lvish_names.specs.Names.{Name}
 use Rattle.lvish_calculus.specs.Handing.{IsAmong, NoRepeats}
 use Rattle.lvish_core.specs.laws.Lists.{either_among, among_first, among_last, among_map}
 use Rattle.lvish_board.specs.Place.{TaskPlace}
 use Rattle.lvish_board.specs.Standing.{tasks_of}
 use Rattle.lvish_board.specs.Waking.{Wakes}
 use Rattle.lvish_board.specs.Woken.{IsWoken}
-use Rattle.lvish_board.proofs.Among.{at_middle, in_middle, once_first, once_last, once_less, once_moved, among_permuted}
+use Rattle.lvish_board.proofs.Among.{at_middle, in_middle, once_first, once_last, once_less, once_moved, once_permuted, among_permuted}
 
 module _ {E L : Type 0} where
   pub tasks_append : (ps qs : List (TaskPlace E L)) → tasks_of (ps ++ qs) ≡ tasks_of ps ++ tasks_of qs
@@ -132,6 +135,27 @@ module _ {E L : Type 0} (Can : TaskPlace E L → Type 0) where
     ];
     left = w.left;
   }
+
+  -- and so are they where the others lie in another order
+  pub wakes_permuted : {eq : Name E → Name E → Bool} → IsEquivalence eq → ((t u : Name E) → eq t u ≡ true → t ≡ u) → (May : TaskPlace E L → Type 0) (old new others before after : List (TaskPlace E L)) → IsPermutation new others → Wakes Can May old new before after → Wakes Can May old others before after
+  wakes_permuted laws exact May old new others before after to w =
+      let back = IsPermutation-sym new others to in
+      let all = IsPermutation-append_right after new others to in
+      record {
+        more = w.more;
+        adds = w.adds;
+        woken = record {
+          were = w.woken.were;
+          stay = λ p i. w.woken.stay p (among_permuted p others new back i);
+          split = λ p i. elim (w.woken.split p i) [
+            | inl j ↦ inl j
+            | inr j ↦ inr (among_permuted p new others to j)
+          ];
+          left = λ p i. w.woken.left p (among_permuted p others new back i);
+        };
+        count = let same = length_permutation new others to in let count = w.count in omega arith;
+        once = λ n. once_permuted laws exact (tasks_of (after ++ new)) (tasks_of (after ++ others)) (IsPermutation-map (λ p. p.task) (after ++ new) (after ++ others) all) (w.once n);
+      }
 
   -- of equal lists
   pub wakes_at : (May : TaskPlace E L → Type 0) (old new left before none after woken : List (TaskPlace E L)) → left ≡ new → before ≡ none → woken ≡ after → Wakes Can May old new before after → Wakes Can May old left none woken

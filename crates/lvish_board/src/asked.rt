@@ -16,6 +16,7 @@ pub struct Asked<P: Program, J: Named<P>> {
 
 // Written out, so that it is proved once, and not at each exit of a function that owns one.
 impl<P: Program, J: Named<P>> Drop for Asked<P, J> {
+    #[inline(always)]
     fn drop(self) {
         let Asked { ticket: _, asks: _ } = self;
     }
@@ -67,6 +68,7 @@ impl<P: Program, J: Named<P>> Asked<P, J> {
     }
 
     /// The task's name; all else is dropped.
+    #[inline(always)]
     pub(crate) fn into_task(self) -> TaskName<<P::Lat as Lattice>::Event>
         ensures { result ≡ self.task }
     {

@@ -113,18 +113,28 @@ impl<'p, P: Program, J: Named<P>> Board<'p, P, J> {
         &self.core
     }
 
-    /// The steps that were made, in their order, without a copy.
-    pub fn into_trace(self) -> Vec<TraceEntry<<P::Lat as Lattice>::Event>>
-        ensures { result.items ≡ self.entry.trace }
+    /// The core, and the steps that were made, in their order, without a copy.
+    pub fn into_parts(self) -> (Core<'p, P>, Vec<TraceEntry<<P::Lat as Lattice>::Event>>)
+        ensures core { result.0 ≡ self.entry.core }
+        ensures trace { result.1.items ≡ self.entry.trace }
+        ensures sound { IsBoardSound (⟦<P as Meaning>⟧.machine J.program) J.program J.budget self.entry }
     {
         let Board {
-            core: _,
+            core,
             trace,
             budget: _,
             over: _,
             parked: _,
             room: _,
         } = self;
+        (core, trace)
+    }
+
+    /// The steps that were made, in their order, without a copy.
+    pub fn into_trace(self) -> Vec<TraceEntry<<P::Lat as Lattice>::Event>>
+        ensures { result.items ≡ self.entry.trace }
+    {
+        let (_core, trace) = self.into_parts();
         trace
     }
 }

@@ -14,12 +14,12 @@ use lvish_core::{Core, CoreMeaning};
 use lvish_lattice::Lattice;
 use lvish_names::TaskName;
 use std::alloc::Global;
-use std::collections::BTreeMap;
+use std::collections::HashMap;
 use std::marker::Model;
 
 /// The parked tasks, each once, by name.
 pub(crate) struct ByName<P: Program, J: Named<P>> {
-    asked: BTreeMap<TaskName<<P::Lat as Lattice>::Event>, Asked<P, J>>,
+    asked: HashMap<TaskName<<P::Lat as Lattice>::Event>, Asked<P, J>>,
 }
 
 // Written out, so that it is proved once, and not at each exit of a function that owns one.
@@ -31,9 +31,8 @@ impl<P: Program, J: Named<P>> Drop for ByName<P, J> {
 
 impl<P: Program, J: Named<P>> Model for ByName<P, J> {
     ghost use Rattle.std.specs.Prelude.{List};
-    ghost use Rattle.std.specs.List.Sorted.{IsStrictlySortedBy};
-    ghost use Rattle.std.specs.BTreeMap.{keys, values};
-    ghost use Rattle.lvish_names.specs.NameOrder.{name_cmp};
+    ghost use Rattle.std.specs.HashMap.{values, IsUnique};
+    ghost use Rattle.lvish_names.specs.Names.{same_name};
     ghost use Rattle.lvish_board.specs.Place.{TaskPlace};
     ghost use Rattle.lvish_board.specs.Waking.{AreNamed};
 
@@ -41,7 +40,7 @@ impl<P: Program, J: Named<P>> Model for ByName<P, J> {
 
     ghost view = { λ b. values b.asked };
 
-    ghost invariant = { λ b. AreNamed b.asked.entries × IsStrictlySortedBy (name_cmp P.Lat.Event.cmp) (keys b.asked) };
+    ghost invariant = { λ b. AreNamed b.asked.entries × IsUnique (same_name P.Lat.Event.eq) b.asked };
 }
 
 impl<P: Program, J: Named<P>> ByName<P, J> {
@@ -50,7 +49,7 @@ impl<P: Program, J: Named<P>> ByName<P, J> {
         ensures { result ≡ [] }
     {
         ByName {
-            asked: BTreeMap::new(alloc),
+            asked: HashMap::new(alloc),
         }
     }
 

@@ -1,4 +1,7 @@
 //! The work that a step leaves.
+//!
+//! The functions are inlined into the board's, since what passes between them is large, and would be
+//! moved at each call.
 
 ghost use Rattle.std.specs.Prelude.{◌≡◌, ◌≤◌, ◌+◌, [], length, vec_len, vec_capacity};
 ghost use Rattle.lvish_calculus.specs.Handing.{IsAmong, NoRepeats};
@@ -29,6 +32,7 @@ pub(crate) struct OwnWork<P: Program, J: Named<P>> {
 }
 
 /// What the step of a task leaves by itself.
+#[inline(always)]
 pub(crate) fn left_by<P: Program, J: Named<P>>(
     asked: Asked<P, J>,
     moved: Moved<<P::Lat as Lattice>::Event, P::Local>,
@@ -50,6 +54,7 @@ pub(crate) fn left_by<P: Program, J: Named<P>>(
 }
 
 /// The ticket of a task that a step made.
+#[inline(always)]
 pub(crate) fn ticket_of<P: Program, J: Named<P>>(
     made: Option<Made<<P::Lat as Lattice>::Event, P::Local>>,
 ) -> Option<Ticket<P, J>>
@@ -80,6 +85,7 @@ fn fresh<'c, P: Program>(
 ///
 /// `room` has the handlers that the step may concern; `logged` is the length of its variable's log
 /// before the step.
+#[inline(always)]
 pub(crate) fn leave<P: Program, J: Named<P>>(
     alloc: Global,
     core: &Core<'_, P>,
@@ -116,6 +122,7 @@ pub(crate) fn leave<P: Program, J: Named<P>>(
 
 /// Leaves the handlers that a step may concern: none of a put's where it brought no entry, and an
 /// added one.
+#[inline(always)]
 fn keep_candidates<E: Drop>(
     entries: &[Entry<E>],
     concerned: &mut Vec<HandlerName<E>>,
@@ -134,6 +141,7 @@ fn keep_candidates<E: Drop>(
 }
 
 /// Lists those of the handlers with something left for them, on the empty list, and empties the other.
+#[inline(always)]
 fn list_hands<P: Program>(
     core: &Core<'_, P>,
     concerned: &mut Vec<HandlerName<<P::Lat as Lattice>::Event>>,

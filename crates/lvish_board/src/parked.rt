@@ -56,7 +56,7 @@ impl<P: Program, J: Named<P>> Model for Parked<P, J> {
 
     ghost view = { λ p. p.tasks };
 
-    ghost invariant = { λ p. (q : TaskPlace P.Lat.Event P.Local) → IsAmong q p.tasks → IsOnItsList P.Lat.Spot.cmp P.Lat.watched p.gets.lists p.freezes.lists ((P.functions J.program).request q.from) q.task };
+    ghost invariant = { λ p. (q : TaskPlace P.Lat.Event P.Local) → IsAmong q p.tasks → IsOnItsList P.Lat.Spot.eq P.Lat.watched p.gets.lists p.freezes.lists ((P.functions J.program).request q.from) q.task };
 }
 
 impl<P: Program, J: Named<P>> Parked<P, J> {
@@ -100,23 +100,19 @@ impl<P: Program, J: Named<P>> Parked<P, J> {
         match &asked.asks().request {
             Request::Get(variable, read) => {
                 let key = (*variable, <P::Lat as Reads>::watch(read));
-                if self.gets.reserve(alloc, key).is_err() {
+                let Ok(()) = self.gets.push(alloc, key, name) else {
                     return Err(asked);
-                }
-                self.tasks.insert(asked)?;
-                self.gets.push_reserved(&key, name);
+                };
             }
             Request::Freeze(variable, _) => {
-                let key = *variable;
-                if self.freezes.reserve(alloc, key).is_err() {
+                let Ok(()) = self.freezes.push(alloc, *variable, name) else {
                     return Err(asked);
-                }
-                self.tasks.insert(asked)?;
-                self.freezes.push_reserved(&key, name);
+                };
             }
-            _ => {}
+            _ => return Ok(()),
         }
-        Ok(())
+        // Where this is refused the name stays on its list, and is dropped when a step looks there.
+        self.tasks.insert(asked)
     }
 
     /// Takes out the tasks that the last step woke, in the order of their names: these entries are
@@ -160,6 +156,10 @@ impl<P: Program, J: Named<P>> Parked<P, J> {
         requires room { vec_len woken.old + length self.old ≤ vec_capacity woken.old }
         ensures { Wakes (λ p. ⟦<P as CoreMeaning>⟧.can_take core.now (Act p.task)) (λ p. MayWake P.Lat.spot_of P.Lat.watched (Some (Put variable)) fresh.now ((P.functions core.now.program).request p.from)) self.old self.new woken.old.items woken.new.items }
     {
+        // A run in which no get ever waited hashes no key.
+        if self.gets.lists.is_empty() {
+            return;
+        }
         self.wake_at(core, (variable, None), woken);
         for entry in fresh {
             let spot = <P::Lat as Reads>::spot(&entry.event);

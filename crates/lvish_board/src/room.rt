@@ -49,6 +49,7 @@ impl<P: Program, J: Named<P>> Room<P, J> {
     /// # Errors
     ///
     /// Where there is none.
+    #[inline(always)]
     pub(crate) fn reserve(&mut self, parked: usize, handlers: usize) -> Result<(), AllocError>
         ensures woken { IfOk result (λ _. (self.new.woken.items ≡ []) × (parked ≤ vec_capacity self.new.woken)) }
         ensures concerned { IfOk result (λ _. (self.new.concerned.items ≡ []) × (handlers ≤ vec_capacity self.new.concerned)) }

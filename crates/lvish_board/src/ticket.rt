@@ -34,6 +34,7 @@ impl<P: Program, J: Named<P>> Model for Ticket<P, J> {
 }
 
 impl<P: Program, J: Named<P>> Ticket<P, J> {
+    #[inline(always)]
     pub(crate) fn new(task: TaskName<<P::Lat as Lattice>::Event>, from: P::Local) -> Ticket<P, J>
         ensures { result ≡ record { task = task; from = from } }
     {

@@ -45,6 +45,7 @@ pub enum Request<S, R, L> {
 
 // Written out, so that it is proved once, and not at each exit of a function that owns one.
 impl<S: Drop, R: Drop, L: Drop> Drop for Request<S, R, L> {
+    #[inline(always)]
     fn drop(self) {
         match self {
             Request::Put(_, _) => {}

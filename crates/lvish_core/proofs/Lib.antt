@@ -1,4 +1,5 @@
 pub mod Maps
+pub mod Indices
 pub mod Ordered
 pub mod Gets
 pub mod Reading

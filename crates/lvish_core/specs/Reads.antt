@@ -9,7 +9,8 @@ use Rattle.lvish_variable.specs.Variable.{VariableView as Variable}
 use Rattle.lvish_handlers.specs.Handlers.{HandlersView as Handlers, IsWithin}
 use Rattle.lvish_picture.specs.Picture.{Table}
 use Rattle.lvish_core.specs.Core.{CoreView, state}
-use Rattle.lvish_core.specs.declared.stage.TaskCounts.{TaskCounts}
+use Rattle.lvish_core.specs.Tasks.{IsAt}
+use Rattle.lvish_core.specs.declared.stage.TaskNumbers.{TaskNumbers}
 
 -- where the task is there and hasn't ended, this is the request that it makes
 abbrev pub IsItsRequest : {P S E R A L : Type 0} → Machine S E R A L → CoreView P S E L → Name E → Request S R L → Type 0
@@ -20,8 +21,8 @@ abbrev pub IsItsPlace : {P S E R A L : Type 0} → Machine S E R A L → CoreVie
 IsItsPlace {L = L} M c t at = (l : L) (f a p : ℕ) → (state M c).tasks t ≡ Live l f a p → M.at l ≡ at
 
 -- the task is there in this local state, with these numbers, and hasn't ended
-abbrev pub IsLiveAt : {P S E R A L : Type 0} → Machine S E R A L → CoreView P S E L → Name E → L → TaskCounts → Type 0
-IsLiveAt M c t l n = (state M c).tasks t ≡ Live l n.forks n.adds n.puts
+abbrev pub IsLiveAt : {P S E R A L : Type 0} → Machine S E R A L → CoreView P S E L → Name E → L → TaskNumbers → Type 0
+IsLiveAt M c t l n = ((state M c).tasks t ≡ Live l n.forks n.adds n.puts) × IsAt c.table.tasks n.index t
 
 -- no task's request is ready
 pub record NoneIsReady {P S E R A L : Type 0} (M : Machine S E R A L) (c : CoreView P S E L) : Type 0 where

@@ -1,5 +1,5 @@
 -- The tasks of a core under their names.
-use Rattle.std.specs.Prelude.{◌≡◌, ℕ, Bool, false, List, Option, Some, None, map}
+use Rattle.std.specs.Prelude.{◌≡◌, ℕ, Bool, false, List, Option, Some, None, map, slice_get}
 use Rattle.std.specs.Borrow.{Bor}
 use Rattle.std.specs.Map.Iter.{deref_pair}
 use Rattle.lvish_calculus.specs.Calculus.{Task, Absent, Live, Ended, with_task}
@@ -26,6 +26,10 @@ standings entries = map (λ e. (e.0, standing e.1)) entries
 -- the names in a list of tasks
 abbrev pub task_names : {E L : Type 0} → List (Name E × Task L) → List (Name E)
 task_names tasks = map (λ e. e.0) tasks
+
+-- the task of this name stands at the index
+abbrev pub IsAt : {E L : Type 0} → List (Name E × Task L) → ℕ → Name E → Type 0
+IsAt tasks index t = slice_get (task_names tasks) index ≡ Some t
 
 -- the new list has k under t, and under each other name what the old one has
 pub record Sets {E L : Type 0} (eq : E → E → Bool) (old : List (Name E × Task L)) (t : Name E) (k : Task L) (new : List (Name E × Task L)) : Type 0 where

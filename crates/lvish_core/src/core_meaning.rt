@@ -16,7 +16,7 @@ pub trait CoreMeaning: Program {
     ghost use Rattle.lvish_core.specs.declared.fault.Stepped.{Stepped};
     ghost use Rattle.lvish_core.specs.declared.fault.StepFault.{StepFault};
     ghost use Rattle.lvish_core.specs.declared.moved.Moved.{Moved};
-    ghost use Rattle.lvish_core.specs.declared.stage.TaskCounts.{TaskCounts};
+    ghost use Rattle.lvish_core.specs.declared.stage.TaskNumbers.{TaskNumbers};
 
     /// The configuration that a core stands for.
     ghost picture: { CoreView Self Self.Lat Self.Lat.Event Self.Local → Configuration Self.Lat Self.Lat.Event Self.Local };
@@ -59,7 +59,7 @@ pub trait CoreMeaning: Program {
     ghost local_in: { CoreView Self Self.Lat Self.Lat.Event Self.Local → Name Self.Lat.Event → Option Self.Local };
 
     /// The picture's task is there in this local state, with these numbers, and hasn't ended.
-    ghost is_live: { CoreView Self Self.Lat Self.Lat.Event Self.Local → Name Self.Lat.Event → Self.Local → TaskCounts → Type 0 };
+    ghost is_live: { CoreView Self Self.Lat Self.Lat.Event Self.Local → Name Self.Lat.Event → Self.Local → TaskNumbers → Type 0 };
 
     /// The request of the picture's task, if it is there and hasn't ended.
     ghost request_in: { CoreView Self Self.Lat Self.Lat.Event Self.Local → Name Self.Lat.Event → Option (Request Self.Lat Self.Lat.Read Self.Local) };

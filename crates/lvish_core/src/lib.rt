@@ -43,5 +43,5 @@ pub use fault::{RunError, StepFault, Stepped};
 pub use limits::MOST_STEPS;
 pub use machine::Core;
 pub use moved::{Made, Moved};
-pub use stage::TaskCounts;
+pub use stage::TaskNumbers;
 pub use touched::Touched;

@@ -5,18 +5,19 @@ ghost use Rattle.lvish_calculus.specs.Calculus.{Live};
 ghost use Rattle.lvish_calculus.specs.Program.{IsReplyTo};
 ghost use Rattle.lvish_core.specs.Tasks.{standing};
 
-use crate::stage::{Stage, TaskCounts};
+use crate::stage::{Stage, TaskNumbers};
 use lvish_calculus::{Program, Reply};
 use lvish_lattice::Reads;
 use std::alloc::{AllocError, Global};
 
 /// The stage in which the task goes on with these numbers, and a copy of its local state there.
+#[inline(always)]
 pub(crate) fn resumed<P: Program>(
     program: &P,
     alloc: Global,
     at: &P::Local,
     reply: Reply<P::Lat, <P::Lat as Reads>::Answer>,
-    numbers: TaskCounts,
+    numbers: TaskNumbers,
 ) -> Result<(Stage<P::Local>, P::Local), AllocError>
     // A task asks there, and the reply fits what it asks: two clauses, since the proof of a call takes
     // 20 seconds longer at a single one.

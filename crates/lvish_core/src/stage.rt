@@ -44,7 +44,7 @@ impl<L> Stage<L> {
     }
 
     /// A task that goes on with these numbers.
-    pub(crate) fn live(local: L, numbers: TaskCounts) -> Self
+    pub(crate) fn live(local: L, numbers: TaskNumbers) -> Self
         ensures { standing result ≡ Live local numbers.forks numbers.adds numbers.puts }
     {
         Stage::Live {
@@ -56,9 +56,11 @@ impl<L> Stage<L> {
     }
 }
 
-/// How many tasks a task forked, how many handlers it added, and how many puts it made.
+/// A task's index in the table of its core, how many tasks it forked, how many handlers it added, and
+/// how many puts it made.
 #[derive(Clone, Copy, Debug, PartialEq, Eq)]
-pub struct TaskCounts {
+pub struct TaskNumbers {
+    pub index: usize,
     pub forks: u64,
     pub adds: u64,
     pub puts: u64,

@@ -1,25 +1,27 @@
-ghost use Rattle.std.specs.Prelude.{◌≡◌, [], MatchResult, IfOk, option_copied};
+ghost use Rattle.std.specs.Prelude.{◌≡◌, ℕ, [], MatchResult, IfOk, IfSome, option_copied};
+ghost use Rattle.std.specs.Option.{option_map};
 ghost use Rattle.std.specs.List.{IsDistinct};
 ghost use Rattle.std.specs.List.Sorted.{IsStrictlySortedBy};
 ghost use Rattle.lvish_names.specs.NameOrder.{name_cmp};
-ghost use Rattle.lvish_calculus.specs.Calculus.{Absent};
-ghost use Rattle.lvish_names.specs.Names.{same_name};
+ghost use Rattle.lvish_names.specs.Names.{Name, same_name};
 ghost use Rattle.lvish_picture.specs.Picture.{task_of};
-ghost use Rattle.lvish_core.specs.Tasks.{Sets, SameTasks, standing, standing_at, standings, entries_at, task_names};
+ghost use Rattle.lvish_core.specs.Tasks.{IsAt, Sets, SameTasks, standing, standing_at, standings, entries_at, task_names};
 
 use crate::stage::Stage;
+use indexmap::IndexMap;
+use indexmap::map::Iter;
 use lvish_lattice::Plain;
-use lvish_names::TaskName;
+use lvish_names::{TaskName, task_names_identical};
 use std::alloc::{AllocError, Global};
 use std::cmp::Ordering;
-use std::collections::HashMap;
-use std::collections::hash_map::Iter;
 use std::hash::Hash;
 use std::marker::Model;
 
 /// The tasks of a core under their names.
+///
+/// A task keeps its index as long as there is the core.
 pub(crate) struct Tasks<E: Eq + Hash, L> {
-    stages: HashMap<TaskName<E>, Stage<L>>,
+    stages: IndexMap<TaskName<E>, Stage<L>>,
 }
 
 // Written out, so that it is proved once, and not at each exit of a function that owns one.
@@ -54,7 +56,7 @@ impl<E: Plain + Hash, L: Drop> Tasks<E, L> {
         ensures { result ≡ [] }
     {
         Tasks {
-            stages: HashMap::new(alloc),
+            stages: IndexMap::new(alloc),
         }
     }
 
@@ -83,19 +85,33 @@ impl<E: Plain + Hash, L: Drop> Tasks<E, L> {
         Ok(tasks)
     }
 
-    /// Puts the task that has the name into the stage.
-    pub fn replace(&mut self, name: &TaskName<E>, stage: Stage<L>)
-        requires { task_of E.eq self.old name.now ≡ Absent → ⊥ }
-        ensures { Sets E.eq self.old name.now (standing stage) self.new }
+    /// What runs under the name, and its index.
+    pub fn find(&self, name: &TaskName<E>) -> Option<(usize, &Stage<L>)>
+        ensures task { task_of E.eq self.now name.now ≡ standing_at (option_map (λ f. f.1.now) result) }
+        ensures at { IfSome result (λ f. IsAt self.now f.0 name.now) }
     {
-        if let Some(place) = self.stages.get_mut(name) {
+        task_names_identical::<E>();
+        match self.stages.get_full(name) {
+            Some((index, _name, stage)) => Some((index, stage)),
+            None => None,
+        }
+    }
+
+    /// Puts the task at the index into the stage.
+    #[inline(always)]
+    pub fn replace_at(&mut self, index: usize, stage: Stage<L>)
+        ensures { (t : Name E) → IsAt self.old index t → Sets E.eq self.old t (standing stage) self.new }
+    {
+        if let Some(place) = self.stages.get_index_mut(index) {
             *place = stage;
         }
     }
 
     /// Adds a task, or replaces the one that has its name.
     pub fn insert(&mut self, name: TaskName<E>, stage: Stage<L>) -> Result<(), AllocError>
-        ensures { MatchResult result (λ _. Sets E.eq self.old name (standing stage) self.new) (λ _. self.new ≡ self.old) }
+        ensures set { MatchResult result (λ _. Sets E.eq self.old name (standing stage) self.new) (λ _. self.new ≡ self.old) }
+        // The others keep their indices.
+        ensures stay { IfOk result (λ _. (i : ℕ) (t : Name E) → IsAt self.old i t → IsAt self.new i t) }
     {
         self.stages.insert(name, stage)?;
         Ok(())

@@ -1,14 +1,18 @@
 -- Work that is added to an agenda.
-use Rattle.std.proofs.Common.{◌≡◌, ◌⊎◌, ◌↔◌, inl, inr, true, cond, List, [], ◌∷◌, ◌++◌, Option, Some, None, Ordering, sym, ap, ◌∙◌, subst, Equal, is_eq}
+use Rattle.std.proofs.Common.{◌≡◌, ◌⊎◌, ◌↔◌, inl, inr, true, cond, List, [], ◌∷◌, ◌++◌, Option, Some, None, Ordering, refl, sym, ap, ◌∙◌, subst, Equal, is_eq}
 use Rattle.std.proofs.lemmas.Bool.{cases_Bool, both_ways}
+use Rattle.std.proofs.lemmas.Option.{none-some}
 use Rattle.std.specs.Cmp.{Equal-is}
 use Rattle.lvish_names.specs.NameOrder.{name_cmp, handler_cmp}
 use Rattle.lvish_names.specs.Names.{Name, Handler}
 use Rattle.lvish_board.specs.declared.work.Work.{Work}
 use Rattle.lvish_board.specs.declared.work.Work.TheVariants.{Stretch, Act as ActOn, Hand as HandTo}
 use Rattle.lvish_board.specs.Place.{TaskPlace}
-use Rattle.lvish_core.specs.laws.Lists.{either_among, among_first, among_last}
-use Rattle.lvish_run.specs.Agenda.{Open, SetsOpenTask, HasHandler, IsTaskOf, Adds}
+use Rattle.lvish_board.specs.Listed.{stretches, acts, handings}
+use Rattle.lvish_core.specs.laws.Lists.{either_among, among_first, among_last, among_map}
+use Rattle.lvish_board.proofs.Among.{of_map}
+use Rattle.lvish_calculus.specs.Handing.{IsAmong}
+use Rattle.lvish_run.specs.Agenda.{Open, SetsOpenTask, HasHandler, Opens, IsTaskOf, Adds}
 
 module _ {K V : Type 0} (c : K → K → Ordering) (exact : (t u : K) → (c t u ≡ Equal) ↔ (t ≡ u)) (old new : K → V) (t : K) (x : V) (has : (u : K) → new u ≡ cond (is_eq (c t u)) x (old u)) where
   -- where something was written, and elsewhere
@@ -18,6 +22,65 @@ module _ {K V : Type 0} (c : K → K → Ordering) (exact : (t u : K) → (c t u
     | inr is ↦ inr (λ e. both_ways _ is (ap is_eq ((exact t u).1 e)), has u ∙ ap (λ b. cond b x (old u)) is)
   ]
 
+module _ {L E : Type 0} where
+  module _ (cmp : E → E → Ordering) (old new : Open E L) where
+    -- a task is opened
+    module _ (exact : (t u : Name E) → (name_cmp cmp t u ≡ Equal) ↔ (t ≡ u)) (p : TaskPlace E L) (has : SetsOpenTask cmp old p.task (Some p) new) where
+      at : (t : Name E) → ((p.task ≡ t) × (new.at t ≡ Some p)) ⊎ ((p.task ≡ t → ⊥) × (new.at t ≡ old.at t))
+      at t = written (name_cmp cmp) exact old.at new.at p.task (Some p) has.at t
+
+      pub opens_task : Opens (p ∷ []) [] old new
+      opens_task = record {
+        from = λ t q e. elim (at t) [
+          | inl z ↦
+              let both : Some p ≡ Some q = sym z.1 ∙ e in
+              let same : p ≡ q = cc in
+              inr (ap (λ r. r.task) (sym same) ∙ z.0, inl (sym same))
+          | inr z ↦ inl (sym z.1 ∙ e)
+        ];
+        kept = λ t none. elim (at t) [
+          | inl z ↦ absurd (let no : None ≡ Some p = sym none ∙ z.1 in let n : ⊥ = cc in n)
+          | inr z ↦ (sym z.1 ∙ none, λ q i e. elim i [ inl same ↦ z.0 (ap (λ r. r.task) (sym same) ∙ e) | inr n ↦ n ])
+        ];
+        hands = λ h none. (ap (λ f. f h) (sym has.has) ∙ none, λ z. z);
+      }
+
+    -- a handler is opened
+    pub opens_handler : ((h k : Handler E) → (handler_cmp cmp h k ≡ Equal) ↔ (h ≡ k)) → (h : Handler E) → HasHandler cmp old h true new → Opens [] (h ∷ []) old new
+    opens_handler exact h has = record {
+      from = λ t p e. inl (ap (λ f. f t) (sym has.at) ∙ e);
+      kept = λ t none. (ap (λ f. f t) (sym has.at) ∙ none, λ q i e. i);
+      hands = λ k none. elim (written (handler_cmp cmp) exact old.has new.has h true has.has k) [
+        | inl z ↦ absurd (both_ways _ none z.1)
+        | inr z ↦ (sym z.1 ∙ none, λ i. elim i [ inl e ↦ z.0 (sym e) | inr n ↦ n ])
+      ];
+    }
+
+  pub opens_none : (a : Open E L) → Opens [] [] a a
+  opens_none a = record {
+    from = λ t p e. inl e;
+    kept = λ t none. (none, λ q i e. i);
+    hands = λ h none. (none, λ z. z);
+  }
+
+  -- some are opened, and then more
+  module _ (ps qs : List (TaskPlace E L)) (hs ks : List (Handler E)) (a b c : Open E L) where
+    pub opens_more : Opens ps hs a b → Opens qs ks b c → Opens (ps ++ qs) (hs ++ ks) a c
+    opens_more one others = record {
+      from = λ t p e. elim (others.from t p e) [
+        | inl was ↦ elim (one.from t p was) [ inl before ↦ inl before | inr z ↦ inr (z.0, among_first p ps qs z.1) ]
+        | inr z ↦ inr (z.0, among_last p ps qs z.1)
+      ];
+      kept = λ t none.
+          let z = others.kept t none in
+          let y = one.kept t z.0 in
+          (y.0, λ p i e. elim (either_among p ps qs i) [ inl j ↦ y.1 p j e | inr j ↦ z.1 p j e ]);
+      hands = λ h none.
+          let z = others.hands h none in
+          let y = one.hands h z.0 in
+          (y.0, λ i. elim (either_among h hs ks i) [ inl j ↦ y.1 j | inr j ↦ z.1 j ]);
+    }
+
 module _ {P J S L R A W E : Type 0} where
   -- the task of a piece of work
   abbrev pub place_in : Work P J S L R A W E → Option (TaskPlace E L)
@@ -25,91 +88,88 @@ module _ {P J S L R A W E : Type 0} where
   place_in (ActOn p) = Some p
   place_in (HandTo h) = None
 
+  -- the handler of a piece of work
+  abbrev handler_in : Work P J S L R A W E → Option (Handler E)
+  handler_in (HandTo h) = Some h
+  handler_in w = None
+
   pub task_of_one : (w : Work P J S L R A W E) (p : TaskPlace E L) → IsTaskOf (w ∷ []) p → place_in w ≡ Some p
   task_of_one w p (inl (inl e)) = ap place_in (sym e)
   task_of_one w p (inl (inr z)) = absurd z
   task_of_one w p (inr (inl e)) = ap place_in (sym e)
   task_of_one w p (inr (inr z)) = absurd z
 
+  -- work whose tasks and handlers were opened was added
+  pub adds_opened : (ws : List (Work P J S L R A W E)) (ps : List (TaskPlace E L)) (hs : List (Handler E)) (a b : Open E L) → Opens ps hs a b → ((p : TaskPlace E L) → IsAmong p ps → IsTaskOf ws p) → ((p : TaskPlace E L) → IsTaskOf ws p → IsAmong p ps) → ((h : Handler E) → IsAmong (HandTo h) ws → IsAmong h hs) → Adds ws a b
+  adds_opened ws ps hs a b opens listed task_of handler_of = record {
+    from = λ t p e. elim (opens.from t p e) [ inl was ↦ inl was | inr z ↦ inr (z.0, listed p z.1) ];
+    kept = λ t none. let z = opens.kept t none in (z.0, λ p i e. z.1 p (task_of p i) e);
+    hands = λ h none. let z = opens.hands h none in (z.0, λ i. z.1 (handler_of h i));
+  }
+
   module _ (cmp : E → E → Ordering) (old new : Open E L) (w : Work P J S L R A W E) where
     -- the work of a task
-    module _ (exact : (t u : Name E) → (name_cmp cmp t u ≡ Equal) ↔ (t ≡ u)) (p : TaskPlace E L) (has : SetsOpenTask cmp old p.task (Some p) new) (is : place_in w ≡ Some p) (own : IsTaskOf (w ∷ []) p) where
-      at : (t : Name E) → ((p.task ≡ t) × (new.at t ≡ Some p)) ⊎ ((p.task ≡ t → ⊥) × (new.at t ≡ old.at t))
-      at t = written (name_cmp cmp) exact old.at new.at p.task (Some p) has.at t
-
-      only : (q : TaskPlace E L) → IsTaskOf (w ∷ []) q → p ≡ q
-      only q i = let both : Some p ≡ Some q = sym is ∙ task_of_one w q i in let same : p ≡ q = cc in same
-
-      pub adds_task : Adds (w ∷ []) old new
-      adds_task = record {
-        from = λ t q e. elim (at t) [
-          | inl z ↦
-              let both : Some p ≡ Some q = sym z.1 ∙ e in
-              let same : p ≡ q = cc in
-              inr (ap (λ r. r.task) (sym same) ∙ z.0, subst (λ r. IsTaskOf (w ∷ []) r) same own)
-          | inr z ↦ inl (sym z.1 ∙ e)
-        ];
-        kept = λ t none. elim (at t) [
-          | inl z ↦ absurd (let no : None ≡ Some p = sym none ∙ z.1 in let n : ⊥ = cc in n)
-          | inr z ↦ (sym z.1 ∙ none, λ q i e. z.0 (ap (λ r. r.task) (only q i) ∙ e))
-        ];
-        hands = λ h none. (
-          ap (λ f. f h) (sym has.has) ∙ none,
-          λ i. elim i [
-            | inl e ↦ let no : None ≡ Some p = ap place_in e ∙ is in let n : ⊥ = cc in n
-            | inr z ↦ z
-          ],
-        );
-      }
+    pub adds_task : ((t u : Name E) → (name_cmp cmp t u ≡ Equal) ↔ (t ≡ u)) → (p : TaskPlace E L) → SetsOpenTask cmp old p.task (Some p) new → place_in w ≡ Some p → IsTaskOf (w ∷ []) p → Adds (w ∷ []) old new
+    adds_task exact p has is own = adds_opened (w ∷ []) (p ∷ []) [] old new (opens_task cmp old new exact p has)
+        (λ q i. elim i [ inl same ↦ subst (λ r. IsTaskOf (w ∷ []) r) (sym same) own | inr n ↦ absurd n ])
+        (λ q i. let both : Some p ≡ Some q = sym is ∙ task_of_one w q i in let same : q ≡ p = cc in inl same)
+        (λ h i. elim i [ inl e ↦ let no : None ≡ Some p = ap place_in e ∙ is in absurd (let n : ⊥ = cc in n) | inr n ↦ n ])
 
     -- the work of a handler
     pub adds_handler : ((h k : Handler E) → (handler_cmp cmp h k ≡ Equal) ↔ (h ≡ k)) → (h : Handler E) → HasHandler cmp old h true new → w ≡ HandTo h → Adds (w ∷ []) old new
-    adds_handler exact h has is = record {
-      from = λ t p e. inl (ap (λ f. f t) (sym has.at) ∙ e);
-      kept = λ t none. (ap (λ f. f t) (sym has.at) ∙ none, λ q i. absurd (let no : None ≡ Some q = ap place_in (sym is) ∙ task_of_one w q i in let n : ⊥ = cc in n));
-      hands = λ k none. elim (written (handler_cmp cmp) exact old.has new.has h true has.has k) [
-        | inl z ↦ absurd (both_ways _ none z.1)
-        | inr z ↦ (
-          sym z.1 ∙ none,
-          λ i. elim i [
-            | inl e ↦ z.0 (let both = e ∙ is in let same : h ≡ k = cc in same)
-            | inr n ↦ n
-          ],
-        )
-      ];
-    }
+    adds_handler exact h has is = adds_opened (w ∷ []) [] (h ∷ []) old new (opens_handler cmp old new exact h has)
+        (λ q i. absurd i)
+        (λ q i. absurd (let no : None ≡ Some q = ap place_in (sym is) ∙ task_of_one w q i in let n : ⊥ = cc in n))
+        (λ k i. elim i [ inl e ↦ let both : Some k ≡ Some h = ap handler_in (e ∙ is) in let same : k ≡ h = cc in inl same | inr n ↦ absurd n ])
 
-  pub adds_none : (a : Open E L) → Adds {P = P} {J = J} {S = S} {R = R} {A = A} {W = W} [] a a
-  adds_none a = record {
-    from = λ t p e. inl e;
-    kept = λ t none. (none, λ q i. elim i [ inl z ↦ absurd z | inr z ↦ absurd z ]);
-    hands = λ h none. (none, λ z. z);
-  }
+-- the work of a list
+module _ {P J S L R A W E : Type 0} (ws : List (Work P J S L R A W E)) (ts woken : List (TaskPlace E L)) (hs : List (Handler E)) (is : ws ≡ stretches ts ++ acts woken ++ handings hs) where
+  parts : (w : Work P J S L R A W E) → IsAmong w ws → IsAmong w (stretches ts) ⊎ (IsAmong w (acts woken) ⊎ IsAmong w (handings hs))
+  parts w i = elim (either_among w (stretches ts ++ acts woken) (handings hs) (subst (λ us. IsAmong w us) is i)) [
+    | inr j ↦ inr (inr j)
+    | inl j ↦ elim (either_among w (stretches ts) (acts woken) j) [ inl k ↦ inl k | inr k ↦ inr (inl k) ]
+  ]
 
-  -- some work, and then more
-  module _ (us ws : List (Work P J S L R A W E)) (a b c : Open E L) where
-    first_of : (p : TaskPlace E L) → IsTaskOf us p → IsTaskOf (us ++ ws) p
-    first_of p i = elim i [ inl j ↦ inl (among_first (Stretch p) us ws j) | inr j ↦ inr (among_first (ActOn p) us ws j) ]
+  of_work : (w : Work P J S L R A W E) (p : TaskPlace E L) → place_in w ≡ Some p → IsAmong w ws → IsAmong p ts ⊎ IsAmong p woken
+  of_work w p at i = elim (parts w i) [
+    | inl j ↦ let z = of_map {Y = Work P J S L R A W E} (λ q. Stretch q) w ts j in inl (subst (λ q. IsAmong q ts) (same z.0 (ap place_in z.2 ∙ at)) z.1)
+    | inr (inl j) ↦ let z = of_map {Y = Work P J S L R A W E} (λ q. ActOn q) w woken j in inr (subst (λ q. IsAmong q woken) (same z.0 (ap place_in z.2 ∙ at)) z.1)
+    | inr (inr j) ↦ let z = of_map {Y = Work P J S L R A W E} (λ h. HandTo h) w hs j in absurd (none-some p (ap place_in z.2 ∙ at))
+  ]
+    where
+      same : (q : TaskPlace E L) → Some q ≡ Some p → q ≡ p
+      same q e = cc
 
-    later_of : (p : TaskPlace E L) → IsTaskOf ws p → IsTaskOf (us ++ ws) p
-    later_of p i = elim i [ inl j ↦ inl (among_last (Stretch p) us ws j) | inr j ↦ inr (among_last (ActOn p) us ws j) ]
+  pub task_from : (p : TaskPlace E L) → IsTaskOf ws p → IsAmong p ts ⊎ IsAmong p woken
+  task_from p (inl i) = of_work (Stretch p) p refl i
+  task_from p (inr i) = of_work (ActOn p) p refl i
 
-    either_of : (p : TaskPlace E L) → IsTaskOf (us ++ ws) p → IsTaskOf us p ⊎ IsTaskOf ws p
-    either_of p (inl i) = elim (either_among (Stretch p) us ws i) [ inl j ↦ inl (inl j) | inr j ↦ inr (inl j) ]
-    either_of p (inr i) = elim (either_among (ActOn p) us ws i) [ inl j ↦ inl (inr j) | inr j ↦ inr (inr j) ]
+  listed : (w : Work P J S L R A W E) → IsAmong w (stretches ts) ⊎ (IsAmong w (acts woken) ⊎ IsAmong w (handings hs)) → IsAmong w ws
+  listed w i = subst (λ us. IsAmong w us) (sym is) (elim i [
+    | inl j ↦ among_first w (stretches ts ++ acts woken) (handings hs) (among_first w (stretches ts) (acts woken) j)
+    | inr (inl j) ↦ among_first w (stretches ts ++ acts woken) (handings hs) (among_last w (stretches ts) (acts woken) j)
+    | inr (inr j) ↦ among_last w (stretches ts ++ acts woken) (handings hs) j
+  ])
 
-    pub adds_more : Adds us a b → Adds ws b c → Adds (us ++ ws) a c
-    adds_more one others = record {
-      from = λ t p e. elim (others.from t p e) [
-        | inl was ↦ elim (one.from t p was) [ inl before ↦ inl before | inr z ↦ inr (z.0, first_of p z.1) ]
-        | inr z ↦ inr (z.0, later_of p z.1)
-      ];
-      kept = λ t none.
-          let z = others.kept t none in
-          let y = one.kept t z.0 in
-          (y.0, λ p i e. elim (either_of p i) [ inl j ↦ y.1 p j e | inr j ↦ z.1 p j e ]);
-      hands = λ h none.
-          let z = others.hands h none in
-          let y = one.hands h z.0 in
-          (y.0, λ i. elim (either_among (HandTo h) us ws i) [ inl j ↦ y.1 j | inr j ↦ z.1 j ]);
-    }
+  pub ticket_listed : (p : TaskPlace E L) → IsAmong p ts → IsTaskOf ws p
+  ticket_listed p i = inl (listed (Stretch p) (inl (among_map {Y = Work P J S L R A W E} (λ q. Stretch q) p ts i)))
+
+  pub woken_listed : (p : TaskPlace E L) → IsAmong p woken → IsTaskOf ws p
+  woken_listed p i = inr (listed (ActOn p) (inr (inl (among_map {Y = Work P J S L R A W E} (λ q. ActOn q) p woken i))))
+
+  pub handler_listed : (h : Handler E) → IsAmong h hs → IsAmong (HandTo h) ws
+  handler_listed h i = listed (HandTo h) (inr (inr (among_map {Y = Work P J S L R A W E} (λ k. HandTo k) h hs i)))
+
+  handler_from : (h : Handler E) → IsAmong (HandTo h) ws → IsAmong h hs
+  handler_from h i = elim (parts (HandTo h) i) [
+    | inl j ↦ let z = of_map {Y = Work P J S L R A W E} (λ q. Stretch q) (HandTo h) ts j in absurd (none-some z.0 (sym (ap place_in z.2)))
+    | inr (inl j) ↦ let z = of_map {Y = Work P J S L R A W E} (λ q. ActOn q) (HandTo h) woken j in absurd (none-some z.0 (sym (ap place_in z.2)))
+    | inr (inr j) ↦ let z = of_map {Y = Work P J S L R A W E} (λ k. HandTo k) (HandTo h) hs j in subst (λ k. IsAmong k hs) (same z.0 (ap handler_in z.2)) z.1
+  ]
+    where
+      same : (k : Handler E) → Some k ≡ Some h → k ≡ h
+      same k e = cc
+
+  -- what its tasks and handlers open, the list adds
+  pub adds_listed : (a b : Open E L) → Opens (ts ++ woken) hs a b → Adds ws a b
+  adds_listed a b opens = adds_opened ws (ts ++ woken) hs a b opens (λ p i. elim (either_among p ts woken i) [ inl j ↦ ticket_listed p j | inr j ↦ woken_listed p j ]) (λ p i. elim (task_from p i) [ inl j ↦ among_first p ts woken j | inr j ↦ among_last p ts woken j ]) handler_from

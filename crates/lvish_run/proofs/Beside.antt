@@ -1,5 +1,5 @@
 -- An agenda stays beside its board.
-use Rattle.std.proofs.Common.{◌≡◌, ◌⊎◌, inl, inr, ℕ, false, List, [], ◌∷◌, ◌++◌, Option, Some, None, Ordering, refl, sym, ap, ◌∙◌, subst, IsSome, if◌then◌else◌}
+use Rattle.std.proofs.Common.{◌≡◌, inl, inr, ℕ, false, List, [], ◌∷◌, ◌++◌, Option, Some, None, Ordering, refl, sym, ap, ◌∙◌, subst, IsSome, if◌then◌else◌}
 use Rattle.std.proofs.lemmas.List.{map_push}
 use Rattle.std.proofs.lemmas.Option.{none-some}
 use Rattle.lvish_calculus.specs.declared.label.Label.{Label}
@@ -17,17 +17,16 @@ use Rattle.lvish_core.specs.CoreLaws.{HandsWhatComes}
 use Rattle.lvish_core.specs.Changes.{local_of, moved_by, moved_in}
 use Rattle.lvish_board.specs.declared.trace_entry.TraceEntry.{TraceEntry}
 use Rattle.lvish_board.specs.declared.work.Work.{Work}
-use Rattle.lvish_board.specs.declared.work.Work.TheVariants.{Stretch, Act as ActOn, Hand as HandTo}
+use Rattle.lvish_board.specs.declared.work.Work.TheVariants.{Stretch}
 use Rattle.lvish_board.specs.Place.{TaskPlace}
 use Rattle.lvish_board.specs.Standing.{Standing, tasks_of, labels_of, IsCurrent, IsBoardSound, IsOpened}
-use Rattle.lvish_board.specs.Listed.{IsListed, Concerns, by_handing, HasNext, tickets, stretches, acts, handings}
+use Rattle.lvish_board.specs.Listed.{IsListed, Concerns, by_handing, HasNext, tickets}
 use Rattle.lvish_board.specs.Woken.{IsParkedBeside}
 use Rattle.lvish_run.specs.Agenda.{Open, Adds, IsTaskOf, IsBeside, IsEmpty}
 use Rattle.lvish_run.specs.Walk.{IsEntered}
-use Rattle.lvish_core.specs.laws.Lists.{either_among, among_first, among_last, among_map}
-use Rattle.lvish_board.proofs.Among.{of_map}
+use Rattle.lvish_core.specs.laws.Lists.{among_map}
 use Rattle.lvish_board.proofs.Steps.{of_task, no_fault}
-use Rattle.lvish_run.proofs.Agendas.{place_in, task_of_one}
+use Rattle.lvish_run.proofs.Agendas.{place_in, task_of_one, task_from, ticket_listed, woken_listed, handler_listed}
 use Rattle.lvish_run.proofs.Placed.{place, stays_at, came_by, ticket_at}
 use Rattle.lvish_run.proofs.Upcoming.{to_hand_before, has_next}
 use Rattle.std.proofs.lemmas.Bool.{cases_Bool, false≢true}
@@ -51,45 +50,6 @@ is_task_in (Hand h x) t e = absurd (let z : ⊥ = cc in z)
 is_handler_in : {E : Type 0} (l : Label E) (h : Handler E) → handler_in l ≡ Some h → (e : E) × (l ≡ Hand h e)
 is_handler_in (Act u) h e = absurd (let z : ⊥ = cc in z)
 is_handler_in (Hand k x) h e = let same : k ≡ h = cc in (x, ap (λ g. Hand g x) same)
-
--- ---- the work of a list
-
-module _ {P J S L R A W E : Type 0} (ws : List (Work P J S L R A W E)) (ts woken : List (TaskPlace E L)) (hs : List (Handler E)) (is : ws ≡ stretches ts ++ acts woken ++ handings hs) where
-  parts : (w : Work P J S L R A W E) → IsAmong w ws → IsAmong w (stretches ts) ⊎ (IsAmong w (acts woken) ⊎ IsAmong w (handings hs))
-  parts w i = elim (either_among w (stretches ts ++ acts woken) (handings hs) (subst (λ us. IsAmong w us) is i)) [
-    | inr j ↦ inr (inr j)
-    | inl j ↦ elim (either_among w (stretches ts) (acts woken) j) [ inl k ↦ inl k | inr k ↦ inr (inl k) ]
-  ]
-
-  of_work : (w : Work P J S L R A W E) (p : TaskPlace E L) → place_in w ≡ Some p → IsAmong w ws → IsAmong p ts ⊎ IsAmong p woken
-  of_work w p at i = elim (parts w i) [
-    | inl j ↦ let z = of_map {Y = Work P J S L R A W E} (λ q. Stretch q) w ts j in inl (subst (λ q. IsAmong q ts) (same z.0 (ap place_in z.2 ∙ at)) z.1)
-    | inr (inl j) ↦ let z = of_map {Y = Work P J S L R A W E} (λ q. ActOn q) w woken j in inr (subst (λ q. IsAmong q woken) (same z.0 (ap place_in z.2 ∙ at)) z.1)
-    | inr (inr j) ↦ let z = of_map {Y = Work P J S L R A W E} (λ h. HandTo h) w hs j in absurd (none-some p (ap place_in z.2 ∙ at))
-  ]
-    where
-      same : (q : TaskPlace E L) → Some q ≡ Some p → q ≡ p
-      same q e = cc
-
-  task_from : (p : TaskPlace E L) → IsTaskOf ws p → IsAmong p ts ⊎ IsAmong p woken
-  task_from p (inl i) = of_work (Stretch p) p refl i
-  task_from p (inr i) = of_work (ActOn p) p refl i
-
-  listed : (w : Work P J S L R A W E) → IsAmong w (stretches ts) ⊎ (IsAmong w (acts woken) ⊎ IsAmong w (handings hs)) → IsAmong w ws
-  listed w i = subst (λ us. IsAmong w us) (sym is) (elim i [
-    | inl j ↦ among_first w (stretches ts ++ acts woken) (handings hs) (among_first w (stretches ts) (acts woken) j)
-    | inr (inl j) ↦ among_first w (stretches ts ++ acts woken) (handings hs) (among_last w (stretches ts) (acts woken) j)
-    | inr (inr j) ↦ among_last w (stretches ts ++ acts woken) (handings hs) j
-  ])
-
-  ticket_listed : (p : TaskPlace E L) → IsAmong p ts → IsTaskOf ws p
-  ticket_listed p i = inl (listed (Stretch p) (inl (among_map {Y = Work P J S L R A W E} (λ q. Stretch q) p ts i)))
-
-  woken_listed : (p : TaskPlace E L) → IsAmong p woken → IsTaskOf ws p
-  woken_listed p i = inr (listed (ActOn p) (inr (inl (among_map {Y = Work P J S L R A W E} (λ q. ActOn q) p woken i))))
-
-  handler_listed : (h : Handler E) → IsAmong h hs → IsAmong (HandTo h) ws
-  handler_listed h i = listed (HandTo h) (inr (inr (among_map {Y = Work P J S L R A W E} (λ k. HandTo k) h hs i)))
 
 -- ---- one step of a board
 

@@ -2,10 +2,12 @@ mod Placed
 mod Upcoming
 mod Beside
 mod Firsts
+mod FirstTask
 mod Agendas
 mod Turns
 mod Walks
 mod Reports
+mod Accounts
 mod Texts
 pub mod Braces
 mod Counted

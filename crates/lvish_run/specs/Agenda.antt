@@ -1,6 +1,7 @@
 -- The tasks that may go on and the handlers that may have something left, beside a board.
-use Rattle.std.specs.Prelude.{◌≡◌, ◌⊎◌, ◌+◌, ℕ, Bool, true, false, cond, length, List, Option, Some, None, IsSome}
+use Rattle.std.specs.Prelude.{◌≡◌, ◌⊎◌, ◌+◌, ℕ, Bool, true, false, cond, length, List, [], ◌∷◌, Option, Some, None, IsSome}
 use Rattle.std.specs.declared.cmp.Ordering.{Ordering}
+use Rattle.std.specs.declared.cmp.Ordering.TheVariants.{Less}
 use Rattle.std.specs.Ordering.{is_eq, is_gt}
 use Rattle.std.specs.List.{list_any}
 use Rattle.std.specs.Map.{lookup}
@@ -38,6 +39,24 @@ open_in cmp a = record {
   handlers = length a.handlers;
 }
 
+-- the same but at this task's name, where x is
+abbrev pub PutsAt : {E L : Type 0} → (E → E → Ordering) → List (Name E × TaskPlace E L) → Name E → Option (TaskPlace E L) → List (Name E × TaskPlace E L) → Type 0
+PutsAt {E} cmp old t x new = (u : Name E) → lookup (is_at (name_cmp cmp u)) new ≡ cond (is_eq (name_cmp cmp t u)) x (lookup (is_at (name_cmp cmp u)) old)
+
+-- the name is below that of each of these tasks
+abbrev pub IsBelow : {E L : Type 0} → (E → E → Ordering) → Name E → List (Name E × TaskPlace E L) → Type 0
+IsBelow {E} cmp t es = (u : Name E) → IsSome (lookup (is_at (name_cmp cmp u)) es) → name_cmp cmp t u ≡ Less
+
+-- a task that stands before the others, under its name
+abbrev pub entry_of : {E L : Type 0} → Option (TaskPlace E L) → List (Name E × TaskPlace E L)
+entry_of None = []
+entry_of (Some p) = (p.task, p) ∷ []
+
+-- a task that stands before the others is below them
+abbrev pub IsFirstOf : {E L : Type 0} → (E → E → Ordering) → Option (TaskPlace E L) → List (Name E × TaskPlace E L) → Type 0
+IsFirstOf cmp None es = Unit {0}
+IsFirstOf cmp (Some p) es = IsBelow cmp p.task es
+
 -- nothing is open
 pub record IsEmpty {E L : Type 0} (a : Open E L) : Type 0 where
   pub at : (t : Name E) → a.at t ≡ None
@@ -74,6 +93,12 @@ pub record IsHandlerGone {E L : Type 0} (cmp : E → E → Ordering) (old : Open
   pub first : (k : Handler E) → old.has k ≡ true → is_gt (handler_cmp cmp h k) ≡ false
   pub without : HasHandler cmp old h false new
   pub fewer : new.handlers + 1 ≡ old.handlers
+
+-- these tasks and handlers were opened
+pub record Opens {E L : Type 0} (ps : List (TaskPlace E L)) (hs : List (Handler E)) (old new : Open E L) : Type 0 where
+  pub from : (t : Name E) (p : TaskPlace E L) → new.at t ≡ Some p → (old.at t ≡ Some p) ⊎ ((p.task ≡ t) × IsAmong p ps)
+  pub kept : (t : Name E) → new.at t ≡ None → (old.at t ≡ None) × ((p : TaskPlace E L) → IsAmong p ps → p.task ≡ t → ⊥)
+  pub hands : (h : Handler E) → new.has h ≡ false → (old.has h ≡ false) × (IsAmong h hs → ⊥)
 
 -- the work is the task's
 abbrev pub IsTaskOf : {P J S L R A W E : Type 0} → List (Work P J S L R A W E) → TaskPlace E L → Type 0

@@ -112,9 +112,13 @@ pub record IsWalked {P S E R A L : Type 0} (cmp : E → E → Ordering) (M : Mac
   pub within : length trace ≤ budget
   pub stopped : (length trace ≡ budget) ⊎ IsStuck M c
 
--- the states and frozen marks of these variables
-abbrev pub AreCopies : {S E : Type 0} → List (Variable S E) → List (FinalState S) → Type 0
-AreCopies variables states = states ≡ map (λ x. record { content = x.state; frozen = x.frozen }) variables
+-- a variable's state and mark
+abbrev pub final_state : {S E : Type 0} → Variable S E → FinalState S
+final_state x = record { content = x.state; frozen = x.frozen }
+
+-- the states and marks of these variables
+abbrev pub AreStatesOf : {S E : Type 0} → List (Variable S E) → List (FinalState S) → Type 0
+AreStatesOf variables states = states ≡ map final_state variables
 
 -- how a core's steps came out: it can take no label, or one; or its last step gave this error
 abbrev pub IsHow : {P S E R A L : Type 0} → Machine S E R A L → CoreView P S E L → Outcome E → Type 0

@@ -1,5 +1,5 @@
 ghost use Rattle.std.specs.Prelude.{◌≡◌, IfOk};
-ghost use Rattle.lvish_run.specs.Walk.{IsHow, IsAccount, AreCopies};
+ghost use Rattle.lvish_run.specs.Walk.{IsHow, IsAccount, AreStatesOf};
 
 use crate::report::{Counts, FinalState, Report, States, Trace};
 use lvish_board::{Outcome, TraceEntry};
@@ -48,19 +48,17 @@ impl<S, E> Account<S, E> {
     }
 }
 
-/// Copies of the variables' states and marks.
+/// The variables' states and marks.
 fn final_states<S: Lattice>(
     alloc: Global,
-    variables: &[Variable<S>],
+    variables: Vec<Variable<S>>,
 ) -> Result<States<S>, AllocError>
-    ensures { IfOk result (λ s. AreCopies variables.now s) }
+    ensures { IfOk result (λ s. AreStatesOf variables.items s) }
 {
     let mut states = Vec::new(alloc);
     for variable in variables {
-        states.push(FinalState {
-            content: variable.state().copy(alloc)?,
-            frozen: variable.is_frozen(),
-        })?;
+        let (content, frozen) = variable.into_state();
+        states.push(FinalState { content, frozen })?;
     }
     Ok(States::from(states))
 }
@@ -102,12 +100,13 @@ pub fn outcome_of<P: Program>(
 /// The account of a core whose steps came out like this.
 pub fn account_of<P: Program>(
     alloc: Global,
-    core: &Core<'_, P>,
+    core: Core<'_, P>,
     outcome: Outcome<<P::Lat as Lattice>::Event>,
 ) -> Result<Account<P::Lat, <P::Lat as Lattice>::Event>, AllocError>
     ensures outcome { IfOk result (λ a. a.outcome ≡ outcome) }
-    ensures account { IfOk result (λ a. IsAccount (⟦<P as Meaning>⟧.machine core.now.program) (P.functions core.now.program).variables core.now a.outcome a.states a.blocked) }
+    ensures account { IfOk result (λ a. IsAccount (⟦<P as Meaning>⟧.machine core.entry.program) (P.functions core.entry.program).variables core.entry a.outcome a.states a.blocked) }
 {
+    let blocked = core.running() as u64;
     match &outcome {
         Outcome::Error { .. } => Ok(Account {
             outcome,
@@ -116,8 +115,8 @@ pub fn account_of<P: Program>(
         }),
         Outcome::Ended | Outcome::Budget => Ok(Account {
             outcome,
-            states: final_states(alloc, core.states())?,
-            blocked: core.running() as u64,
+            states: final_states(alloc, core.into_states())?,
+            blocked,
         }),
     }
 }

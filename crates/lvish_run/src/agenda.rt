@@ -1,19 +1,24 @@
 //! The tasks that may go on, and the handlers that may have something left for them.
 
-ghost use Rattle.std.specs.Prelude.{◌≡◌, true, None, Some, IfOk, MatchOption};
-ghost use Rattle.lvish_run.specs.Agenda.{open_in, IsEmpty, SetsOpenTask, HasHandler, NoTask, NoHandler, IsTaskGone, IsHandlerGone};
+ghost use Rattle.std.specs.Prelude.{◌≡◌, true, None, Some, IfOk, IfErr, MatchOption};
+ghost use Rattle.std.specs.BTreeMap.{IsUnchanged};
+ghost use Rattle.lvish_run.specs.Agenda.{open_in, IsEmpty, SetsOpenTask, HasHandler, NoTask, NoHandler, IsTaskGone, IsHandlerGone, PutsAt, IsBelow};
 
 use lvish_board::{Asked, Named};
 use lvish_calculus::Program;
 use lvish_lattice::Lattice;
 use lvish_names::{HandlerName, TaskName};
 use std::alloc::{AllocError, Global};
+use std::cmp::Ordering;
 use std::collections::{BTreeMap, BTreeSet};
 use std::marker::Model;
 
 /// The open tasks, each with what it asks for, and the open handlers, both by name.
 pub(crate) struct Agenda<P: Program, J: Named<P>> {
-    tasks: BTreeMap<TaskName<<P::Lat as Lattice>::Event>, Asked<P, J>>,
+    // the first open task, where it doesn't stand among the others: a task that goes on is mostly the
+    // first again, and is then taken from here with no tree changed
+    first: Option<Asked<P, J>>,
+    others: BTreeMap<TaskName<<P::Lat as Lattice>::Event>, Asked<P, J>>,
     handlers: BTreeSet<HandlerName<<P::Lat as Lattice>::Event>>,
 }
 
@@ -21,18 +26,54 @@ pub(crate) struct Agenda<P: Program, J: Named<P>> {
 impl<P: Program, J: Named<P>> Drop for Agenda<P, J> {
     fn drop(self) {
         let Agenda {
-            tasks: _,
+            first: _,
+            others: _,
             handlers: _,
         } = self;
     }
 }
 
 impl<P: Program, J: Named<P>> Model for Agenda<P, J> {
-    ghost use Rattle.lvish_run.specs.Agenda.{Agenda};
+    ghost use Rattle.std.specs.Prelude.{◌++◌};
+    ghost use Rattle.lvish_run.specs.Agenda.{Agenda, entry_of, IsFirstOf};
 
     ghost Value = { Agenda P.Lat.Event P.Local };
 
-    ghost view = { λ a. record { tasks = a.tasks.entries; handlers = a.handlers.keys } };
+    ghost view = { λ a. record { tasks = entry_of a.first ++ a.others.entries; handlers = a.handlers.keys } };
+
+    ghost invariant = { λ a. IsFirstOf P.Lat.Event.cmp a.first a.others.entries };
+}
+
+/// Whether the name is below that of each of these tasks.
+fn is_below<P: Program, J: Named<P>>(
+    name: &TaskName<<P::Lat as Lattice>::Event>,
+    others: &BTreeMap<TaskName<<P::Lat as Lattice>::Event>, Asked<P, J>>,
+) -> bool
+    ensures { result ≡ true → IsBelow P.Lat.Event.cmp name.now others.now.entries }
+{
+    match others.first_key_value() {
+        Some((least, _asked)) => match name.cmp(least) {
+            Ordering::Less => true,
+            Ordering::Equal => false,
+            Ordering::Greater => false,
+        },
+        None => true,
+    }
+}
+
+/// Puts the task among the others, in place of any of its name.
+fn keep<P: Program, J: Named<P>>(
+    others: &mut BTreeMap<TaskName<<P::Lat as Lattice>::Event>, Asked<P, J>>,
+    asked: Asked<P, J>,
+) -> Result<(), AllocError>
+    ensures ok { IfOk result (λ _. PutsAt P.Lat.Event.cmp others.old.entries asked.task (Some asked) others.new.entries) }
+    ensures err { IfErr result (λ _. IsUnchanged others.old others.new) }
+{
+    let name = asked.task().copy()?;
+    match others.insert(name, asked) {
+        Ok(_) => Ok(()),
+        Err(_) => Err(AllocError),
+    }
 }
 
 impl<P: Program, J: Named<P>> Agenda<P, J> {
@@ -41,7 +82,8 @@ impl<P: Program, J: Named<P>> Agenda<P, J> {
         ensures { IsEmpty (open_in P.Lat.Event.cmp result) }
     {
         Agenda {
-            tasks: BTreeMap::new(alloc),
+            first: None,
+            others: BTreeMap::new(alloc),
             handlers: BTreeSet::new(alloc),
         }
     }
@@ -50,7 +92,10 @@ impl<P: Program, J: Named<P>> Agenda<P, J> {
     pub(crate) fn pop_task(&mut self) -> Option<Asked<P, J>>
         ensures { MatchOption result (NoTask (open_in P.Lat.Event.cmp self.old) × (self.new ≡ self.old)) (λ p. IsTaskGone P.Lat.Event.cmp (open_in P.Lat.Event.cmp self.old) p (open_in P.Lat.Event.cmp self.new)) }
     {
-        let Some((_, asked)) = self.tasks.pop_first() else {
+        if self.first.is_some() {
+            return self.first.take();
+        }
+        let Some((_, asked)) = self.others.pop_first() else {
             return None;
         };
         Some(asked)
@@ -64,7 +109,15 @@ impl<P: Program, J: Named<P>> Agenda<P, J> {
         ensures was { result ≡ (open_in P.Lat.Event.cmp self.old).at name.now }
         ensures without { SetsOpenTask P.Lat.Event.cmp (open_in P.Lat.Event.cmp self.old) name.now None (open_in P.Lat.Event.cmp self.new) }
     {
-        self.tasks.remove(name)
+        match &self.first {
+            Some(first) => {
+                if first.task().cmp(name).is_eq() {
+                    return self.first.take();
+                }
+                self.others.remove(name)
+            }
+            None => self.others.remove(name),
+        }
     }
 
     /// Takes the first open handler out.
@@ -78,10 +131,25 @@ impl<P: Program, J: Named<P>> Agenda<P, J> {
     pub(crate) fn open_task(&mut self, asked: Asked<P, J>) -> Result<(), AllocError>
         ensures { IfOk result (λ _. SetsOpenTask P.Lat.Event.cmp (open_in P.Lat.Event.cmp self.old) asked.task (Some asked) (open_in P.Lat.Event.cmp self.new)) }
     {
-        let name = asked.task().copy()?;
-        match self.tasks.insert(name, asked) {
-            Ok(_) => Ok(()),
-            Err(_) => Err(AllocError),
+        match &self.first {
+            Some(first) => match asked.task().cmp(first.task()) {
+                Ordering::Less => match self.first.replace(asked) {
+                    Some(second) => keep(&mut self.others, second),
+                    None => Ok(()),
+                },
+                Ordering::Equal => {
+                    self.first = Some(asked);
+                    Ok(())
+                }
+                Ordering::Greater => keep(&mut self.others, asked),
+            },
+            None => {
+                if is_below(asked.task(), &self.others) {
+                    self.first = Some(asked);
+                    return Ok(());
+                }
+                keep(&mut self.others, asked)
+            }
         }
     }
 

@@ -51,8 +51,8 @@ pub(crate) fn told<P: Program, J: Named<P>>(
 {
     handing_kept::<P>();
     same_end::<P>();
-    let account = account_of(alloc, board.core(), outcome)?;
-    let trace = board.into_trace();
+    let (core, trace) = board.into_parts();
+    let account = account_of(alloc, core, outcome)?;
     Ok(account.report(trace.len() as u64, trace, by_worker))
 }
 

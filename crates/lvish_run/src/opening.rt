@@ -1,13 +1,31 @@
 //! What work opens in an agenda.
 
-ghost use Rattle.std.specs.Prelude.{◌≡◌, ◌∷◌, [], IfOk};
-ghost use Rattle.lvish_board.specs.Listed.{works_of};
-ghost use Rattle.lvish_run.specs.Agenda.{open_in, Adds};
+ghost use Rattle.std.specs.Prelude.{◌≡◌, ◌∷◌, [], IfOk, Some};
+ghost use Rattle.lvish_board.specs.Listed.{works_of, option_list};
+ghost use Rattle.lvish_run.specs.Agenda.{open_in, SetsOpenTask, Opens, Adds};
 
 use crate::agenda::Agenda;
-use lvish_board::{Named, Work, Works, stretch};
+use lvish_board::{Asked, Named, Ticket, Work, Works, stretch};
 use lvish_calculus::Program;
+use lvish_lattice::Lattice;
+use lvish_names::HandlerName;
 use std::alloc::{AllocError, Global};
+
+/// Opens the ticket's task, once its local statements are run.
+fn open_ticket<P: Program, J: Named<P>>(
+    alloc: Global,
+    program: &P,
+    agenda: &mut Agenda<P, J>,
+    ticket: Ticket<P, J>,
+) -> Result<(), AllocError>
+    requires program { program.now ≡ J.program }
+    ensures { IfOk result (λ _. SetsOpenTask P.Lat.Event.cmp (open_in P.Lat.Event.cmp agenda.old) ticket.task (Some ticket) (open_in P.Lat.Event.cmp agenda.new)) }
+{
+    match stretch(alloc, program, ticket) {
+        Ok(asked) => agenda.open_task(asked),
+        Err(_ticket) => Err(AllocError),
+    }
+}
 
 /// Opens what one piece of work is for. A task's local statements are run.
 pub(crate) fn open_one<P: Program, J: Named<P>>(
@@ -20,13 +38,52 @@ pub(crate) fn open_one<P: Program, J: Named<P>>(
     ensures { IfOk result (λ _. Adds (work ∷ []) (open_in P.Lat.Event.cmp agenda.old) (open_in P.Lat.Event.cmp agenda.new)) }
 {
     match work {
-        Work::Stretch(ticket) => match stretch(alloc, program, ticket) {
-            Ok(asked) => agenda.open_task(asked),
-            Err(_ticket) => Err(AllocError),
-        },
+        Work::Stretch(ticket) => open_ticket(alloc, program, agenda, ticket),
         Work::Act(asked) => agenda.open_task(asked),
         Work::Hand(handler) => agenda.open_handler(handler),
     }
+}
+
+/// Opens the ticket's task, if there is a ticket.
+fn open_some<P: Program, J: Named<P>>(
+    alloc: Global,
+    program: &P,
+    agenda: &mut Agenda<P, J>,
+    ticket: Option<Ticket<P, J>>,
+) -> Result<(), AllocError>
+    requires program { program.now ≡ J.program }
+    ensures { IfOk result (λ _. Opens (option_list ticket) [] (open_in P.Lat.Event.cmp agenda.old) (open_in P.Lat.Event.cmp agenda.new)) }
+{
+    match ticket {
+        Some(ticket) => open_ticket(alloc, program, agenda, ticket),
+        None => Ok(()),
+    }
+}
+
+/// Opens the tasks that a step woke.
+fn open_woken<P: Program, J: Named<P>>(
+    agenda: &mut Agenda<P, J>,
+    woken: Vec<Asked<P, J>>,
+) -> Result<(), AllocError>
+    ensures { IfOk result (λ _. Opens woken.items [] (open_in P.Lat.Event.cmp agenda.old) (open_in P.Lat.Event.cmp agenda.new)) }
+{
+    for asked in woken {
+        agenda.open_task(asked)?;
+    }
+    Ok(())
+}
+
+/// Opens these handlers.
+fn open_hands<P: Program, J: Named<P>>(
+    agenda: &mut Agenda<P, J>,
+    hands: Vec<HandlerName<<P::Lat as Lattice>::Event>>,
+) -> Result<(), AllocError>
+    ensures { IfOk result (λ _. Opens [] hands.items (open_in P.Lat.Event.cmp agenda.old) (open_in P.Lat.Event.cmp agenda.new)) }
+{
+    for handler in hands {
+        agenda.open_handler(handler)?;
+    }
+    Ok(())
 }
 
 /// Opens what the work of a step is for.
@@ -39,9 +96,14 @@ pub(crate) fn open_all<P: Program, J: Named<P>>(
     requires program { program.now ≡ J.program }
     ensures { IfOk result (λ _. Adds (works_of works) (open_in P.Lat.Event.cmp agenda.old) (open_in P.Lat.Event.cmp agenda.new)) }
 {
-    let list = works.into_list(alloc)?;
-    for work in list {
-        open_one(alloc, program, agenda, work)?;
-    }
-    Ok(())
+    let Works {
+        own,
+        made,
+        woken,
+        hands,
+    } = works;
+    open_some(alloc, program, agenda, own)?;
+    open_some(alloc, program, agenda, made)?;
+    open_woken(agenda, woken)?;
+    open_hands(agenda, hands)
 }

@@ -13,7 +13,7 @@ use crate::named::Named;
 use crate::outcome::Outcome;
 use crate::work::Work;
 use lvish_calculus::{Meaning, Program};
-use lvish_core::{CoreMeaning, TaskCounts};
+use lvish_core::{CoreMeaning, TaskNumbers};
 use std::alloc::Global;
 
 impl<'p, P: Program, J: Named<P>> Board<'p, P, J> {
@@ -59,7 +59,7 @@ impl<'p, P: Program, J: Named<P>> Board<'p, P, J> {
     }
 
     /// The task's numbers, where it is there in the local state in which it asks.
-    fn current(&self, asked: &Asked<P, J>) -> Option<TaskCounts>
+    fn current(&self, asked: &Asked<P, J>) -> Option<TaskNumbers>
         ensures { MatchOption result (⟦<P as CoreMeaning>⟧.local_in self.now.core asked.now.task ≢ Some asked.now.from) (λ n. ⟦<P as CoreMeaning>⟧.is_live self.now.core asked.now.task asked.now.from n) }
     {
         match self.core.standing_of(asked.task()) {

@@ -18,7 +18,7 @@ use crate::works::Works;
 use lvish_calculus::laws::lawful;
 use lvish_calculus::{ErrorKind, Label, Meaning, Program};
 use lvish_core::laws::{passes_at_its_spot, waiting_tasks};
-use lvish_core::{Core, CoreMeaning, Moved, StepFault, Stepped, TaskCounts};
+use lvish_core::{Core, CoreMeaning, Moved, StepFault, Stepped, TaskNumbers};
 use lvish_lattice::{Lattice, Plain};
 use lvish_names::TaskName;
 use std::alloc::{AllocError, Global};
@@ -29,7 +29,7 @@ impl<'p, P: Program, J: Named<P>> Board<'p, P, J> {
         &mut self,
         alloc: Global,
         worker: usize,
-        numbers: TaskCounts,
+        numbers: TaskNumbers,
         asked: Asked<P, J>,
     ) -> Acted<P, J>
         requires running { self.old.over ≡ None }
@@ -103,7 +103,7 @@ fn step_with_room<P: Program, J: Named<P>>(
     room: &mut Room<P, J>,
     parked: usize,
     worker: usize,
-    numbers: TaskCounts,
+    numbers: TaskNumbers,
     asked: &Asked<P, J>,
 ) -> Result<(usize, Stepped, Moved<<P::Lat as Lattice>::Event, P::Local>), StepFault>
     requires program { core.old.program ≡ J.program }
@@ -157,7 +157,7 @@ fn step<P: Program, J: Named<P>>(
     core: &mut Core<'_, P>,
     trace: &mut Vec<TraceEntry<<P::Lat as Lattice>::Event>>,
     entry: TraceEntry<<P::Lat as Lattice>::Event>,
-    numbers: TaskCounts,
+    numbers: TaskNumbers,
     asked: &Asked<P, J>,
 ) -> Result<(Stepped, Moved<<P::Lat as Lattice>::Event, P::Local>), StepFault>
     requires program { core.old.program ≡ J.program }

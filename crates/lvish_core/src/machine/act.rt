@@ -2,12 +2,13 @@
 
 ghost use Rattle.std.specs.Prelude.{◌<◌};
 ghost use Rattle.lvish_core.specs.Acts.{IsActing, Acts};
+ghost use Rattle.lvish_core.specs.Tasks.{IsAt};
 
 use super::Core;
 use crate::fault::{StepFault, Stepped};
 use crate::limits::MOST_STEPS;
 use crate::moved::Moved;
-use crate::stage::TaskCounts;
+use crate::stage::TaskNumbers;
 use lvish_calculus::{Meaning, Program, Reply, Request};
 use lvish_lattice::{Lattice, Reads};
 use lvish_names::TaskName;
@@ -20,11 +21,12 @@ impl<'p, P: Program> Core<'p, P> {
         alloc: Global,
         name: &TaskName<<P::Lat as Lattice>::Event>,
         at: &P::Local,
-        numbers: TaskCounts,
+        numbers: TaskNumbers,
         request: &Request<P::Lat, <P::Lat as Reads>::Read, P::Local>,
     ) -> Result<(Stepped, Moved<<P::Lat as Lattice>::Event, P::Local>), StepFault>
         requires room { self.old.steps < MOST_STEPS }
         requires acting { IsActing (⟦<P as Meaning>⟧.machine self.old.program) self.old name.now at.now numbers.forks numbers.adds numbers.puts request.now }
+        requires there { IsAt self.old.table.tasks numbers.index name.now }
         ensures { Acts (⟦<P as Meaning>⟧.machine self.old.program) self.old name.now self.new result }
     {
         match request {

@@ -3,6 +3,7 @@
 ghost use Rattle.std.specs.Prelude.{◌≡◌, ◌<◌};
 ghost use Rattle.lvish_calculus.specs.declared.request.Request.TheVariants.{Add};
 ghost use Rattle.lvish_core.specs.Acts.{IsActing, IsSeating, Acts};
+ghost use Rattle.lvish_core.specs.Tasks.{IsAt};
 ghost use Rattle.lvish_core.specs.Core.{state};
 
 use super::Core;
@@ -13,7 +14,7 @@ use crate::limits::MOST_STEPS;
 use crate::moved::Moved;
 use crate::resumed::resumed;
 use crate::seat::seat;
-use crate::stage::TaskCounts;
+use crate::stage::TaskNumbers;
 use crate::touched::Touched;
 use lvish_calculus::laws::lawful;
 use lvish_calculus::{ErrorKind, Meaning, Program, Reply};
@@ -30,12 +31,13 @@ impl<'p, P: Program> Core<'p, P> {
         alloc: Global,
         name: &TaskName<<P::Lat as Lattice>::Event>,
         at: &P::Local,
-        numbers: TaskCounts,
+        numbers: TaskNumbers,
         pool: usize,
         procedure: usize,
     ) -> Result<(Stepped, Moved<<P::Lat as Lattice>::Event, P::Local>), StepFault>
         requires room { self.old.steps < MOST_STEPS }
         requires acting { IsActing (⟦<P as Meaning>⟧.machine self.old.program) self.old name.now at.now numbers.forks numbers.adds numbers.puts (Add pool procedure) }
+        requires there { IsAt self.old.table.tasks numbers.index name.now }
         ensures { Acts (⟦<P as Meaning>⟧.machine self.old.program) self.old name.now self.new result }
     {
         lawful::<P>();
@@ -61,12 +63,13 @@ impl<'p, P: Program> Core<'p, P> {
         alloc: Global,
         name: &TaskName<<P::Lat as Lattice>::Event>,
         at: &P::Local,
-        numbers: TaskCounts,
+        numbers: TaskNumbers,
         handler: HandlerName<<P::Lat as Lattice>::Event>,
         place: HandlerPlace,
     ) -> Result<(Stepped, Moved<<P::Lat as Lattice>::Event, P::Local>), StepFault>
         requires room { self.old.steps < MOST_STEPS }
         requires acting { IsActing (⟦<P as Meaning>⟧.machine self.old.program) self.old name.now at.now numbers.forks numbers.adds numbers.puts (Add place.pool place.procedure) }
+        requires there { IsAt self.old.table.tasks numbers.index name.now }
         requires seated { IsSeating (⟦<P as Meaning>⟧.machine self.old.program) self.old name.now numbers.adds handler place }
         ensures { Acts (⟦<P as Meaning>⟧.machine self.old.program) self.old name.now self.new result }
     {
@@ -76,7 +79,7 @@ impl<'p, P: Program> Core<'p, P> {
         names_are_new::<P>();
         handlers_are_held::<P>();
         let adds = handler.number();
-        let next = TaskCounts { adds, ..numbers };
+        let next = TaskNumbers { adds, ..numbers };
         let (stage, own) = resumed(self.program, alloc, at, Reply::Done, next)?;
         let on = &self.variables[place.variable];
         let added = seat(
@@ -91,7 +94,7 @@ impl<'p, P: Program> Core<'p, P> {
             &mut self.tasks,
             &mut self.steps,
             &mut self.touched,
-            name,
+            numbers.index,
             stage,
             Touched::Other,
         );

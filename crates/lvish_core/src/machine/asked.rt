@@ -8,7 +8,7 @@ use crate::core_meaning::CoreMeaning;
 use crate::fault::{StepFault, Stepped};
 use crate::limits::MOST_STEPS;
 use crate::moved::Moved;
-use crate::stage::{Stage, TaskCounts};
+use crate::stage::{Stage, TaskNumbers};
 use lvish_calculus::{Asks, Meaning, Program};
 use lvish_lattice::{Lattice, Reads};
 use lvish_names::TaskName;
@@ -35,17 +35,21 @@ impl<'p, P: Program> Core<'p, P> {
             return Err(StepFault::NotEnabled);
         }
         let Some(
-            Stage::Live {
-                forks,
-                adds,
-                puts,
-                ..
-            },
-        ) = self.tasks.get(name)
+            (
+                index,
+                Stage::Live {
+                    forks,
+                    adds,
+                    puts,
+                    ..
+                },
+            ),
+        ) = self.tasks.find(name)
         else {
             return Err(StepFault::NotEnabled);
         };
-        let numbers = TaskCounts {
+        let numbers = TaskNumbers {
+            index,
             forks: *forks,
             adds: *adds,
             puts: *puts,
@@ -65,7 +69,7 @@ impl<'p, P: Program> Core<'p, P> {
         &mut self,
         alloc: Global,
         name: &TaskName<<P::Lat as Lattice>::Event>,
-        numbers: TaskCounts,
+        numbers: TaskNumbers,
         asks: &Asks<P::Lat, <P::Lat as Reads>::Read, P::Local>,
     ) -> Result<(Stepped, Moved<<P::Lat as Lattice>::Event, P::Local>), StepFault>
         requires live { (local : P.Local) × ⟦<P as CoreMeaning>⟧.is_live self.old name.now local numbers }

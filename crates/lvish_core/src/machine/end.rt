@@ -3,6 +3,7 @@
 ghost use Rattle.std.specs.Prelude.{◌<◌};
 ghost use Rattle.lvish_calculus.specs.declared.request.Request.TheVariants.{End};
 ghost use Rattle.lvish_core.specs.Acts.{IsActing, Acts};
+ghost use Rattle.lvish_core.specs.Tasks.{IsAt};
 
 use super::Core;
 use crate::beside::end_at;
@@ -10,7 +11,7 @@ use crate::ending::close;
 use crate::fault::{StepFault, Stepped};
 use crate::limits::MOST_STEPS;
 use crate::moved::Moved;
-use crate::stage::{Stage, TaskCounts};
+use crate::stage::{Stage, TaskNumbers};
 use crate::touched::Touched;
 use lvish_calculus::laws::lawful;
 use lvish_calculus::{Meaning, Program};
@@ -24,10 +25,11 @@ impl<'p, P: Program> Core<'p, P> {
         &mut self,
         name: &TaskName<<P::Lat as Lattice>::Event>,
         at: &P::Local,
-        numbers: TaskCounts,
+        numbers: TaskNumbers,
     ) -> Result<(Stepped, Moved<<P::Lat as Lattice>::Event, P::Local>), StepFault>
         requires room { self.old.steps < MOST_STEPS }
         requires acting { IsActing (⟦<P as Meaning>⟧.machine self.old.program) self.old name.now at.now numbers.forks numbers.adds numbers.puts End }
+        requires there { IsAt self.old.table.tasks numbers.index name.now }
         ensures { Acts (⟦<P as Meaning>⟧.machine self.old.program) self.old name.now self.new result }
     {
         lawful::<P>();
@@ -43,7 +45,7 @@ impl<'p, P: Program> Core<'p, P> {
             &mut self.tasks,
             &mut self.steps,
             &mut self.touched,
-            name,
+            numbers.index,
             Stage::Ended,
             on,
         );

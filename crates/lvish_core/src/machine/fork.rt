@@ -3,6 +3,7 @@
 ghost use Rattle.std.specs.Prelude.{◌<◌};
 ghost use Rattle.lvish_calculus.specs.declared.request.Request.TheVariants.{Fork};
 ghost use Rattle.lvish_core.specs.Acts.{IsActing, Acts};
+ghost use Rattle.lvish_core.specs.Tasks.{IsAt};
 
 use super::Core;
 use crate::beside::start_at;
@@ -12,7 +13,7 @@ use crate::fault::{StepFault, Stepped};
 use crate::limits::MOST_STEPS;
 use crate::moved::Moved;
 use crate::resumed::resumed;
-use crate::stage::TaskCounts;
+use crate::stage::TaskNumbers;
 use crate::touched::Touched;
 use lvish_calculus::laws::lawful;
 use lvish_calculus::{ErrorKind, Meaning, Program, Reply};
@@ -28,11 +29,12 @@ impl<'p, P: Program> Core<'p, P> {
         alloc: Global,
         name: &TaskName<<P::Lat as Lattice>::Event>,
         at: &P::Local,
-        numbers: TaskCounts,
+        numbers: TaskNumbers,
         child: &P::Local,
     ) -> Result<(Stepped, Moved<<P::Lat as Lattice>::Event, P::Local>), StepFault>
         requires room { self.old.steps < MOST_STEPS }
         requires acting { IsActing (⟦<P as Meaning>⟧.machine self.old.program) self.old name.now at.now numbers.forks numbers.adds numbers.puts (Fork child.now) }
+        requires there { IsAt self.old.table.tasks numbers.index name.now }
         ensures { Acts (⟦<P as Meaning>⟧.machine self.old.program) self.old name.now self.new result }
     {
         lawful::<P>();
@@ -46,7 +48,7 @@ impl<'p, P: Program> Core<'p, P> {
         let Some(started) = child_of(self.program, alloc, name, forks, child)? else {
             return self.fail(name, ErrorKind::Deep, None);
         };
-        let next = TaskCounts { forks, ..numbers };
+        let next = TaskNumbers { forks, ..numbers };
         let (stage, own) = resumed(self.program, alloc, at, Reply::Done, next)?;
         self.tasks.insert(started.name, started.stage)?;
         start_at(&mut self.handlers, place);
@@ -55,7 +57,7 @@ impl<'p, P: Program> Core<'p, P> {
             &mut self.tasks,
             &mut self.steps,
             &mut self.touched,
-            name,
+            numbers.index,
             stage,
             Touched::Other,
         );

@@ -3,6 +3,7 @@
 ghost use Rattle.std.specs.Prelude.{◌<◌, ℕ, List};
 ghost use Rattle.lvish_calculus.specs.declared.request.Request.TheVariants.{Freeze};
 ghost use Rattle.lvish_core.specs.Acts.{IsActing, Acts};
+ghost use Rattle.lvish_core.specs.Tasks.{IsAt};
 
 use super::Core;
 use crate::beside::freeze_at;
@@ -11,7 +12,7 @@ use crate::fault::{StepFault, Stepped};
 use crate::limits::MOST_STEPS;
 use crate::moved::Moved;
 use crate::resumed::resumed;
-use crate::stage::TaskCounts;
+use crate::stage::TaskNumbers;
 use crate::touched::Touched;
 use lvish_calculus::laws::lawful;
 use lvish_calculus::{Meaning, Program, Reply};
@@ -27,11 +28,12 @@ impl<'p, P: Program> Core<'p, P> {
         alloc: Global,
         name: &TaskName<<P::Lat as Lattice>::Event>,
         at: &P::Local,
-        numbers: TaskCounts,
+        numbers: TaskNumbers,
         variable: usize,
     ) -> Result<(Stepped, Moved<<P::Lat as Lattice>::Event, P::Local>), StepFault>
         requires room { self.old.steps < MOST_STEPS }
         requires acting { (pools : List ℕ) × IsActing (⟦<P as Meaning>⟧.machine self.old.program) self.old name.now at.now numbers.forks numbers.adds numbers.puts (Freeze variable pools) }
+        requires there { IsAt self.old.table.tasks numbers.index name.now }
         ensures { Acts (⟦<P as Meaning>⟧.machine self.old.program) self.old name.now self.new result }
     {
         lawful::<P>();
@@ -45,7 +47,7 @@ impl<'p, P: Program> Core<'p, P> {
             &mut self.tasks,
             &mut self.steps,
             &mut self.touched,
-            name,
+            numbers.index,
             stage,
             Touched::Other,
         );

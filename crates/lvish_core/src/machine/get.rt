@@ -3,12 +3,13 @@
 ghost use Rattle.std.specs.Prelude.{◌<◌};
 ghost use Rattle.lvish_calculus.specs.declared.request.Request.TheVariants.{Get};
 ghost use Rattle.lvish_core.specs.Acts.{IsActing, Acts};
+ghost use Rattle.lvish_core.specs.Tasks.{IsAt};
 
 use super::Core;
 use crate::fault::{StepFault, Stepped};
 use crate::limits::MOST_STEPS;
 use crate::moved::Moved;
-use crate::stage::TaskCounts;
+use crate::stage::TaskNumbers;
 use lvish_calculus::{Meaning, Program, Reply};
 use lvish_lattice::{Lattice, Reads};
 use lvish_names::TaskName;
@@ -21,12 +22,13 @@ impl<'p, P: Program> Core<'p, P> {
         alloc: Global,
         name: &TaskName<<P::Lat as Lattice>::Event>,
         at: &P::Local,
-        numbers: TaskCounts,
+        numbers: TaskNumbers,
         variable: usize,
         read: &<P::Lat as Reads>::Read,
     ) -> Result<(Stepped, Moved<<P::Lat as Lattice>::Event, P::Local>), StepFault>
         requires room { self.old.steps < MOST_STEPS }
         requires acting { IsActing (⟦<P as Meaning>⟧.machine self.old.program) self.old name.now at.now numbers.forks numbers.adds numbers.puts (Get variable read.now) }
+        requires there { IsAt self.old.table.tasks numbers.index name.now }
         ensures { Acts (⟦<P as Meaning>⟧.machine self.old.program) self.old name.now self.new result }
     {
         match self.variables[variable].read(read) {

@@ -2,6 +2,7 @@
 
 ghost use Rattle.std.specs.Prelude.{◌<◌};
 ghost use Rattle.lvish_core.specs.Acts.{IsReplied, Acts};
+ghost use Rattle.lvish_core.specs.Tasks.{IsAt};
 
 use super::Core;
 use crate::ending::close;
@@ -9,7 +10,7 @@ use crate::fault::{StepFault, Stepped};
 use crate::limits::MOST_STEPS;
 use crate::moved::Moved;
 use crate::resumed::resumed;
-use crate::stage::TaskCounts;
+use crate::stage::TaskNumbers;
 use crate::touched::Touched;
 use lvish_calculus::laws::lawful;
 use lvish_calculus::{Meaning, Program, Reply};
@@ -25,11 +26,12 @@ impl<'p, P: Program> Core<'p, P> {
         alloc: Global,
         name: &TaskName<<P::Lat as Lattice>::Event>,
         at: &P::Local,
-        numbers: TaskCounts,
+        numbers: TaskNumbers,
         reply: Reply<P::Lat, <P::Lat as Reads>::Answer>,
     ) -> Result<(Stepped, Moved<<P::Lat as Lattice>::Event, P::Local>), StepFault>
         requires room { self.old.steps < MOST_STEPS }
         requires replied { IsReplied (⟦<P as Meaning>⟧.machine self.old.program) self.old name.now at.now numbers.forks numbers.adds numbers.puts reply }
+        requires there { IsAt self.old.table.tasks numbers.index name.now }
         ensures { Acts (⟦<P as Meaning>⟧.machine self.old.program) self.old name.now self.new result }
     {
         lawful::<P>();
@@ -41,7 +43,7 @@ impl<'p, P: Program> Core<'p, P> {
             &mut self.tasks,
             &mut self.steps,
             &mut self.touched,
-            name,
+            numbers.index,
             stage,
             Touched::Other,
         );

@@ -3,6 +3,7 @@
 ghost use Rattle.std.specs.Prelude.{◌<◌};
 ghost use Rattle.lvish_calculus.specs.declared.request.Request.TheVariants.{Put};
 ghost use Rattle.lvish_core.specs.Acts.{IsActing, IsRefused, Acts};
+ghost use Rattle.lvish_core.specs.Tasks.{IsAt};
 
 use super::Core;
 use crate::beside::put_at;
@@ -11,7 +12,7 @@ use crate::fault::{StepFault, Stepped};
 use crate::limits::MOST_STEPS;
 use crate::moved::Moved;
 use crate::resumed::resumed;
-use crate::stage::TaskCounts;
+use crate::stage::TaskNumbers;
 use crate::touched::Touched;
 use lvish_calculus::laws::lawful;
 use lvish_calculus::{ErrorKind, Meaning, Program, Reply};
@@ -28,12 +29,13 @@ impl<'p, P: Program> Core<'p, P> {
         alloc: Global,
         name: &TaskName<<P::Lat as Lattice>::Event>,
         at: &P::Local,
-        numbers: TaskCounts,
+        numbers: TaskNumbers,
         variable: usize,
         state: &P::Lat,
     ) -> Result<(Stepped, Moved<<P::Lat as Lattice>::Event, P::Local>), StepFault>
         requires room { self.old.steps < MOST_STEPS }
         requires acting { IsActing (⟦<P as Meaning>⟧.machine self.old.program) self.old name.now at.now numbers.forks numbers.adds numbers.puts (Put variable state.now) }
+        requires there { IsAt self.old.table.tasks numbers.index name.now }
         ensures { Acts (⟦<P as Meaning>⟧.machine self.old.program) self.old name.now self.new result }
     {
         lawful::<P>();
@@ -41,7 +43,7 @@ impl<'p, P: Program> Core<'p, P> {
         counts_kept::<P>();
         let program = self.program;
         let puts = numbers.puts + 1;
-        let next = TaskCounts { puts, ..numbers };
+        let next = TaskNumbers { puts, ..numbers };
         let (stage, own) = resumed(program, alloc, at, Reply::Done, next)?;
         if let Err(refused) = put_at(&mut self.variables, alloc, variable, name, puts, state) {
             return self.refuse(name, variable, refused);
@@ -51,7 +53,7 @@ impl<'p, P: Program> Core<'p, P> {
             &mut self.tasks,
             &mut self.steps,
             &mut self.touched,
-            name,
+            numbers.index,
             stage,
             on,
         );

@@ -7,7 +7,7 @@ use super::Core;
 use crate::core_meaning::CoreMeaning;
 use crate::drained::are_drained;
 use crate::fault::RunError;
-use crate::stage::{Stage, TaskCounts};
+use crate::stage::{Stage, TaskNumbers};
 use crate::touched::Touched;
 use lvish_calculus::laws::lawful;
 use lvish_calculus::{Meaning, Program};
@@ -32,20 +32,28 @@ impl<'p, P: Program> Core<'p, P> {
     pub fn standing_of(
         &self,
         name: &TaskName<<P::Lat as Lattice>::Event>,
-    ) -> Option<(&P::Local, TaskCounts)>
+    ) -> Option<(&P::Local, TaskNumbers)>
         ensures { MatchOption result (⟦<P as CoreMeaning>⟧.local_in self.now name.now ≡ None) (λ s. ⟦<P as CoreMeaning>⟧.is_live self.now name.now s.0.now s.1) }
     {
-        match self.tasks.get(name) {
+        match self.tasks.find(name) {
             Some(
-                Stage::Live {
-                    local,
-                    forks,
-                    adds,
-                    puts,
-                },
+                (
+                    index,
+                    Stage::Live {
+                        local,
+                        forks,
+                        adds,
+                        puts,
+                    },
+                ),
             ) => {
-                let (forks, adds, puts) = (*forks, *adds, *puts);
-                Some((local, TaskCounts { forks, adds, puts }))
+                let numbers = TaskNumbers {
+                    index,
+                    forks: *forks,
+                    adds: *adds,
+                    puts: *puts,
+                };
+                Some((local, numbers))
             }
             _ => None,
         }
@@ -104,6 +112,24 @@ impl<'p, P: Program> Core<'p, P> {
         ensures { ⟦<P as CoreMeaning>⟧.are_states self.now result.now }
     {
         &self.variables
+    }
+
+    /// The variables, without a copy; where there is an error, as they were before it.
+    pub fn into_states(self) -> Vec<Variable<P::Lat>>
+        ensures { ⟦<P as CoreMeaning>⟧.are_states self.entry result.items }
+    {
+        let Core {
+            program: _,
+            variables,
+            handlers: _,
+            tasks: _,
+            places: _,
+            running: _,
+            steps: _,
+            fault: _,
+            touched: _,
+        } = self;
+        variables
     }
 
     /// The number of steps made.

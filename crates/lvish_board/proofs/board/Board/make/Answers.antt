@@ -39,7 +39,7 @@ made g c =
     let k = c.in-Ok.ensures.made in
     let step = subst (λ r. IsStep M c.self.inside.core (Act c.args.asked.task) c.step_with_room.new.core r) c.in-Done.is k.step in
     let ok = c.lawful.ensures g.J.Named.program in
-    let at = ap local_of (rw (← c.self.view_is) at c.requires.live) in (
+    let at = ap local_of (rw (← c.self.view_is) at c.requires.live).0 in (
       act_made _ _ ok _ _ _ _ _ _ step at k.concerned k.long (labels_of c.self.inside.trace.items) c.self.invariant.1.leads _ k.told _ c.left_by-left.ensures.added,
       few_added _ _ ok _ _ _ _ _ _ step at k.concerned k.long c.left_by-left.result.added (c.left_by-left.ensures.added ∙ ap (λ m. m.added) k.told),
     )

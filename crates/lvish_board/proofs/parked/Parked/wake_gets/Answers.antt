@@ -5,8 +5,14 @@ use Rattle.lvish_core.specs.Core.{CanTake}
 use Rattle.lvish_board.specs.Shelved.{WaitsAt}
 use Rattle.lvish_board.specs.Woken.{MayWake}
 use Rattle.lvish_board.proofs.Woken.{may_first, may_more}
-use Rattle.lvish_board.proofs.Waking.{wakes_fewer, wakes_then}
+use Rattle.lvish_board.proofs.Lists.{no_get_waits}
+use Rattle.lvish_board.proofs.Waking.{wakes_fewer, wakes_none, wakes_then}
 use Rattle.lvish_board.proofs.parked.Parked.wake_gets.Goals as goal
+
+pub returns-then-is_empty : goal.returns-then-is_empty
+returns-then-is_empty g c = rw (← c.self.view_is) (wakes_none _ _ _ _ (λ p i may can.
+    let here = subst (λ x. MayWake g.P.Lat.Reads.spot_of g.P.Lat.Reads.watched (Some (Put c.args.variable)) c.args.fresh.now ((g.P.Program.functions x).request p.from)) c.requires.program may in
+    no_get_waits g.P.Lat.Spot.PartialEq.eq g.P.Lat.Reads.watched c.self.inside.gets.lists c.self.inside.freezes.lists (c.is_empty.ensures.0 c.if-is_empty.true) c.args.variable ((g.P.Program.functions g.J.Named.program).request p.from) p.task (c.self.invariant p i) g.P.Lat.Reads.spot_of c.args.fresh.now here))
 
 pub loop-entry-init : goal.loop-entry-init
 loop-entry-init g c = record {

@@ -1,6 +1,6 @@
 use Rattle.std.proofs.Common.{◌∙◌, ap, arith, add-one}
 use Rattle.lvish_calculus.specs.declared.request.Reply.TheVariants.{Done}
-use Rattle.lvish_core.proofs.Acts.{asks, fits_there, is_there}
+use Rattle.lvish_core.proofs.Acts.{asks, fits_there}
 use Rattle.lvish_core.proofs.Adds.{variable_is_there, marked, can_add, no_place, unseated, wanted, same_handlers, adding}
 use Rattle.lvish_core.proofs.Gets.{get_some}
 use Rattle.lvish_core.proofs.Written.{added_written}
@@ -28,9 +28,6 @@ seat-requires-clause-fits g c =
 pub seat-requires-clause-new : goal.seat-requires-clause-new
 seat-requires-clause-new g c = rw ((rw (← c.self.view_is) at c.requires.seated).named, add-one) (no_place (c.lawful.ensures c.self.inside.program.now) c.self.invariant (g.met.P.Program.lawful c.self.inside.program.now).known (rw (← c.self.view_is) at c.requires.acting) (c.names_are_new.ensures.handlers c.self.inside.program.now))
 
-pub close-requires-clause-there : goal.close-requires-clause-there
-close-requires-clause-there g c = is_there (rw (← c.self.view_is) at c.requires.acting)
-
 pub invariant_of-self : goal.invariant_of-self
 invariant_of-self g c = unseated c.self.invariant c.in_err-added.ensures.places c.deref_mut.ensures.value c.self.inside.handlers.ok.0 c.in_err-added.ensures.handlers
 
@@ -46,7 +43,7 @@ invariant_of-self-2 g c =
     let named = seated.named ∙ ap (λ n. record { adder = c.args.name.now; number = n }) (add-one c.args.numbers.adds) in
     let w = rw named at (added_written c.deref_mut.ensures.value c.self.inside.handlers.ok.0 c.in_ok-added.ensures.handlers) in
     let put_in = rw named at c.in_ok-added.ensures.places in
-    let sets = rw (c.in_ok-stage.ensures.stage, c.number-adds.ensures, named) at c.close.ensures.tasks in
+    let sets = rw (c.in_ok-stage.ensures.stage, c.number-adds.ensures, named) at (c.close.ensures.tasks c.args.name.now (rw (← c.self.view_is) at c.requires.there)) in
     rw (c.close.ensures.steps, c.close.ensures.touched)
     (adding (c.lawful.ensures c.self.inside.program.now) c.self.invariant (g.met.P.Program.lawful c.self.inside.program.now).known acts (rw (← c.self.view_is) at c.requires.room) (c.add_kept.ensures c.self.inside.program.now) (c.counts_kept.ensures.add c.self.inside.program.now) seated.shallow seated.own
     c.index-on.result.now (get_some _ _ _ known c.index-on.ensures) seated.unfrozen put_in w sets).1
@@ -59,7 +56,7 @@ returns g c =
     let named = seated.named ∙ ap (λ n. record { adder = c.args.name.now; number = n }) (add-one c.args.numbers.adds) in
     let w = rw named at (added_written c.deref_mut.ensures.value c.self.inside.handlers.ok.0 c.in_ok-added.ensures.handlers) in
     let put_in = rw named at c.in_ok-added.ensures.places in
-    let sets = rw (c.in_ok-stage.ensures.stage, c.number-adds.ensures, named) at c.close.ensures.tasks in
+    let sets = rw (c.in_ok-stage.ensures.stage, c.number-adds.ensures, named) at (c.close.ensures.tasks c.args.name.now (rw (← c.self.view_is) at c.requires.there)) in
     rw (← c.self.view_is, c.added.ensures, c.in_ok-stage.ensures.own, c.in_ok-added.ensures.named, named, c.close.ensures.steps, c.close.ensures.touched)
     (adding (c.lawful.ensures c.self.inside.program.now) c.self.invariant (g.met.P.Program.lawful c.self.inside.program.now).known acts (rw (← c.self.view_is) at c.requires.room) (c.add_kept.ensures c.self.inside.program.now) (c.counts_kept.ensures.add c.self.inside.program.now) seated.shallow seated.own
     c.index-on.result.now (get_some _ _ _ known c.index-on.ensures) seated.unfrozen put_in w sets).0

@@ -2,7 +2,7 @@ use Rattle.std.proofs.Common.{arith}
 use Rattle.lvish_core.specs.Beside.{one_less_in}
 use Rattle.lvish_core.proofs.Goes.{was_live}
 use Rattle.lvish_core.proofs.Counting.{can_end_in}
-use Rattle.lvish_core.proofs.Acts.{is_there, ending, some_runs}
+use Rattle.lvish_core.proofs.Acts.{ending, some_runs}
 use Rattle.lvish_core.proofs.Written.{counts_written}
 use Rattle.lvish_core.proofs.machine.Core.end.Goals as goal
 
@@ -14,16 +14,13 @@ end_at-requires g c =
 pub overflow_sub-self : goal.overflow_sub-self
 overflow_sub-self g c = omega (arith, some_runs (c.lawful.ensures c.self.inside.program.now) c.self.invariant (rw (← c.self.view_is) at c.requires.acting))
 
-pub close-requires-clause-there : goal.close-requires-clause-there
-close-requires-clause-there g c = is_there (rw (← c.self.view_is) at c.requires.acting)
-
 pub invariant_of-self : goal.invariant_of-self
 invariant_of-self g c =
     let placed = rw (← c.self.view_is) at c.in_ok-place.ensures in
     let counts = counts_written one_less_in c.in_ok-place.place _ _ _ c.deref_mut.ensures.value c.self.inside.handlers.ok.0 c.end_at.ensures in
     rw (c.close.ensures.steps, c.close.ensures.touched, c.ended_in-on.ensures)
     (ending (c.lawful.ensures c.self.inside.program.now) c.self.invariant (g.met.P.Program.lawful c.self.inside.program.now).known (c.plain_kept.ensures c.self.inside.program.now) (c.counts_kept.ensures.plain c.self.inside.program.now) (c.counts_follow.ensures.rest c.self.inside.program.now) placed
-    (rw (← c.self.view_is) at c.requires.acting) (rw (← c.self.view_is) at c.requires.room) (c.counts_follow.ensures.end c.self.inside.program.now) c.close.ensures.tasks counts).1
+    (rw (← c.self.view_is) at c.requires.acting) (rw (← c.self.view_is) at c.requires.room) (c.counts_follow.ensures.end c.self.inside.program.now) (c.close.ensures.tasks c.args.name.now (rw (← c.self.view_is) at c.requires.there)) counts).1
 
 pub returns : goal.returns
 returns g c =
@@ -31,4 +28,4 @@ returns g c =
     let counts = counts_written one_less_in c.in_ok-place.place _ _ _ c.deref_mut.ensures.value c.self.inside.handlers.ok.0 c.end_at.ensures in
     rw (← c.self.view_is, c.nothing.ensures, c.close.ensures.steps, c.close.ensures.touched, c.ended_in-on.ensures)
     (ending (c.lawful.ensures c.self.inside.program.now) c.self.invariant (g.met.P.Program.lawful c.self.inside.program.now).known (c.plain_kept.ensures c.self.inside.program.now) (c.counts_kept.ensures.plain c.self.inside.program.now) (c.counts_follow.ensures.rest c.self.inside.program.now) placed
-    (rw (← c.self.view_is) at c.requires.acting) (rw (← c.self.view_is) at c.requires.room) (c.counts_follow.ensures.end c.self.inside.program.now) c.close.ensures.tasks counts).0
+    (rw (← c.self.view_is) at c.requires.acting) (rw (← c.self.view_is) at c.requires.room) (c.counts_follow.ensures.end c.self.inside.program.now) (c.close.ensures.tasks c.args.name.now (rw (← c.self.view_is) at c.requires.there)) counts).0

@@ -1,7 +1,7 @@
 use Rattle.std.proofs.Common.{◌≡◌, ◌<◌, length, arith, add-one}
 use Rattle.lvish_calculus.specs.declared.request.Reply.TheVariants.{Done}
 use Rattle.lvish_core.proofs.Errors.{refused}
-use Rattle.lvish_core.proofs.Acts.{asks, few_numbers, fits_there, is_there, putting}
+use Rattle.lvish_core.proofs.Acts.{asks, few_numbers, fits_there, putting}
 use Rattle.lvish_core.proofs.Written.{put_written}
 use Rattle.lvish_core.proofs.machine.Core.put.Goals as goal
 
@@ -25,19 +25,16 @@ pub refuse-requires-clause-refused : goal.refuse-requires-clause-refused
 refuse-requires-clause-refused g c =
     refused (rw (← c.self.view_is) at c.requires.acting) c.deref_mut.ensures.value c.self.inside.variables.ok.0 c.in-Err.ensures.refused c.in-Err.refused c.in-Err.ensures.why
 
-pub close-requires-clause-there : goal.close-requires-clause-there
-close-requires-clause-there g c = is_there (rw (← c.self.view_is) at c.requires.acting)
-
 pub invariant_of-self-2 : goal.invariant_of-self-2
 invariant_of-self-2 g c =
     let w = rw add-one at (put_written c.deref_mut.ensures.value c.self.inside.variables.ok.0 c.in_default.ensures.ok) in
-    let sets = rw (c.in_ok-stage.ensures.stage, add-one) at c.close.ensures.tasks in
+    let sets = rw (c.in_ok-stage.ensures.stage, add-one) at (c.close.ensures.tasks c.args.name.now (rw (← c.self.view_is) at c.requires.there)) in
     rw (c.close.ensures.steps, c.close.ensures.touched)
     (putting (c.lawful.ensures c.self.inside.program.now) c.self.invariant (rw (← c.self.view_is) at c.requires.acting) (rw (← c.self.view_is) at c.requires.room) (c.put_kept.ensures c.self.inside.program.now) (c.counts_kept.ensures.put c.self.inside.program.now) w sets).1
 
 pub returns : goal.returns
 returns g c =
     let w = rw add-one at (put_written c.deref_mut.ensures.value c.self.inside.variables.ok.0 c.in_default.ensures.ok) in
-    let sets = rw (c.in_ok-stage.ensures.stage, add-one) at c.close.ensures.tasks in
+    let sets = rw (c.in_ok-stage.ensures.stage, add-one) at (c.close.ensures.tasks c.args.name.now (rw (← c.self.view_is) at c.requires.there)) in
     rw (← c.self.view_is, c.own.ensures, c.in_ok-stage.ensures.own, c.close.ensures.steps, c.close.ensures.touched)
     (putting (c.lawful.ensures c.self.inside.program.now) c.self.invariant (rw (← c.self.view_is) at c.requires.acting) (rw (← c.self.view_is) at c.requires.room) (c.put_kept.ensures c.self.inside.program.now) (c.counts_kept.ensures.put c.self.inside.program.now) w sets).0

@@ -1,0 +1,59 @@
+-- Where the tasks of a table stand.
+use Rattle.std.proofs.Common.{◌≡◌, ℕ, zero, suc, Bool, true, false, cond, List, [], ◌∷◌, ◌++◌, Option, Some, None, refl, sym, ap, subst, ◌∙◌, is_some}
+use Rattle.std.specs.Prelude.{slice_get}
+use Rattle.std.specs.Option.{option_map, unwrap_or}
+use Rattle.std.specs.Map.{keys_of, lookup_key}
+use Rattle.std.proofs.lemmas.Option.{slice_get-map}
+use Rattle.indexmap.specs.IndexMap.{IndexMap, get, insert_entry}
+use Rattle.indexmap.proofs.CallerLemmas.{insert_entry-new, keys-insert_entry-present}
+use Rattle.lvish_names.specs.Names.{Name}
+use Rattle.lvish_core.specs.Vocabulary.{Stage}
+use Rattle.lvish_core.specs.Tasks.{IsAt, standings}
+use Rattle.lvish_core.proofs.Maps.{names-standings}
+
+same_some : {X : Type 0} {x y : X} → Some x ≡ Some y → x ≡ y
+same_some {x = x} e = ap (λ o. unwrap_or o x) e
+
+-- the key that a look-up finds passes its test
+pub key_passes : {K X : Type 0} (test : K → Bool) (es : List (K × X)) (k : K) → lookup_key test es ≡ Some k → test k ≡ true
+key_passes test [] k found = absurd (cc found)
+key_passes test (e ∷ es) k found = by (test e.0) refl (key_passes test es k) found
+  where
+    by : (b : Bool) → test e.0 ≡ b → (lookup_key test es ≡ Some k → test k ≡ true) → cond b (Some e.0) (lookup_key test es) ≡ Some k → test k ≡ true
+    by true passes rest here = subst (λ q. test q ≡ true) (same_some here) passes
+    by false fails rest there = rest there
+
+-- what a list has at an index, a longer one has there
+pub at_still : {X : Type 0} (xs ys : List X) (i : ℕ) (x : X) → slice_get xs i ≡ Some x → slice_get (xs ++ ys) i ≡ Some x
+at_still [] ys i x e = absurd (cc e)
+at_still (y ∷ xs) ys zero x e = e
+at_still (y ∷ xs) ys (suc i) x e = at_still xs ys i x e
+
+module _ {E L : Type 0} where
+  -- an index of the names is one of the keys
+  pub at-keys : (es : List (Name E × Stage L)) (i : ℕ) (t : Name E) → slice_get (keys_of es) i ≡ Some t → IsAt (standings es) i t
+  at-keys es i t e = ap (λ ts. slice_get ts i) (names-standings es) ∙ e
+
+  keys-at : (es : List (Name E × Stage L)) (i : ℕ) (t : Name E) → IsAt (standings es) i t → slice_get (keys_of es) i ≡ Some t
+  keys-at es i t at = sym (ap (λ ts. slice_get ts i) (names-standings es)) ∙ at
+
+  -- the task of an entry stands at its index
+  pub stands_at : (es : List (Name E × Stage L)) (i : ℕ) (t u : Name E) (s : Stage L) → slice_get es i ≡ Some (u, s) → t ≡ u → IsAt (standings es) i t
+  stands_at es i t u s e same = at-keys es i t (slice_get-map (λ p. p.0) es i ∙ ap (option_map (λ p. p.0)) e ∙ ap Some (sym same))
+
+  -- where a task stands there is its entry
+  pub entry_at : (es : List (Name E × Stage L)) (i : ℕ) (t : Name E) → IsAt (standings es) i t → (s : Stage L) × (slice_get es i ≡ Some (t, s))
+  entry_at es i t at = by (slice_get es i) refl
+    where
+      by : (o : Option (Name E × Stage L)) → slice_get es i ≡ o → (s : Stage L) × (slice_get es i ≡ Some (t, s))
+      by None e = absurd (cc (sym (ap (option_map (λ p. p.0)) e) ∙ sym (slice_get-map (λ p. p.0) es i) ∙ keys-at es i t at))
+      by (Some p) e = (p.1, e ∙ ap (λ u. Some (u, p.1)) (same_some (sym (ap (option_map (λ p. p.0)) e) ∙ sym (slice_get-map (λ p. p.0) es i) ∙ keys-at es i t at)))
+
+  -- tasks keep their indices when one is put into the map
+  pub stay_at : {S : Type 0} (eq : Name E → Name E → Bool) (m : IndexMap (Name E) (Stage L) S) (t : Name E) (s : Stage L) (i : ℕ) (u : Name E)
+      → IsAt (standings m.entries) i u → IsAt (standings (insert_entry eq m.entries t s)) i u
+  stay_at eq m t s i u at = by (get eq m t) refl
+    where
+      by : (o : Option (Stage L)) → get eq m t ≡ o → IsAt (standings (insert_entry eq m.entries t s)) i u
+      by None none = subst (λ es. IsAt (standings es) i u) (sym (insert_entry-new eq m t s none)) (at-keys _ i u (slice_get-map (λ p. p.0) (m.entries ++ (t, s) ∷ []) i ∙ ap (option_map (λ p. p.0)) (at_still m.entries _ i _ (entry_at m.entries i u at).1)))
+      by (Some x) some = at-keys _ i u (ap (λ ks. slice_get ks i) (keys-insert_entry-present eq m t s (ap is_some some)) ∙ keys-at m.entries i u at)
