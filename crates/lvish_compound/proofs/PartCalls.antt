@@ -2,7 +2,7 @@
 use Rattle.std.proofs.Common.{◌≡◌, ◌↔◌, ℤ, pos, Bool, true, false, not, IsTrue, List, [], ◌∷◌, map, filter, refl, sym, ◌∙◌, ap}
 use Rattle.std.specs.Set.{is_member}
 use Rattle.std.specs.Ordering.{int_eq}
-use Rattle.std.proofs.lemmas.Cmp.{int_eq_equiv}
+use Rattle.std.proofs.lemmas.Cmp.{int_cmp_total, int_eq_equiv}
 use Rattle.lvish_lattice.specs.Lattice.{IsAtOrBelow, fresh_of}
 use Rattle.lvish_compound.specs.Vocabulary.{MaxCounter, Part, Empty, Set, Max, SideOf, One, Two}
 use Rattle.lvish_lattice.specs.GrowSet as set
@@ -12,7 +12,7 @@ use Rattle.lvish_compound.specs.EventNames.{part_event, number_event}
 use Rattle.lvish_compound.specs.Held.{HeldState, held, held_agrees}
 use Rattle.lvish_compound.proofs.Carried.{carried_leq, carried_fresh, held_carried, none_beyond, all_beyond}
 use Rattle.lvish_compound.specs.Parts.{joined, events_of, set_in, max_in}
-use Rattle.lvish_compound.specs.laws.PartLaws.{OfSet, OfMax, inside, sets_identical, maxes_identical, part_is_join}
+use Rattle.lvish_compound.specs.laws.PartLaws.{OfSet, OfMax, inside, sets_identical, maxes_identical, part_is_join, ties}
 use Rattle.lvish_compound.specs.Pair.{sides}
 use Rattle.lvish_compound.specs.laws.PairLaws.{sides_beyond}
 use Rattle.lvish_compound.specs.laws.Pointwise.{right_unit}
@@ -32,6 +32,10 @@ set_names (x ∷ xs) = ap (λ l. number_event kind.Set x ∷ l) (set_names xs)
 pub max_names : (xs : List ℤ) → map (number_event kind.Max) xs ≡ map (part_event (pos 0)) (sides [] (sides [] xs))
 max_names [] = refl
 max_names (x ∷ xs) = ap (λ l. number_event kind.Max x ∷ l) (max_names xs)
+
+-- what a put of one element brings to a set
+pub element_fresh : (old put : HeldState Set) (x : ℤ) → set.items_of put ≡ x ∷ [] → filter (λ n. not (is_member int_eq (set.items_of old) n)) (x ∷ []) ≡ fresh_of set.joined int_eq set.items_of old put
+element_fresh old put x only = ap (λ xs. filter (λ n. not (is_member int_eq (set.items_of old) n)) xs) (sym only) ∙ sym (set.set_fresh int_cmp_total int_eq (λ x y. refl) ties old put)
 
 -- a test of events by their kinds
 pub record IsByKind (eq : SideOf ℤ (SideOf ℤ ℤ) → SideOf ℤ (SideOf ℤ ℤ) → Bool) : Type 0 where

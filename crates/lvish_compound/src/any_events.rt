@@ -1,10 +1,12 @@
 //! The events of a script's variables, named by key, kind and number.
 
-ghost use Rattle.std.specs.Prelude.{◌≡◌, IfOk, map, pos, unwrap_or};
+ghost use Rattle.std.specs.Prelude.{◌≡◌, ◌∷◌, [], ⊤, IfOk, MatchOption, filter, map, not, pos, unwrap_or};
+ghost use Rattle.std.specs.Set.{is_member};
 ghost use Rattle.lvish_lattice.specs.Lattice.{fresh_of};
 ghost use Rattle.lvish_compound.specs.EventNames.{part_event, number_event, entry_event, side_event, tally_event};
 ghost use Rattle.std.specs.Option.{option_copied};
 ghost use Rattle.lvish_lattice.specs.Flat as flat;
+ghost use Rattle.lvish_lattice.specs.GrowSet as grow_set;
 ghost use Rattle.lvish_lattice.specs.declared.flat.Flat.TheVariants.{Bottom, Value};
 ghost use Rattle.lvish_compound.specs.Keyed.{of_key};
 ghost use Rattle.lvish_compound.specs.MapOf as map_of;
@@ -58,15 +60,52 @@ pub(crate) fn fresh_in_part(alloc: Global, old: &Part, put: &Part) -> Result<Vec
     ensures { IfOk result (λ v. v.items ≡ map (part_event (pos 0)) (fresh_of joined ⟦<PartEvent as PartialEq>⟧.eq events_of old.now put.now)) }
 {
     match (old, put) {
-        (Part::Set(a), Part::Set(b)) => {
-            let numbers = GrowSet::fresh(alloc, &a.state, &b.state)?;
-            numbered(alloc, Kind::Set, &numbers)
-        }
+        (Part::Set(a), Part::Set(b)) => fresh_in_set(alloc, &a.state, &b.state),
         (Part::Max(a), Part::Max(b)) => {
             let numbers = MaxCounter::fresh(alloc, &a.state, &b.state)?;
             numbered(alloc, Kind::Max, &numbers)
         }
         _ => part_events(alloc, &Part::fresh(alloc, old, put)?),
+    }
+}
+
+/// The only element of a set; `None` where it has several, or none.
+fn only_of(set: &GrowSet<i64>) -> Option<i64>
+    ensures { MatchOption result ⊤ (λ x. grow_set.items_of set.now ≡ x ∷ []) }
+{
+    let mut items = set.items();
+    match (items.next(), items.next()) {
+        (Some(number), None) => Some(*number),
+        _ => None,
+    }
+}
+
+/// What a number brings to a set: its event, where the set doesn't have it.
+fn element_events(alloc: Global, held: &GrowSet<i64>, number: i64) -> Result<Vec<Event>, AllocError>
+    ensures { IfOk result (λ v. v.items ≡ map (number_event Kind.Set) (filter (λ n. not (is_member ⟦<i64 as PartialEq>⟧.eq (grow_set.items_of held.now) n)) (number ∷ []))) }
+{
+    if held.has(number) {
+        return Ok(Vec::new(alloc));
+    }
+    numbered(alloc, Kind::Set, &[number])
+}
+
+/// The events that a put brings to a set.
+///
+/// That of a put of one element, as most are, is made with no list of numbers before it.
+fn fresh_in_set(
+    alloc: Global,
+    old: &GrowSet<i64>,
+    put: &GrowSet<i64>,
+) -> Result<Vec<Event>, AllocError>
+    ensures { IfOk result (λ v. v.items ≡ map (number_event Kind.Set) (fresh_of grow_set.joined ⟦<i64 as PartialEq>⟧.eq grow_set.items_of old.now put.now)) }
+{
+    match only_of(put) {
+        Some(number) => element_events(alloc, old, number),
+        None => {
+            let numbers = GrowSet::fresh(alloc, old, put)?;
+            numbered(alloc, Kind::Set, &numbers)
+        }
     }
 }
 
