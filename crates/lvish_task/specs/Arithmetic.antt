@@ -1,5 +1,5 @@
 -- What operators make of numbers of 64 bits.
-use Rattle.std.specs.Prelude.{ℤ, pos, ◌+ℤ◌, ◌-ℤ◌, ◌*ℤ◌, int_div, int_rem, int_lt, Bool, Result, Ok, Err, if◌then◌else◌}
+use Rattle.std.specs.Prelude.{ℤ, pos, ◌+ℤ◌, ◌-ℤ◌, ◌*ℤ◌, int_div, int_rem, int_lt, Bool, true, false, Result, Ok, Err, if◌then◌else◌}
 use Rattle.std.specs.Ordering.{int_eq}
 use Rattle.lvish_syntax.specs.Written.{is_within}
 use Rattle.lvish_syntax.specs.declared.operator.Operator.{Operator}
@@ -28,3 +28,16 @@ combined Divide a b = dividing a b (int_div a b)
 combined Remainder a b = dividing a b (int_rem a b)
 combined Less a b = Ok (truth (int_lt a b))
 combined Equal a b = Ok (truth (int_eq a b))
+
+-- whether an operator makes a sum, a difference or a product
+abbrev pub accumulates : Operator → Bool
+accumulates Add = true
+accumulates Subtract = true
+accumulates Multiply = true
+accumulates o = false
+
+-- whether an operator compares
+abbrev pub compares : Operator → Bool
+compares Less = true
+compares Equal = true
+compares o = false

@@ -1,5 +1,5 @@
 -- Local statements of one frame, one after the other.
-use Rattle.std.specs.Prelude.{◌≡◌, ℕ, ℤ, ◌+◌, ◌-◌, List, [], Option, Some, None, Result, Ok, Err}
+use Rattle.std.specs.Prelude.{◌≡◌, ℕ, ℤ, ◌+◌, ◌-◌, Bool, true, false, List, [], Option, Some, None, Result, Ok, Err}
 use Rattle.std.specs.List.{slice_set}
 use Rattle.lvish_code.specs.Flat as flat
 use Rattle.lvish_task.specs.Vocabulary.{ErrorKind, Instruction, Let, SkipIfZero, BackUnlessZero, GoOn}
@@ -20,6 +20,17 @@ taken p values (Some (SkipIfZero a n)) = Some (record { left = p.left - 1; place
 taken p values (Some (BackUnlessZero a n)) = Some (record { left = p.left - 1; place = chosen (operand_value values a) (p.place - n) (p.place + 1) }, values)
 taken p values (Some (GoOn n)) = Some (record { left = p.left; place = p.place + 1 + n }, values)
 taken p values i = None
+
+-- whether an instruction is a test
+abbrev pub is_test : Instruction → Bool
+is_test (SkipIfZero a n) = true
+is_test (BackUnlessZero a n) = true
+is_test i = false
+
+-- where a jump leads
+abbrev pub jump_taken : Progress → Instruction → Option Progress
+jump_taken p (GoOn n) = Some (record { left = p.left; place = p.place + 1 + n })
+jump_taken p i = None
 
 -- the stack, with its innermost frame that far and with these values
 abbrev pub at_progress : Stack → Progress → List ℤ → Stack

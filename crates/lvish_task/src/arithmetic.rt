@@ -1,5 +1,5 @@
-ghost use Rattle.std.specs.Prelude.{◌≡◌, ◌+ℤ◌, ◌-ℤ◌, ◌*ℤ◌, int_div, int_rem};
-ghost use Rattle.lvish_task.specs.Arithmetic.{combined, fitting, dividing};
+ghost use Rattle.std.specs.Prelude.{◌≡◌, true, false, Ok, ◌+ℤ◌, ◌-ℤ◌, ◌*ℤ◌, int_div, int_rem};
+ghost use Rattle.lvish_task.specs.Arithmetic.{combined, accumulates, compares, fitting, dividing};
 
 use lvish_calculus::ErrorKind;
 use lvish_syntax::Operator;
@@ -37,6 +37,9 @@ fn multiply(left: i64, right: i64) -> Result<i64, ErrorKind>
 fn divide(left: i64, right: i64) -> Result<i64, ErrorKind>
     ensures { result ≡ dividing left right (int_div left right) }
 {
+    if right == 2 {
+        return Ok(left / 2);
+    }
     if right == 0 {
         return Err(ErrorKind::Zero);
     }
@@ -49,6 +52,9 @@ fn divide(left: i64, right: i64) -> Result<i64, ErrorKind>
 fn remain(left: i64, right: i64) -> Result<i64, ErrorKind>
     ensures { result ≡ dividing left right (int_rem left right) }
 {
+    if right == 2 {
+        return Ok(left % 2);
+    }
     if right == 0 {
         return Err(ErrorKind::Zero);
     }
@@ -58,18 +64,72 @@ fn remain(left: i64, right: i64) -> Result<i64, ErrorKind>
     }
 }
 
-/// What an operator makes of two numbers, or how it fails.
-#[inline(always)]
-pub fn combine(operator: Operator, left: i64, right: i64) -> Result<i64, ErrorKind>
+// Operators are told apart by comparisons, a few at a time: a `match` on all of them would be a jump
+// through a table, which takes longer than most of them wherever the processor can't foresee it.
+
+/// Whether an operator makes a sum, a difference or a product.
+fn accumulates(operator: Operator) -> bool
+    ensures { result ≡ accumulates operator }
+{
+    matches!(
+        operator,
+        Operator::Add | Operator::Subtract | Operator::Multiply
+    )
+}
+
+/// Whether an operator compares.
+fn compares(operator: Operator) -> bool
+    ensures { result ≡ compares operator }
+{
+    matches!(operator, Operator::Less | Operator::Equal)
+}
+
+/// A sum, a difference or a product.
+fn accumulate(operator: Operator, left: i64, right: i64) -> Result<i64, ErrorKind>
+    requires { accumulates operator ≡ true }
     ensures { result ≡ combined operator left right }
 {
     match operator {
         Operator::Add => add(left, right),
         Operator::Subtract => subtract(left, right),
-        Operator::Multiply => multiply(left, right),
+        _ => multiply(left, right),
+    }
+}
+
+/// 1 where the comparison holds, and 0 where it doesn't.
+fn compare(operator: Operator, left: i64, right: i64) -> i64
+    requires { compares operator ≡ true }
+    ensures { combined operator left right ≡ Ok result }
+{
+    let holds = match operator {
+        Operator::Less => left < right,
+        _ => left == right,
+    };
+    if holds { 1 } else { 0 }
+}
+
+/// A quotient or a remainder.
+fn part(operator: Operator, left: i64, right: i64) -> Result<i64, ErrorKind>
+    requires accumulates { accumulates operator ≡ false }
+    requires compares { compares operator ≡ false }
+    ensures { result ≡ combined operator left right }
+{
+    match operator {
         Operator::Divide => divide(left, right),
-        Operator::Remainder => remain(left, right),
-        Operator::Less => Ok(if left < right { 1 } else { 0 }),
-        Operator::Equal => Ok(if left == right { 1 } else { 0 }),
+        _ => remain(left, right),
+    }
+}
+
+/// What an operator makes of two numbers, or how it fails.
+#[inline(always)]
+pub fn combine(operator: Operator, left: i64, right: i64) -> Result<i64, ErrorKind>
+    ensures { result ≡ combined operator left right }
+{
+    if accumulates(operator) {
+        accumulate(operator, left, right)
+    } else if compares(operator) {
+        Ok(compare(operator, left, right))
+    } else {
+        part(operator, left, right)
     }
 }

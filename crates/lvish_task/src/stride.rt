@@ -3,12 +3,12 @@
 //! What they change is the frame's values, its place and how many statements are left; so the loop
 //! has these alone in its hands, in registers.
 
-ghost use Rattle.std.specs.Prelude.{◌≡◌, ◌<◌, ◌≤◌, ◌+◌, ◌^◌, None, Some, slice_get, IfSome, MatchOption};
+ghost use Rattle.std.specs.Prelude.{◌≡◌, ◌<◌, ◌≤◌, ◌+◌, ◌^◌, None, Some, slice_get, true, IfSome, MatchOption};
 ghost use Rattle.std.specs.Option.{option_copied};
 ghost use Rattle.lvish_task.specs.Jumps.{AllLand, HasPlaces};
 ghost use Rattle.lvish_task.specs.Run.{expression_value, operand_value, run};
 ghost use Rattle.lvish_task.specs.Meaning.{chosen};
-ghost use Rattle.lvish_task.specs.Stride.{KeepsAsking, let_taken, taken};
+ghost use Rattle.lvish_task.specs.Stride.{KeepsAsking, is_test, jump_taken, let_taken, taken};
 
 use crate::evaluate::{evaluate, value_of};
 use crate::run::at;
@@ -72,6 +72,65 @@ fn take_let(
     }
 }
 
+// Instructions are told apart by comparisons, a few at a time: a `match` on all of them would be a
+// jump through a table, which takes longer than most of them wherever the processor can't foresee it.
+
+/// Whether an instruction is a test.
+fn is_test(instruction: &Instruction) -> bool
+    ensures { result ≡ is_test instruction.now }
+{
+    matches!(
+        instruction,
+        Instruction::SkipIfZero(_, _) | Instruction::BackUnlessZero(_, _)
+    )
+}
+
+/// A test.
+fn take_test(values: &[i64], test: &Instruction, from: Progress) -> Progress
+    requires left { 0 < from.left }
+    requires room { HasPlaces from.place test.now }
+    requires test { is_test test.now ≡ true }
+    ensures { taken from values.now (Some test.now) ≡ Some (result, values.now) }
+{
+    let Progress { left, place } = from;
+    let place = match test {
+        Instruction::SkipIfZero(operand, n) => {
+            if value_of(values, *operand) == 0 {
+                place + 1 + *n
+            } else {
+                place + 1
+            }
+        }
+        Instruction::BackUnlessZero(operand, n) => {
+            if value_of(values, *operand) == 0 {
+                place + 1
+            } else {
+                place.saturating_sub(*n)
+            }
+        }
+        _ => place,
+    };
+    Progress {
+        left: left - 1,
+        place,
+    }
+}
+
+/// Passes a jump. `None` where none stands there.
+fn pass(instruction: &Instruction, from: Progress) -> Option<Progress>
+    requires { HasPlaces from.place instruction.now }
+    ensures { result ≡ jump_taken from instruction.now }
+{
+    let Progress { left, place } = from;
+    match instruction {
+        Instruction::GoOn(n) => {
+            let place = place + 1 + *n;
+            Some(Progress { left, place })
+        }
+        _ => None,
+    }
+}
+
 /// Takes what stands at the place, where it is a `let` that succeeds, a test or a jump. Else nothing
 /// is changed, and the answer is `None`.
 #[inline(always)]
@@ -82,22 +141,13 @@ fn take(instructions: &[Instruction], values: &mut [i64], from: Progress) -> Opt
         ((taken from values.old (slice_get instructions.now from.place) ≡ None) × (values.new ≡ values.old))
         (λ to. taken from values.old (slice_get instructions.now from.place) ≡ Some (to, values.new)) }
 {
-    let Progress { left, place } = from;
-    match next(instructions, place) {
-        Some(Instruction::Let(x, expression)) => take_let(values, *x, expression, from),
-        Some(Instruction::SkipIfZero(operand, n)) => Some(Progress {
-            left: left - 1,
-            place: choose(values, *operand, place + 1, place + 1 + *n),
-        }),
-        Some(Instruction::BackUnlessZero(operand, n)) => Some(Progress {
-            left: left - 1,
-            place: choose(values, *operand, place.saturating_sub(*n), place + 1),
-        }),
-        Some(Instruction::GoOn(n)) => {
-            let place = place + 1 + *n;
-            Some(Progress { left, place })
-        }
-        _ => None,
+    let instruction = next(instructions, from.place)?;
+    if is_test(instruction) {
+        return Some(take_test(values, instruction, from));
+    }
+    match instruction {
+        Instruction::Let(x, expression) => take_let(values, *x, expression, from),
+        _ => pass(instruction, from),
     }
 }
 
