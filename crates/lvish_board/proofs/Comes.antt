@@ -4,8 +4,10 @@ use Rattle.std.proofs.lemmas.Bool.{false≢true, true≢false}
 use Rattle.lvish_board.specs.Vocabulary.{Act, Hand, Acted, Over, Stale, Parked, Next, Gone, Works}
 use Rattle.lvish_calculus.specs.Machine.{Machine}
 use Rattle.lvish_names.specs.Names.{Handler}
+use Rattle.lvish_core.specs.Tasks.{task_names}
 use Rattle.lvish_board.specs.Acts.{ComesOfAct, IsDone, ComesOfHand, entry_of}
 use Rattle.lvish_board.specs.Listed.{IsListed, works_of}
+use Rattle.lvish_board.specs.Noted.{label_at}
 use Rattle.lvish_board.specs.Place.{TaskPlace}
 use Rattle.lvish_board.specs.Standing.{Standing}
 use Rattle.lvish_board.proofs.Steps.{none_is}
@@ -22,6 +24,7 @@ module _ {P S E R Ans L P1 J1 A1 W : Type 0} {cmp : E → E → Ordering} {M : M
     step = λ e. absurd (false≢true e);
     gone = λ e. absurd (false≢true e);
     list = tt;
+    noted = tt;
     own = tt;
     over = λ _. some;
     done = λ e. (refl, before e);
@@ -37,6 +40,7 @@ module _ {P S E R Ans L P1 J1 A1 W : Type 0} {cmp : E → E → Ordering} {M : M
     step = λ e. absurd (false≢true e);
     gone = λ e. absurd (false≢true e);
     list = tt;
+    noted = tt;
     own = tt;
     over = λ e. absurd (false≢true e);
     done = not_over old.over (sym (ap (λ b. b.over) same) ∙ none);
@@ -46,12 +50,13 @@ module _ {P S E R Ans L P1 J1 A1 W : Type 0} {cmp : E → E → Ordering} {M : M
   }
 
   -- a step was made, and the task goes on
-  pub act_next : (list : Works P1 J1 S L R A1 W E) → old.over ≡ None → new.trace ≡ old.trace ++ entry_of worker (Act asked.task) ∷ [] → (IsDone M new.core asked.task → ⊥) → IsListed cmp M old (Act asked.task) new (works_of list) → IsSome list.own → ComesOfAct {P = P1} {J = J1} {A = A1} {W = W} cmp M Stands Can worker asked old new (Next list)
-  act_next list none written goes listed own = record {
+  pub act_next : (list : Works P1 J1 S L R A1 W E) → old.over ≡ None → new.trace ≡ old.trace ++ entry_of worker (Act asked.task) ∷ [] → (IsDone M new.core asked.task → ⊥) → IsListed cmp M old (Act asked.task) new (works_of list) → label_at (task_names new.core.table.tasks) list.step ≡ Act asked.task → IsSome list.own → ComesOfAct {P = P1} {J = J1} {A = A1} {W = W} cmp M Stands Can worker asked old new (Next list)
+  act_next list none written goes listed noted own = record {
     stays = λ e. absurd (true≢false e);
     step = λ _. written;
     gone = λ _. (λ e. absurd (false≢true e), λ done. absurd (goes done));
     list = listed;
+    noted = noted;
     own = own;
     over = λ e. absurd (false≢true e);
     done = not_over old.over none;
@@ -61,12 +66,13 @@ module _ {P S E R Ans L P1 J1 A1 W : Type 0} {cmp : E → E → Ordering} {M : M
   }
 
   -- a step was made, and the task goes on no more
-  pub act_gone : (list : Works P1 J1 S L R A1 W E) → old.over ≡ None → new.trace ≡ old.trace ++ entry_of worker (Act asked.task) ∷ [] → IsDone M new.core asked.task → IsListed cmp M old (Act asked.task) new (works_of list) → list.own ≡ None → ComesOfAct {P = P1} {J = J1} {A = A1} {W = W} cmp M Stands Can worker asked old new (Gone list)
-  act_gone list none written done listed own = record {
+  pub act_gone : (list : Works P1 J1 S L R A1 W E) → old.over ≡ None → new.trace ≡ old.trace ++ entry_of worker (Act asked.task) ∷ [] → IsDone M new.core asked.task → IsListed cmp M old (Act asked.task) new (works_of list) → label_at (task_names new.core.table.tasks) list.step ≡ Act asked.task → list.own ≡ None → ComesOfAct {P = P1} {J = J1} {A = A1} {W = W} cmp M Stands Can worker asked old new (Gone list)
+  act_gone list none written done listed noted own = record {
     stays = λ e. absurd (true≢false e);
     step = λ _. written;
     gone = λ _. (λ _. done, λ _. refl);
     list = listed;
+    noted = noted;
     own = own;
     over = λ e. absurd (false≢true e);
     done = not_over old.over none;
@@ -78,9 +84,9 @@ module _ {P S E R Ans L P1 J1 A1 W : Type 0} {cmp : E → E → Ordering} {M : M
   -- a step was made, and the answer says whether the task goes on
   pub act_left : (goes_on : Bool) (list : Works P1 J1 S L R A1 W E) (result : Acted P1 J1 S L R A1 W E) → (goes_on ≡ true → result ≡ Next list) → (goes_on ≡ false → result ≡ Gone list)
       → old.over ≡ None → new.trace ≡ old.trace ++ entry_of worker (Act asked.task) ∷ [] → (goes_on ≡ true → IsDone M new.core asked.task → ⊥) → (goes_on ≡ false → IsDone M new.core asked.task)
-      → IsListed cmp M old (Act asked.task) new (works_of list) → is_some list.own ≡ goes_on → ComesOfAct cmp M Stands Can worker asked old new result
-  act_left true list result next gone none written goes ends listed own = subst (λ r. ComesOfAct cmp M Stands Can worker asked old new r) (sym (next refl)) (act_next list none written (goes refl) listed own)
-  act_left false list result next gone none written goes ends listed own = subst (λ r. ComesOfAct cmp M Stands Can worker asked old new r) (sym (gone refl)) (act_gone list none written (ends refl) listed (none_is list.own own))
+      → IsListed cmp M old (Act asked.task) new (works_of list) → label_at (task_names new.core.table.tasks) list.step ≡ Act asked.task → is_some list.own ≡ goes_on → ComesOfAct cmp M Stands Can worker asked old new result
+  act_left true list result next gone none written goes ends listed noted own = subst (λ r. ComesOfAct cmp M Stands Can worker asked old new r) (sym (next refl)) (act_next list none written (goes refl) listed noted own)
+  act_left false list result next gone none written goes ends listed noted own = subst (λ r. ComesOfAct cmp M Stands Can worker asked old new r) (sym (gone refl)) (act_gone list none written (ends refl) listed noted (none_is list.own own))
 
 module _ {P S E R Ans L P1 J1 A1 W : Type 0} {cmp : E → E → Ordering} {M : Machine S E R Ans L} {Held : Type 0} {IsNext : E → Type 0} {worker : ℕ} {handler : Handler E} {old new : Standing P S E L} where
   -- the board is over
@@ -90,6 +96,7 @@ module _ {P S E R Ans L P1 J1 A1 W : Type 0} {cmp : E → E → Ordering} {M : M
     step = λ e. absurd (false≢true e);
     gone = refl;
     list = λ e next. tt;
+    noted = λ e next. tt;
     own = tt;
     over = λ _. some;
     done = λ e. (refl, before e);
@@ -105,6 +112,7 @@ module _ {P S E R Ans L P1 J1 A1 W : Type 0} {cmp : E → E → Ordering} {M : M
     step = λ e. absurd (false≢true e);
     gone = refl;
     list = λ e next. tt;
+    noted = λ e next. tt;
     own = tt;
     over = λ e. absurd (false≢true e);
     done = not_over old.over (sym (ap (λ b. b.over) same) ∙ none);
@@ -120,6 +128,7 @@ module _ {P S E R Ans L P1 J1 A1 W : Type 0} {cmp : E → E → Ordering} {M : M
     step = λ e. absurd (false≢true e);
     gone = refl;
     list = λ e next. tt;
+    noted = λ e next. tt;
     own = tt;
     over = λ e. absurd (false≢true e);
     done = not_over old.over (sym (ap (λ b. b.over) same) ∙ none);
@@ -129,12 +138,13 @@ module _ {P S E R Ans L P1 J1 A1 W : Type 0} {cmp : E → E → Ordering} {M : M
   }
 
   -- what came next was handed
-  pub hand_next : (list : Works P1 J1 S L R A1 W E) (event : E) → ((e : E) → IsNext e → event ≡ e) → old.over ≡ None → new.trace ≡ old.trace ++ entry_of worker (Hand handler event) ∷ [] → IsListed cmp M old (Hand handler event) new (works_of list) → list.own ≡ None → ComesOfHand {P = P1} {J = J1} {A = A1} {W = W} cmp M Held IsNext worker handler old new (Next list)
-  hand_next list event one none written listed own = record {
+  pub hand_next : (list : Works P1 J1 S L R A1 W E) (event : E) → ((e : E) → IsNext e → event ≡ e) → old.over ≡ None → new.trace ≡ old.trace ++ entry_of worker (Hand handler event) ∷ [] → IsListed cmp M old (Hand handler event) new (works_of list) → label_at (task_names new.core.table.tasks) list.step ≡ Hand handler event → list.own ≡ None → ComesOfHand {P = P1} {J = J1} {A = A1} {W = W} cmp M Held IsNext worker handler old new (Next list)
+  hand_next list event one none written listed noted own = record {
     stays = λ e. absurd (true≢false e);
     step = λ _ e next. subst (λ x. new.trace ≡ old.trace ++ entry_of worker (Hand handler x) ∷ []) (one e next) written;
     gone = refl;
     list = λ e next. subst (λ x. IsListed cmp M old (Hand handler x) new (works_of list)) (one e next) listed;
+    noted = λ e next. subst (λ x. label_at (task_names new.core.table.tasks) list.step ≡ Hand handler x) (one e next) noted;
     own = own;
     over = λ e. absurd (false≢true e);
     done = not_over old.over none;

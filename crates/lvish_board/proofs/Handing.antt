@@ -92,21 +92,14 @@ module _ {P S E R A L : Type 0} (M : Machine S E R A L) where
         by_name = subst (λ hs. IsStrictlySortedBy (handler_cmp cmp) hs) one (one_sorted (handler_cmp cmp) h);
       }
 
-  module _ (one : HandsOneEvent P M) (c d : CoreView P S E L) (xs : List (Label E)) (run : IsRunTo M c xs) (h : Handler E) (e : E) (comes : IsNext M.event_same c.table h e) (said : Stepped) (moved : Moved E L) (was : IsHanded M c h d said moved) where
-    handed_event : was.event ≡ e
-    handed_event = one c xs run h was.event e was.moving.step.enabled comes
+  module _ (c d : CoreView P S E L) (h : Handler E) (said : Stepped) (moved : Moved E L) (was : IsHanded M c h d said moved) where
+    -- what was handed was handed without an error
+    pub handed_well : IsStep M c (Hand h was.event) d DoneStep
+    handed_well = subst (λ r. IsStep M c (Hand h was.event) d r) (hand_done c d h was.event said was.moving.step) was.moving.step
 
-    -- what was handed is what came next
-    pub handed_next : IsStep M c (Hand h e) d said
-    handed_next = subst (λ x. IsStep M c (Hand h x) d said) handed_event was.moving.step
-
-    -- without an error
-    pub handed_well : IsStep M c (Hand h e) d DoneStep
-    handed_well = subst (λ r. IsStep M c (Hand h e) d r) (hand_done c d h e said handed_next) handed_next
-
-    -- and what that moved was told
-    pub handed_moved : IsMoved M (state M c) (Hand h e) moved
-    handed_moved = subst (λ x. IsMoved M (state M c) (Hand h x) moved) handed_event was.moving.change
+    -- and is what came next
+    pub handed_event : HandsOneEvent P M → (xs : List (Label E)) → IsRunTo M c xs → (e : E) → IsNext M.event_same c.table h e → was.event ≡ e
+    handed_event one xs run e comes = one c xs run h was.event e was.moving.step.enabled comes
 
   -- where a board isn't over, what comes next can be handed
   pub hand_open : HandsWhatComes P M → (program : P) (budget : ℕ) (s : Standing P S E L) → IsBoardSound M program budget s → s.over ≡ None

@@ -7,6 +7,7 @@ pub mod Handing
 pub mod Listing
 pub mod Lists
 pub mod Naming
+pub mod Noting
 pub mod Parking
 pub mod Shelving
 pub mod Sorting

@@ -33,6 +33,10 @@ module _ {S E R L W H : Type 0} (eq : W → W → Bool) (watched : R → Option 
     no_get_waits none v (Get w r) t on spot_of fresh at = empty_shelf (same_spot eq) gets none (w, watched r) t on
     no_get_waits none v r t on spot_of fresh at = at
 
+    -- nor a freeze where there are none of freezes
+    pub no_freeze_waits : length freezes.entries ≡ 0 → (v : ℕ) (r : Request S R L) (t : Name E) → IsOnItsList eq watched gets freezes r t → (spot_of : E → W) (fresh : List (Entry E)) → MayWake spot_of watched (Some (Handed v)) fresh r → ⊥
+    no_freeze_waits none v r t on spot_of fresh at = empty_shelf nat_eq freezes none v t (freezes_on v r t on spot_of fresh at)
+
   -- a name that stays on the lists on which it was stays on its list
   pub stays_on : (gets gets' : HashMap (ℕ × Option W) (Vec (Name E)) H) (freezes freezes' : HashMap ℕ (Vec (Name E)) H) (r : Request S R L) (t : Name E) → ((k : ℕ × Option W) → IsAmong t (shelf (same_spot eq) gets k) → IsAmong t (shelf (same_spot eq) gets' k))
       → ((k : ℕ) → IsAmong t (shelf nat_eq freezes k) → IsAmong t (shelf nat_eq freezes' k)) → IsOnItsList eq watched gets freezes r t → IsOnItsList eq watched gets' freezes' r t

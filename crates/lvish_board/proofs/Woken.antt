@@ -46,3 +46,8 @@ module _ {S E R L W : Type 0} (spot_of : E → W) (watched : R → Option W) whe
   pub may_hand : (v : ℕ) (es fs : List (Entry E)) (q : Request S R L) → MayWake spot_of watched (Some (Handed v)) es q → MayWake spot_of watched (Some (Handed v)) fs q
   may_hand v es fs (Freeze w pools) may = may
   may_hand v es fs q may = absurd may
+
+  -- it is a freeze of the variable
+  pub may_freeze : (v : ℕ) (es : List (Entry E)) (q : Request S R L) → MayWake spot_of watched (Some (Handed v)) es q → (pools : List ℕ) × (q ≡ Freeze v pools)
+  may_freeze v es (Freeze w pools) may = (pools, ap (λ k. Freeze k pools) may)
+  may_freeze v es q may = absurd may

@@ -6,6 +6,8 @@ use Rattle.lvish_calculus.specs.Machine.{Machine}
 use Rattle.lvish_names.specs.Names.{Name, Handler}
 use Rattle.lvish_core.specs.Core.{CoreView, state}
 use Rattle.lvish_core.specs.Changes.{local_of}
+use Rattle.lvish_core.specs.Tasks.{task_names}
+use Rattle.lvish_board.specs.Noted.{label_at}
 use Rattle.lvish_board.specs.Place.{TaskPlace}
 use Rattle.lvish_board.specs.Standing.{Standing}
 use Rattle.lvish_board.specs.Woken.{IsParkedBeside}
@@ -61,6 +63,12 @@ ListsWork cmp M old l new (Next ws) = IsListed cmp M old l new (works_of ws)
 ListsWork cmp M old l new (Gone ws) = IsListed cmp M old l new (works_of ws)
 ListsWork cmp M old l new _ = Unit {0}
 
+-- the step that the work names is in the trace the step with this label
+abbrev pub NotesStep : {P' P J S L R A W E : Type 0} → Label E → Standing P' S E L → Acted P J S L R A W E → Type 0
+NotesStep l new (Next ws) = label_at (task_names new.core.table.tasks) ws.step ≡ l
+NotesStep l new (Gone ws) = label_at (task_names new.core.table.tasks) ws.step ≡ l
+NotesStep l new _ = Unit {0}
+
 -- the acting task's next ticket is there just where the task goes on
 abbrev pub HasOwn : {P J S L R A W E : Type 0} → Acted P J S L R A W E → Type 0
 HasOwn (Next ws) = IsSome ws.own
@@ -78,6 +86,7 @@ pub record ComesOfAct {P' P J S L R A W E Ans : Type 0} (cmp : E → E → Order
   pub step : is_step result ≡ true → new.trace ≡ old.trace ++ entry_of worker (Act asked.task) ∷ []
   pub gone : is_step result ≡ true → (is_gone result ≡ true) ↔ IsDone M new.core asked.task
   pub list : ListsWork cmp M old (Act asked.task) new result
+  pub noted : NotesStep (Act asked.task) new result
   pub own : HasOwn result
   pub over : is_over result ≡ true → IsSome new.over
   pub done : IsSome old.over → (result ≡ Over) × (new ≡ old)
@@ -91,6 +100,7 @@ pub record ComesOfHand {P' P J S L R A W E Ans : Type 0} (cmp : E → E → Orde
   pub step : is_step result ≡ true → (e : E) → Next e → new.trace ≡ old.trace ++ entry_of worker (Hand handler e) ∷ []
   pub gone : is_gone result ≡ false
   pub list : (e : E) → Next e → ListsWork cmp M old (Hand handler e) new result
+  pub noted : (e : E) → Next e → NotesStep (Hand handler e) new result
   pub own : HasNoOwn result
   pub over : is_over result ≡ true → IsSome new.over
   pub done : IsSome old.over → (result ≡ Over) × (new ≡ old)

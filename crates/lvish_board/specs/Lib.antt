@@ -2,8 +2,10 @@ pub mod Vocabulary
 pub mod Acts
 pub mod Left
 pub mod Listed
+pub mod Noted
 pub mod Place
 pub mod Shelved
 pub mod Standing
+pub mod Traced
 pub mod Waking
 pub mod Woken

@@ -1,6 +1,9 @@
 ghost use Rattle.std.specs.Prelude.{◌≡◌, ◌≤◌, IfOk, option_copied};
 ghost use Rattle.lvish_names.specs.Names.{main};
 ghost use Rattle.lvish_board.specs.declared.work.Work.TheVariants.{Stretch};
+ghost use Rattle.std.specs.List.{AllByRecursion};
+ghost use Rattle.lvish_core.specs.Tasks.{task_names};
+ghost use Rattle.lvish_board.specs.Noted.{IsNoted, entries_of};
 ghost use Rattle.lvish_board.specs.Standing.{IsBoardSound, IsOpened};
 
 mod act;
@@ -9,11 +12,12 @@ mod make;
 mod settle;
 
 use crate::named::Named;
+use crate::noted::Noted;
 use crate::outcome::Outcome;
 use crate::parked::Parked;
 use crate::room::Room;
 use crate::ticket::Ticket;
-use crate::trace_entry::TraceEntry;
+use crate::trace_entry::{TraceEntry, entry_by};
 use crate::work::Work;
 use lvish_calculus::{Meaning, Program};
 use lvish_core::{Core, MOST_STEPS};
@@ -25,7 +29,7 @@ use std::marker::Model;
 /// A core, the trace of its steps, and the parked tasks.
 pub struct Board<'p, P: Program, J: Named<P>> {
     core: Core<'p, P>,
-    trace: Vec<TraceEntry<<P::Lat as Lattice>::Event>>,
+    trace: Vec<Noted>,
     budget: u64,
     over: Option<Outcome<<P::Lat as Lattice>::Event>>,
     parked: Parked<P, J>,
@@ -49,13 +53,16 @@ impl<'p, P: Program, J: Named<P>> Drop for Board<'p, P, J> {
 impl<'p, P: Program, J: Named<P>> Model for Board<'p, P, J> {
     ghost use Rattle.std.specs.Prelude.{◌≡◌};
     ghost use Rattle.lvish_calculus.specs.Program.{machine_of};
+    ghost use Rattle.std.specs.List.{AllByRecursion};
+    ghost use Rattle.lvish_core.specs.Tasks.{task_names};
+    ghost use Rattle.lvish_board.specs.Noted.{IsNoted, entries_of};
     ghost use Rattle.lvish_board.specs.Standing.{Standing, IsBoardSound};
 
     ghost Value = { Standing P P.Lat P.Lat.Event P.Local };
 
-    ghost view = { λ b. record { trace = b.trace.items; core = b.core; over = b.over; parked = b.parked } };
+    ghost view = { λ b. record { trace = entries_of (task_names b.core.table.tasks) b.trace.items; core = b.core; over = b.over; parked = b.parked } };
 
-    ghost invariant = { λ b. (b.budget ≡ J.budget) × IsBoardSound (machine_of P.Lat.eq P.Lat.Event.eq P.Lat.Event.cmp P.Lat.least P.Lat.joined P.Lat.events_of P.Lat.answer_of (P.functions J.program)) J.program J.budget (record { trace = b.trace.items; core = b.core; over = b.over; parked = b.parked }) };
+    ghost invariant = { λ b. (b.budget ≡ J.budget) × AllByRecursion (IsNoted (task_names b.core.table.tasks)) b.trace.items × IsBoardSound (machine_of P.Lat.eq P.Lat.Event.eq P.Lat.Event.cmp P.Lat.least P.Lat.joined P.Lat.events_of P.Lat.answer_of (P.functions J.program)) J.program J.budget (record { trace = entries_of (task_names b.core.table.tasks) b.trace.items; core = b.core; over = b.over; parked = b.parked }) };
 }
 
 impl<'p, P: Program, J: Named<P>> Board<'p, P, J> {
@@ -97,12 +104,31 @@ impl<'p, P: Program, J: Named<P>> Board<'p, P, J> {
         self.over.as_ref()
     }
 
-    /// The steps that were made, in their order.
-    pub fn trace(&self) -> &[TraceEntry<<P::Lat as Lattice>::Event>]
-        ensures trace { result.now ≡ self.now.trace }
+    /// The steps that were made, in their order, by the indices of their tasks.
+    pub fn noted(&self) -> &[Noted]
+        ensures trace { self.now.trace ≡ entries_of (task_names self.now.core.table.tasks) result.now }
         ensures sound { IsBoardSound (⟦<P as Meaning>⟧.machine J.program) J.program J.budget self.now }
     {
         &self.trace
+    }
+
+    /// The steps that were made, in their order, with their labels.
+    ///
+    /// # Errors
+    ///
+    /// Where there is no room for them.
+    pub fn entries(
+        &self,
+        alloc: Global,
+    ) -> Result<Vec<TraceEntry<<P::Lat as Lattice>::Event>>, AllocError>
+        ensures { IfOk result (λ v. v.items ≡ self.now.trace) }
+    {
+        let mut entries = Vec::with_capacity(alloc, self.trace.len())?;
+        for noted in self.trace.as_slice() {
+            let name = self.core.name_at(noted.step.index());
+            entries.push_reserved(entry_by(*noted, name)?);
+        }
+        Ok(entries)
     }
 
     /// The core, to which the trace leads.
@@ -114,9 +140,10 @@ impl<'p, P: Program, J: Named<P>> Board<'p, P, J> {
     }
 
     /// The core, and the steps that were made, in their order, without a copy.
-    pub fn into_parts(self) -> (Core<'p, P>, Vec<TraceEntry<<P::Lat as Lattice>::Event>>)
+    pub fn into_parts(self) -> (Core<'p, P>, Vec<Noted>)
         ensures core { result.0 ≡ self.entry.core }
-        ensures trace { result.1.items ≡ self.entry.trace }
+        ensures trace { self.entry.trace ≡ entries_of (task_names result.0.table.tasks) result.1.items }
+        ensures noted { AllByRecursion (IsNoted (task_names result.0.table.tasks)) result.1.items }
         ensures sound { IsBoardSound (⟦<P as Meaning>⟧.machine J.program) J.program J.budget self.entry }
     {
         let Board {
@@ -128,13 +155,5 @@ impl<'p, P: Program, J: Named<P>> Board<'p, P, J> {
             room: _,
         } = self;
         (core, trace)
-    }
-
-    /// The steps that were made, in their order, without a copy.
-    pub fn into_trace(self) -> Vec<TraceEntry<<P::Lat as Lattice>::Event>>
-        ensures { result.items ≡ self.entry.trace }
-    {
-        let (_core, trace) = self.into_parts();
-        trace
     }
 }

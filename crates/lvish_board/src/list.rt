@@ -12,6 +12,7 @@ ghost use Rattle.lvish_board.specs.Left.{AreThose, IsLeft, IsLogged, candidates,
 
 use crate::asked::Asked;
 use crate::named::Named;
+use crate::noted::Step;
 use crate::parked::Parked;
 use crate::room::{Room, given};
 use crate::ticket::Ticket;
@@ -26,6 +27,7 @@ use std::alloc::Global;
 /// What a step leaves by itself: the tickets of its tasks, and a handler that it added.
 #[derive(Drop)]
 pub(crate) struct OwnWork<P: Program, J: Named<P>> {
+    pub step: Step,
     pub own: Option<Ticket<P, J>>,
     pub made: Option<Ticket<P, J>>,
     pub added: Option<HandlerName<<P::Lat as Lattice>::Event>>,
@@ -34,9 +36,11 @@ pub(crate) struct OwnWork<P: Program, J: Named<P>> {
 /// What the step of a task leaves by itself.
 #[inline(always)]
 pub(crate) fn left_by<P: Program, J: Named<P>>(
+    step: Step,
     asked: Asked<P, J>,
     moved: Moved<<P::Lat as Lattice>::Event, P::Local>,
 ) -> OwnWork<P, J>
+    ensures step { result.step ≡ step }
     ensures own { result.own ≡ own_ticket asked.task moved.own }
     ensures made { result.made ≡ made_ticket moved.made }
     ensures added { result.added ≡ moved.added }
@@ -47,6 +51,7 @@ pub(crate) fn left_by<P: Program, J: Named<P>>(
         None => None,
     };
     OwnWork {
+        step,
         own,
         made: ticket_of(made),
         added,
@@ -103,16 +108,23 @@ pub(crate) fn leave<P: Program, J: Named<P>>(
     requires hands_room { length room.old.concerned.items + length (option_list left.added) ≤ vec_capacity room.old.hands }
     ensures left { IsLeft P.Lat.Event.cmp (⟦<P as Meaning>⟧.machine J.program) P.Lat.spot_of P.Lat.watched core.now logged left.own left.made left.added room.old.concerned.items parked.old parked.new (works_of result) }
     ensures own { result.own ≡ left.own }
+    ensures step { result.step ≡ left.step }
     ensures once { NoRepeats (tasks_of parked.old) → NoRepeats (tasks_of parked.new) }
 {
     let entries = fresh(core, logged);
     parked.wake(core, entries, &mut room.woken);
-    let OwnWork { own, made, added } = left;
+    let OwnWork {
+        step,
+        own,
+        made,
+        added,
+    } = left;
     keep_candidates(entries, &mut room.concerned, added);
     list_hands(core, &mut room.concerned, &mut room.hands);
     let woken = given(alloc, &mut room.woken);
     let hands = given(alloc, &mut room.hands);
     Works {
+        step,
         own,
         made,
         woken,

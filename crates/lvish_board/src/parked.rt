@@ -192,6 +192,14 @@ impl<P: Program, J: Named<P>> Parked<P, J> {
         requires room { vec_len woken.old + length self.old ≤ vec_capacity woken.old }
         ensures { Wakes (λ p. ⟦<P as CoreMeaning>⟧.can_take core.now (Act p.task)) (λ p. MayWake P.Lat.spot_of P.Lat.watched (Some (Handed variable)) [] ((P.functions core.now.program).request p.from)) self.old self.new woken.old.items woken.new.items }
     {
+        // A run in which no freeze ever waited hashes no key.
+        if self.freezes.lists.is_empty() {
+            return;
+        }
+        // While something is left to hand there, no freeze can go on.
+        if !core.is_drained_at(variable) {
+            return;
+        }
         if let Some(names) = self.freezes.lists.get_mut(&variable) {
             self.tasks.wake_each(core, names, woken);
         }

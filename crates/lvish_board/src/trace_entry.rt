@@ -1,6 +1,14 @@
-use lvish_calculus::Label;
+ghost use Rattle.std.specs.Prelude.{◌≡◌, IfOk, option_copied, unwrap_or};
+ghost use Rattle.lvish_names.specs.Names.{main};
+ghost use Rattle.lvish_board.specs.Noted.{handing_of, label_by};
 
-/// A step of a run, and the worker that made it.
+use crate::noted::{Noted, Step};
+use lvish_calculus::Label;
+use lvish_lattice::Plain;
+use lvish_names::{NamePart, TaskName};
+use std::alloc::AllocError;
+
+/// A step of a run with its label, and the worker that made it.
 #[derive(Debug)]
 pub struct TraceEntry<E> {
     pub worker: usize,
@@ -15,4 +23,43 @@ impl<E: Drop> Drop for TraceEntry<E> {
             label: _,
         } = self;
     }
+}
+
+/// The entry of a step whose task has this name.
+///
+/// # Errors
+///
+/// Where more names share it than can be counted.
+pub(crate) fn entry_by<E: Plain>(
+    noted: Noted,
+    name: Option<&TaskName<E>>,
+) -> Result<TraceEntry<E>, AllocError>
+    ensures { IfOk result (λ e. e ≡ record { worker = noted.worker; label = label_by (unwrap_or (option_copied name.entry) main) noted.step }) }
+{
+    let main = TaskName::main();
+    let name = name.unwrap_or(&main);
+    let label = match noted.step {
+        Step::Act(_) => Label::Act(name.copy()?),
+        Step::Hand(_) => handing(name)?,
+    };
+    Ok(TraceEntry {
+        worker: noted.worker,
+        label,
+    })
+}
+
+/// The label of the handing that starts the task of this name.
+///
+/// # Errors
+///
+/// Where more names share the handler's than can be counted.
+fn handing<E: Plain>(name: &TaskName<E>) -> Result<Label<E>, AllocError>
+    ensures { IfOk result (λ l. l ≡ handing_of name.now) }
+{
+    if let Some((NamePart::Hand(_, event), _adder)) = name.parts().split_last() {
+        if let Some(handler) = name.pool_of()? {
+            return Ok(Label::Hand(handler, *event));
+        }
+    }
+    Ok(Label::Act(name.copy()?))
 }

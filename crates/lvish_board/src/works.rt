@@ -3,6 +3,7 @@ ghost use Rattle.lvish_board.specs.Listed.{works_of, stretches, acts, handings, 
 
 use crate::asked::Asked;
 use crate::named::Named;
+use crate::noted::Step;
 use crate::ticket::Ticket;
 use crate::work::Work;
 use lvish_calculus::Program;
@@ -13,6 +14,8 @@ use std::alloc::{AllocError, Global};
 /// The work that a step leaves, in this order. All of it is to be done, by whomever and in any order.
 #[derive(Drop)]
 pub struct Works<P: Program, J: Named<P>> {
+    /// The step itself.
+    pub step: Step,
     /// The next ticket of the task that acted, where it goes on.
     pub own: Option<Ticket<P, J>>,
     /// The ticket of a task that the step made.
@@ -24,12 +27,14 @@ pub struct Works<P: Program, J: Named<P>> {
 }
 
 impl<P: Program, J: Named<P>> Works<P, J> {
-    /// No work.
-    pub(crate) fn none(alloc: Global) -> Works<P, J>
+    /// No work of this step.
+    pub(crate) fn none(alloc: Global, step: Step) -> Works<P, J>
         ensures list { works_of result ≡ [] }
         ensures own { result.own ≡ None }
+        ensures step { result.step ≡ step }
     {
         Works {
+            step,
             own: None,
             made: None,
             woken: Vec::new(alloc),
@@ -46,6 +51,7 @@ impl<P: Program, J: Named<P>> Works<P, J> {
         ensures { IfOk result (λ v. v.items ≡ works_of self) }
     {
         let Works {
+            step: _,
             own,
             made,
             woken,

@@ -9,7 +9,7 @@ use crate::text::{write_label, write_machine, write_outcome};
 use crate::work::{after_space, count, place_of, text_of, write_works};
 use crate::work_left::WorkLeft;
 use crate::work_order::WorkOrder;
-use lvish_board::{Acted, Board, Named, TraceEntry, Work, Works};
+use lvish_board::{Acted, Board, Named, Trace, Work, Works};
 use lvish_calculus::{Label, Program};
 use lvish_core::MOST_STEPS;
 use lvish_lattice::{Lattice, Numbered};
@@ -111,6 +111,7 @@ impl<'p, P: Program, J: Named<P>> BoardAtWork<'p, P, J> {
         self.fresh.clear();
         if let Acted::Next(works) | Acted::Gone(works) = &mut self.act {
             let none = Works {
+                step: works.step,
                 own: None,
                 made: None,
                 woken: Vec::new(alloc),
@@ -142,8 +143,15 @@ impl<'p, P: Program, J: Named<P>> BoardAtWork<'p, P, J> {
         }
     }
 
-    /// Moves the steps that the board made out of it.
-    pub fn into_trace(self) -> Vec<TraceEntry<<P::Lat as Lattice>::Event>> {
+    /// Moves the steps that the board made out of it, with the names of its tasks.
+    ///
+    /// # Errors
+    ///
+    /// Where there is no room for a list of the names.
+    pub fn into_trace(
+        self,
+        alloc: Global,
+    ) -> Result<Trace<<P::Lat as Lattice>::Event>, AllocError> {
         let BoardAtWork {
             board,
             first: _,
@@ -152,7 +160,9 @@ impl<'p, P: Program, J: Named<P>> BoardAtWork<'p, P, J> {
             act: _,
             fresh: _,
         } = self;
-        board.into_trace()
+        let (core, noted) = board.into_parts();
+        let (_variables, names) = core.into_parts(alloc)?;
+        Ok(Trace::new(noted, names))
     }
 }
 

@@ -59,7 +59,7 @@ pub fn told<P: Program, J: Named<P>>(
 ) -> Acted<P, J>
     requires { program.now ≡ J.program }
 {
-    let worker = board.trace().len() % 3;
+    let worker = board.noted().len() % 3;
     match work {
         Work::Stretch(ticket) => told_ticket(alloc, program, board, worker, ticket),
         Work::Act(asked) => board.act(alloc, worker, asked),

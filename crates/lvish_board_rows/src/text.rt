@@ -151,5 +151,6 @@ where
     write_states(text, alloc, core.states())?;
     write_logs(text, core.states())?;
     write_labels(text, alloc, core)?;
-    write_trace(text, board.trace())
+    let trace = board.entries(alloc)?;
+    write_trace(text, &trace)
 }

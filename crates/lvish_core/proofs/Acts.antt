@@ -19,7 +19,7 @@ use Rattle.lvish_core.specs.Core.{CoreView, state}
 use Rattle.lvish_core.specs.Changes.{put_brings, touching, touched_in}
 use Rattle.lvish_core.specs.Places.{IsPlaceOf}
 use Rattle.lvish_core.specs.Beside.{PutAt, FrozenAt, CountsAt, one_more_in, one_less_in}
-use Rattle.lvish_core.specs.Tasks.{Sets}
+use Rattle.lvish_core.specs.Tasks.{KeepsIndices, Sets}
 use Rattle.lvish_core.specs.Acts.{IsActing, IsReplied}
 use Rattle.lvish_core.specs.Kept.{IsKept}
 use Rattle.lvish_core.specs.laws.Runs.{content_at}
@@ -128,6 +128,7 @@ module _ {P S E R A L : Type 0} {M : Machine S E R A L} (ok : IsLawful M) {varia
       long = ap length w.is ∙ length-set old.table.variables v w.to;
       counted = law2 kept.standing.run old.table put_table t kept.standing.pictured kept.counted put_step;
       index = record { posts = kept.index.posts; own = kept.index.own };
+      indices = sets.indices;
     })
 
   -- ---- a freeze
@@ -168,15 +169,16 @@ module _ {P S E R A L : Type 0} {M : Machine S E R A L} (ok : IsLawful M) {varia
       long = ap length w.is ∙ length-set old.table.variables v _;
       counted = law2 kept.standing.run old.table frozen_table t kept.standing.pictured kept.counted freeze_step;
       index = record { posts = kept.index.posts; own = kept.index.own };
+      indices = sets.indices;
     })
 
   -- ---- a get, a pause, a fork and an end, which change nothing but tasks and the counts of pools
 
   plainly : ActKept IsPlainStep M → PlainCounted M → old.steps < MOST_STEPS → (r : Request S R L) (acts : IsActing M old t at f a p r) (own made : Option (Name E × Task L)) (about : Touched) (hss : List (Handlers E)) (us : List (Name E × Task L))
-      → request_effect M (state M old) t at f a p r ≡ Changes (task_change own made) → about ≡ touched_in M (state M old) None own → Turn (state M old).tasks own → Start (state M old).tasks made → AreTasks M.event_same old.table.tasks own made us
+      → request_effect M (state M old) t at f a p r ≡ Changes (task_change own made) → about ≡ touched_in M (state M old) None own → Turn (state M old).tasks own → Start (state M old).tasks made → AreTasks M.event_same old.table.tasks own made us → KeepsIndices old.table.tasks us
       → AreCounts M (state M old) own made old.table.handlers hss × AreHeld old.table.handlers hss
       → Moves ok kept (Act t) (task_change own made) (record { variables = old.table.variables; handlers = hss; tasks = us }) places about
-  plainly law law2 room r acts own made about hss us does touches turn begins tasks counts =
+  plainly law law2 room r acts own made about hss us does touches turn begins tasks stay counts =
       let new : Table S E L = record { variables = old.table.variables; handlers = hss; tasks = us } in
       let step : IsPlainStep M old.table t new = record {
         local = acts.local;
@@ -202,6 +204,7 @@ module _ {P S E R A L : Type 0} {M : Machine S E R A L} (ok : IsLawful M) {varia
         long = refl;
         counted = law2 kept.standing.run old.table new t kept.standing.pictured kept.counted step counts.0;
         index = record { posts = kept.index.posts; own = kept.index.own };
+        indices = stay;
       })
 
   -- a get and a pause
@@ -210,7 +213,7 @@ module _ {P S E R A L : Type 0} {M : Machine S E R A L} (ok : IsLawful M) {varia
   going_on {reply} h room law law2 rest {us} sets =
       let own : Option (Name E × Task L) = Some (t, Live (M.resume at reply) f a p) in
       plainly law law2 room h.request h.acting own None Other old.table.handlers us h.does refl
-      (on t h.acting.local _ f a p f a p h.acting.asking.live (omega arith) (omega arith) (omega arith)) nobody sets.each (rest (state M old) own None old.table.handlers (λ q. refl) (λ q. refl), refl)
+      (on t h.acting.local _ f a p f a p h.acting.asking.live (omega arith) (omega arith) (omega arith)) nobody sets.each sets.indices (rest (state M old) own None old.table.handlers (λ q. refl) (λ q. refl), refl)
 
   module _ (known : (k v : ℕ) → M.pool_variable k ≡ Some v → v < variables) (law : ActKept IsPlainStep M) (law2 : PlainCounted M) (rest : RestIsFollowed M) {us : List (Name E × Task L)} {place : Option HandlerPlace} (place_is : IsPlaceOf M (state M old) t place) {hss : List (Handlers E)} where
     -- a fork
@@ -222,7 +225,7 @@ module _ {P S E R A L : Type 0} {M : Machine S E R A L} (ok : IsLawful M) {varia
         let new : Option (Name E × Task L) = Some (forked t (suc f), Live child_at 0 0 0) in
         plainly law law2 room (Fork child_at) acts own new Other hss us (ap (λ b. if b then Fails Deep None t else Changes (task_change own new)) shallow) refl
         (on t acts.local _ f a p (suc f) a p acts.asking.live (omega arith) (omega arith) (omega arith)) (child (forked t (suc f)) child_at ((fresh kept.standing.run old.table kept.standing.pictured).0 t acts.local f a p acts.asking.live))
-        (λ x. goes.each x ∙ ap (λ (z : Name E → Task L). with_task M.event_same own z x) (fun_ext made.each))
+        (λ x. goes.each x ∙ ap (λ (z : Name E → Task L). with_task M.event_same own z x) (fun_ext made.each)) (λ i u at. goes.indices i u (made.indices i u at))
         (started kept known follows rest own t (forked t (suc f)) (Live child_at 0 0 0) place hss place_is refl (λ q. refl) counts)
 
     -- the end of a task
@@ -230,7 +233,7 @@ module _ {P S E R A L : Type 0} {M : Machine S E R A L} (ok : IsLawful M) {varia
         → Moves ok kept (Act t) (just t Ended) (record { variables = old.table.variables; handlers = hss; tasks = us }) places (touching (λ v. EndedIn v) (option_map (λ q. q.variable) place))
     ending acts room follows sets counts =
         plainly law law2 room End acts (Some (t, Ended)) None _ hss us refl (ap (touching (λ v. EndedIn v)) (pool_variable_is M (state M old) t place place_is))
-        (off t acts.local f a p acts.asking.live) nobody sets.each (stopped kept known follows rest t place hss place_is counts)
+        (off t acts.local f a p acts.asking.live) nobody sets.each sets.indices (stopped kept known follows rest t place hss place_is counts)
 
   -- some task runs, where one acts
   pub some_runs : IsActing M old t at f a p End → 1 ≤ n

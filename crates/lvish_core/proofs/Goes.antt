@@ -14,7 +14,7 @@ use Rattle.lvish_picture.specs.Counts.{CountsRunning}
 use Rattle.lvish_core.specs.Core.{CoreView, state, IsStep, HandsNext, says}
 use Rattle.lvish_core.specs.Changes.{brings, put_brings, moved_by, moved_in, task_touches, touched_by}
 use Rattle.lvish_core.specs.Places.{IsIndex}
-use Rattle.lvish_core.specs.Tasks.{Sets}
+use Rattle.lvish_core.specs.Tasks.{KeepsIndices, Sets}
 use Rattle.lvish_core.specs.Acts.{IsActing, IsMoving}
 use Rattle.lvish_core.specs.Kept.{IsKept, AreFew}
 use Rattle.lvish_core.specs.laws.Runs.{running_same, at_state, pictured_by, run_to}
@@ -63,6 +63,7 @@ module _ {P S E R A L : Type 0} {M : Machine S E R A L} (ok : IsLawful M) {varia
     pub long : length new.variables ≡ length old.table.variables
     pub counted : CountsRunning M new
     pub index : IsIndex M (changed M change (state M old)) more
+    pub indices : KeepsIndices old.table.tasks new.tasks
 
   -- a step that is no error moves what its change does, and the core keeps what it keeps
   abbrev pub Moves : Label E → Change S E L → Table S E L → List (Handler E × HandlerPlace) → Touched → Type 0
@@ -83,6 +84,7 @@ module _ {P S E R A L : Type 0} {M : Machine S E R A L} (ok : IsLawful M) {varia
           leads = λ ys r. run_to M (later old new on) (ys ++ l ∷ []) no_fault ((g.steps ys (pictured_by M old ys no_fault r)).kept);
           logs = λ v x y a b. g.logs v x y a b ∙ ap (λ o. x.log ++ brings M (state M old) v o) (sym g.does);
           touched = ap Some touches;
+          indices = g.indices;
           shows_before = λ k e. let no_error : ⊥ = cc in absurd no_error;
         }
 

@@ -4,11 +4,11 @@ use Rattle.std.proofs.lemmas.List.{map-set}
 use Rattle.std.proofs.lemmas.Option.{same_Some}
 use Rattle.lvish_core.specs.Vocabulary.{Hand, Held, MOST_STEPS, HandlerPlace, Handed}
 use Rattle.lvish_calculus.specs.Machine.{Machine, IsLawful}
-use Rattle.lvish_calculus.specs.Calculus.{Post, Task, Live, Change, hand_effect}
+use Rattle.lvish_calculus.specs.Calculus.{Post, Task, Absent, Live, Change, hand_effect}
 use Rattle.lvish_names.specs.Names.{Name, Handler, handed}
 use Rattle.lvish_variable.specs.Variable.{VariableView as Variable}
 use Rattle.lvish_handlers.specs.Handlers.{HandlersView as Handlers, next_of}
-use Rattle.lvish_picture.specs.Picture.{Table}
+use Rattle.lvish_picture.specs.Picture.{Table, task_of}
 use Rattle.lvish_picture.specs.Steps.{AreTasks, IsHandStep}
 use Rattle.lvish_picture.specs.Laws.{HandKept, PostsAreHeld, NewTaskIsNew, IsHandlerSeated}
 use Rattle.lvish_picture.specs.Counts.{AreCounts, HandCounted, StartIsFollowed, FewRun}
@@ -80,6 +80,10 @@ module _ {P S E R A L : Type 0} {M : Machine S E R A L} (ok : IsLawful M) {varia
         (sym (w.is ∙ ap (λ r. slice_set old.table.handlers place.variable (record { held = w.to.held; running = slice_set r place.pool (slice_index r place.pool + 1) })) w.advanced.pools))
         (follows (state M old) None name t old.table.handlers place.variable w.from w.to.held place.pool (ap (option_map (λ (q : Post). q.pool)) hands.post) hands.own w.was c.0 (λ q. refl))
 
+    -- the task that handles the event wasn't there
+    pub not_there : task_of M.event_same old.table.tasks name ≡ Absent
+    not_there = (fresh kept.standing.run old.table kept.standing.pictured).1 h e ((law kept.standing.run old.table new h e kept.standing.pictured hand_step).enabled)
+
     pub handing : Moves ok kept (Hand h e) change new places (Handed place.variable)
     handing = moves ok kept (Hand h e) change new places (Handed place.variable) hands.no_fault room
         (record { variable = place.variable; at = hands.at; at_is = hands.at_is; beside = hands.beside; beside_is = hands.beside_is; next = hands.next })
@@ -87,10 +91,11 @@ module _ {P S E R A L : Type 0} {M : Machine S E R A L} (ok : IsLawful M) {varia
         (record {
           does = ap (hand_effect M h e) hands.post;
           turn = idle;
-          begins = child name (M.start_handler place.procedure e) ((fresh kept.standing.run old.table kept.standing.pictured).1 h e ((law kept.standing.run old.table new h e kept.standing.pictured hand_step).enabled));
+          begins = child name (M.start_handler place.procedure e) not_there;
           steps = λ xs r. law xs old.table new h e r hand_step;
           logs = same_log old.table.variables;
           long = refl;
           counted = law2 kept.standing.run old.table new h e kept.standing.pictured kept.counted hand_step (counts (Live (M.start_handler w.advanced.handler.procedure e) 0 0 0));
           index = record { posts = kept.index.posts; own = kept.index.own };
+          indices = made.indices;
         })

@@ -1,15 +1,17 @@
 -- Where the tasks of a table stand.
-use Rattle.std.proofs.Common.{◌≡◌, ℕ, zero, suc, Bool, true, false, cond, List, [], ◌∷◌, ◌++◌, Option, Some, None, refl, sym, ap, subst, ◌∙◌, is_some}
+use Rattle.std.proofs.Common.{◌≡◌, ℕ, zero, suc, Bool, true, false, cond, List, [], ◌∷◌, ◌++◌, length, Option, Some, None, refl, sym, ap, subst, ◌∙◌, is_some}
 use Rattle.std.specs.Prelude.{slice_get}
 use Rattle.std.specs.Option.{option_map, unwrap_or}
 use Rattle.std.specs.Map.{keys_of, lookup_key}
 use Rattle.std.proofs.lemmas.Option.{slice_get-map}
-use Rattle.indexmap.specs.IndexMap.{IndexMap, get, insert_entry}
-use Rattle.indexmap.proofs.CallerLemmas.{insert_entry-new, keys-insert_entry-present}
-use Rattle.lvish_names.specs.Names.{Name}
+use Rattle.indexmap.specs.IndexMap.{IndexMap, get, insert_entry, with_value_at}
+use Rattle.indexmap.proofs.CallerLemmas.{insert_entry-new, keys-insert_entry-present, keys-with_value_at}
+use Rattle.lvish_calculus.specs.Calculus.{Absent}
+use Rattle.lvish_names.specs.Names.{Name, same_name}
+use Rattle.lvish_picture.specs.Picture.{task_of}
 use Rattle.lvish_core.specs.Vocabulary.{Stage}
-use Rattle.lvish_core.specs.Tasks.{IsAt, standings}
-use Rattle.lvish_core.proofs.Maps.{names-standings}
+use Rattle.lvish_core.specs.Tasks.{IsAt, KeepsIndices, standings, task_names}
+use Rattle.lvish_core.proofs.Maps.{names-standings, not_found}
 
 same_some : {X : Type 0} {x y : X} → Some x ≡ Some y → x ≡ y
 same_some {x = x} e = ap (λ o. unwrap_or o x) e
@@ -57,3 +59,21 @@ module _ {E L : Type 0} where
       by : (o : Option (Stage L)) → get eq m t ≡ o → IsAt (standings (insert_entry eq m.entries t s)) i u
       by None none = subst (λ es. IsAt (standings es) i u) (sym (insert_entry-new eq m t s none)) (at-keys _ i u (slice_get-map (λ p. p.0) (m.entries ++ (t, s) ∷ []) i ∙ ap (option_map (λ p. p.0)) (at_still m.entries _ i _ (entry_at m.entries i u at).1)))
       by (Some x) some = at-keys _ i u (ap (λ ks. slice_get ks i) (keys-insert_entry-present eq m t s (ap is_some some)) ∙ keys-at m.entries i u at)
+
+  last_there : (es : List (Name E × Stage L)) (t : Name E) (s : Stage L) → IsAt (standings (es ++ (t, s) ∷ [])) (length (standings es)) t
+  last_there [] t s = refl
+  last_there (e ∷ es) t s = last_there es t s
+
+  -- a new task stands behind the others
+  pub added_at : {S : Type 0} (eq : E → E → Bool) (m : IndexMap (Name E) (Stage L) S) (t : Name E) (s : Stage L)
+      → task_of eq (standings m.entries) t ≡ Absent → IsAt (standings (insert_entry (same_name eq) m.entries t s)) (length (standings m.entries)) t
+  added_at eq m t s none =
+      subst (λ es. IsAt (standings es) (length (standings m.entries)) t) (sym (insert_entry-new (same_name eq) m t s (not_found eq m.entries t none))) (last_there m.entries t s)
+
+  -- the name of an entry
+  pub name_of : (es : List (Name E × Stage L)) (i : ℕ) (o : Option (Name E × Stage L)) → o ≡ slice_get es i → option_map (λ p. p.0) o ≡ slice_get (task_names (standings es)) i
+  name_of es i o e = ap (option_map (λ p. p.0)) e ∙ sym (slice_get-map (λ p. p.0) es i) ∙ sym (ap (λ ts. slice_get ts i) (names-standings es))
+
+  -- tasks keep their indices when one goes on
+  pub written_at : {S : Type 0} (m : IndexMap (Name E) (Stage L) S) (i : ℕ) (s : Stage L) → KeepsIndices (standings m.entries) (standings (with_value_at m i s).entries)
+  written_at m i s j u at = at-keys _ j u (ap (λ ks. slice_get ks j) (keys-with_value_at m i s) ∙ keys-at m.entries j u at)

@@ -4,8 +4,9 @@ use Rattle.std.specs.Map.{lookup, keys_of}
 use Rattle.lvish_calculus.specs.Calculus.{Absent}
 use Rattle.lvish_names.specs.Names.{Name, same_name, Handler, same_handler}
 use Rattle.lvish_core.specs.Vocabulary.{Stage, HandlerPlace}
+use Rattle.lvish_core.specs.declared.stage.Stage.TheVariants.{Live as LiveStage, Ended as EndedStage}
 use Rattle.lvish_picture.specs.Picture.{task_of}
-use Rattle.lvish_core.specs.Tasks.{Sets, standing, standing_at, standings, task_names}
+use Rattle.lvish_core.specs.Tasks.{KeepsIndices, Sets, standing, standing_at, standings, task_names}
 use Rattle.std.specs.Ordering.{eq_by_cmp}
 use Rattle.std.specs.BTreeMap.{is_at}
 use Rattle.lvish_names.specs.NameOrder.{handler_cmp}
@@ -30,16 +31,26 @@ module _ {E : Type 0} (eq : E → E → Bool) where
   -- what changes a map at one name sets the task under it
   pub sets_by : {L : Type 0} → ((t u : Name E) → same_name eq t u ≡ same_name eq u t) → (es fs : List (Name E × Stage L)) (t : Name E) (s : Stage L)
       → ((q : Name E) → lookup (same_name eq q) fs ≡ cond (same_name eq t q) (Some s) (lookup (same_name eq q) es))
-      → Sets eq (standings es) t (standing s) (standings fs)
-  sets_by symm es fs t s h = record {
+      → KeepsIndices (standings es) (standings fs) → Sets eq (standings es) t (standing s) (standings fs)
+  sets_by symm es fs t s h stay = record {
     each = λ u. task_of-standings fs u ∙ ap standing_at (h u)
         ∙ sym (picks standing_at (same_name eq t u) (Some s) (task_of eq (standings es) u) (lookup (same_name eq u) es) (task_of-standings es u))
         ∙ ap (λ b. if b then standing s else task_of eq (standings es) u) (symm t u);
+    indices = stay;
   }
 
   -- a name with a task is in the map
   pub found : {L : Type 0} (es : List (Name E × Stage L)) (t : Name E) → (task_of eq (standings es) t ≡ Absent → ⊥) → lookup (same_name eq t) es ≡ None → ⊥
   found es t some none = some (task_of-standings es t ∙ ap standing_at none)
+
+  -- and a name without one isn't
+  pub not_found : {L : Type 0} (es : List (Name E × Stage L)) (t : Name E) → task_of eq (standings es) t ≡ Absent → lookup (same_name eq t) es ≡ None
+  not_found {L} es t none = by (lookup (same_name eq t) es) (sym (task_of-standings es t) ∙ none)
+    where
+      by : (o : Option (Stage L)) → standing_at o ≡ Absent → o ≡ None
+      by None e = refl
+      by (Some (LiveStage l f a p)) e = absurd (cc e)
+      by (Some EndedStage) e = absurd (cc e)
 
 -- ---- places by name
 

@@ -1,15 +1,18 @@
 -- What a core shows, told of the configuration that it stands for, and when a task's step is made.
 use Rattle.std.proofs.Common.{◌≡◌, ◌↔◌, ◌<◌, ℕ, Bool, true, false, List, length, Option, Some, None, refl, sym, ap, subst, ◌∙◌, is_some, option_map, unwrap_or, arith, inl, inr, ◌≤◌, IsTrue, IsSome, slice_get}
-use Rattle.std.proofs.lemmas.Bool.{false≢true, cases_lt}
-use Rattle.lvish_core.specs.Vocabulary.{MOST_STEPS, Request, Label, Act, RunError, HandlerPlace}
+use Rattle.std.proofs.lemmas.Bool.{false≢true, both_ways, cases_lt}
+use Rattle.std.proofs.lemmas.Option.{same_Some}
+use Rattle.lvish_core.specs.Vocabulary.{MOST_STEPS, Request, Freeze, Label, Act, RunError, HandlerPlace}
 use Rattle.lvish_calculus.specs.Machine.{Machine}
 use Rattle.lvish_calculus.specs.Calculus.{Task, Absent, Live, Ended, IsReady, IsReadyTask, IsEnabled, CanStep}
 use Rattle.lvish_names.specs.Names.{Name, Handler}
 use Rattle.lvish_picture.specs.Picture.{task_of}
+use Rattle.lvish_picture.specs.Laws.{DrainedAtTheEnd}
 use Rattle.lvish_core.specs.Kept.{IsKept}
 use Rattle.lvish_core.specs.Changes.{local_of}
 use Rattle.lvish_variable.specs.Variable.{VariableView as Variable}
-use Rattle.lvish_core.specs.Reads.{AreStates}
+use Rattle.lvish_core.specs.Reads.{AreStates, IsDrainedAt}
+use Rattle.lvish_core.specs.Waiting.{NoneFreezes}
 use Rattle.lvish_core.specs.Core.{CoreView, CanTake, state, at_fault, picture}
 use Rattle.lvish_core.specs.Acts.{IsActing}
 use Rattle.lvish_picture.proofs.Slots.{get_there}
@@ -103,3 +106,12 @@ acting M c none t l f a p live r asks at at_is b ready e = record {
   at_is = sym at_is;
   ready = ready.0 e;
 }
+
+-- while something is left to hand to a handler of a variable, no task can freeze it
+pub none_freezes : {P S E R A L : Type 0} (M : Machine S E R A L) (n running : ℕ) (places : List (Handler E × HandlerPlace)) (c : CoreView P S E L) (k : IsKept M n running places c) → DrainedAtTheEnd M
+    → (v : ℕ) (b : Bool) → IsTrue b ↔ IsDrainedAt c.table v → b ≡ false → NoneFreezes M c v
+none_freezes M n running places c k ends v b drained waits t at pools there asks can =
+    let live = live_there ((state M c).tasks t) (ap is_some there) in
+    let local : live.0 ≡ at = same_Some _ _ (sym (ap local_of live.4) ∙ there) in
+    let acts = can_acting M n running places c k t live.0 live.1 live.2 live.3 live.4 can (Freeze v pools) (ap M.request local ∙ asks) (M.at live.0) refl in
+    both_ways b waits (drained.1 (λ x hs is by. (ends k.standing.run c.table v x hs k.standing.pictured is by).1 acts.ready.drained))

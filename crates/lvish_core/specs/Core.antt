@@ -10,6 +10,7 @@ use Rattle.lvish_handlers.specs.Handlers.{HandlersView as Handlers, next_of}
 use Rattle.lvish_picture.specs.Logs.{IsInOrder}
 use Rattle.lvish_picture.specs.Picture.{Table, IsTable, table_picture}
 use Rattle.lvish_core.specs.Changes.{brought, touched_by}
+use Rattle.lvish_core.specs.Tasks.{KeepsIndices}
 
 -- what contracts see of a core: its program, the table of variables, handlers and tasks, the number of steps, the error, and what the last step concerned.
 -- After an error the table is the one before it
@@ -91,6 +92,7 @@ pub record IsStep {P S E R A L : Type 0} (M : Machine S E R A L) (old : CoreView
   -- a put's log grows by the entries that it brings, and the others stay
   pub logs : (v : ℕ) (x y : Variable S E) → slice_get old.table.variables v ≡ Some x → slice_get new.table.variables v ≡ Some y → y.log ≡ x.log ++ brought M (state M old) l v
   pub touched : new.touched ≡ Some (touched_by M (state M old) l)
+  pub indices : KeepsIndices old.table.tasks new.table.tasks
   -- after an error the variables, the handlers and the tasks are as they were before it
   pub shows_before : (kind : ErrorKind) → said ≡ ErrorStep kind → new.table ≡ old.table
 

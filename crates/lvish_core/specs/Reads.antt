@@ -57,10 +57,18 @@ pub record AreHandlers {P S E R A L : Type 0} (M : Machine S E R A L) (c : CoreV
 abbrev pub AreWithin : {S E : Type 0} → List (Variable S E) → List (Handlers E) → Type 0
 AreWithin {S} {E} variables handlers = (v : ℕ) (x : Variable S E) (hs : Handlers E) → slice_get variables v ≡ Some x → slice_get handlers v ≡ Some hs → IsWithin hs x.log
 
+-- every handler beside the variable of this number, if there is one, was handed the whole log of the variable
+abbrev pub IsHandedAt : {S E : Type 0} → List (Variable S E) → List (Handlers E) → ℕ → Type 0
+IsHandedAt {S} {E} variables handlers v = (x : Variable S E) (hs : Handlers E) → slice_get variables v ≡ Some x → slice_get handlers v ≡ Some hs → All (λ h. h.handed ≡ length x.log) hs.held
+
 -- every handler beside a variable was handed the whole log of the variable
 abbrev pub IsAllHanded : {S E : Type 0} → List (Variable S E) → List (Handlers E) → Type 0
-IsAllHanded {S} {E} variables handlers = (v : ℕ) (x : Variable S E) (hs : Handlers E) → slice_get variables v ≡ Some x → slice_get handlers v ≡ Some hs → All (λ h. h.handed ≡ length x.log) hs.held
+IsAllHanded variables handlers = (v : ℕ) → IsHandedAt variables handlers v
 
 -- every handler was handed the whole log of its variable
 abbrev pub AreDrained : {S E L : Type 0} → Table S E L → Type 0
 AreDrained c = IsAllHanded c.variables c.handlers
+
+-- every handler on the variable of this number, if there is one, was handed its whole log
+abbrev pub IsDrainedAt : {S E L : Type 0} → Table S E L → ℕ → Type 0
+IsDrainedAt c v = IsHandedAt c.variables c.handlers v

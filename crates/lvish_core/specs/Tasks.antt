@@ -31,9 +31,14 @@ task_names tasks = map (λ e. e.0) tasks
 abbrev pub IsAt : {E L : Type 0} → List (Name E × Task L) → ℕ → Name E → Type 0
 IsAt tasks index t = slice_get (task_names tasks) index ≡ Some t
 
--- the new list has k under t, and under each other name what the old one has
+-- each task keeps its index
+abbrev pub KeepsIndices : {E L : Type 0} → List (Name E × Task L) → List (Name E × Task L) → Type 0
+KeepsIndices {E} old new = (i : ℕ) (t : Name E) → IsAt old i t → IsAt new i t
+
+-- the new list has k under t, and under each other name what the old one has; each task keeps its index
 pub record Sets {E L : Type 0} (eq : E → E → Bool) (old : List (Name E × Task L)) (t : Name E) (k : Task L) (new : List (Name E × Task L)) : Type 0 where
   pub each : (u : Name E) → task_of eq new u ≡ with_task eq (Some (t, k)) (task_of eq old) u
+  pub indices : KeepsIndices old new
 
 -- the parent's child of this number, which starts in the local state
 pub record IsChild {E L : Type 0} (parent : Name E) (number : ℕ) (local : L) (c : Child E L) : Type 0 where

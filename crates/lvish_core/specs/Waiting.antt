@@ -5,7 +5,8 @@ use Rattle.lvish_calculus.specs.Machine.{Machine}
 use Rattle.lvish_calculus.specs.Calculus.{Live, IsReady, IsEnded}
 use Rattle.lvish_names.specs.Names.{Name}
 use Rattle.lvish_calculus.specs.Waiting.{HasWaiting}
-use Rattle.lvish_core.specs.Core.{CoreView, state, picture, IsRunTo, IsStep}
+use Rattle.lvish_core.specs.Changes.{local_of}
+use Rattle.lvish_core.specs.Core.{CoreView, state, picture, IsRunTo, IsStep, CanTake}
 use Rattle.lvish_core.specs.Reads.{HasRunning, AreDrained}
 
 -- whether a step can wake the request's task, by what it concerned: a put can wake the gets from its variable; a handing, or the end of a task in one of a variable's pools, the freezes of that variable
@@ -25,3 +26,7 @@ WaitsUntilTouched {S} {E} {R} {A} {L} P M = (c d : CoreView P S E L) (xs : List 
 abbrev pub EndsByCounts : {S E R A L : Type 0} → Type 0 → Machine S E R A L → Type 0
 EndsByCounts {S} {E} {R} {A} {L} P M = (c : CoreView P S E L) (xs : List (Label E)) (n : ℕ) → IsRunTo M c xs → c.fault ≡ None → HasRunning M c n → HasWaiting M (state M c) n
     → IsEnded M (picture M c) ↔ AreDrained c.table
+
+-- no task can freeze the variable
+abbrev pub NoneFreezes : {P S E R A L : Type 0} → Machine S E R A L → CoreView P S E L → ℕ → Type 0
+NoneFreezes {E = E} {L = L} M c v = (t : Name E) (at : L) (pools : List ℕ) → local_of ((state M c).tasks t) ≡ Some at → M.request at ≡ Freeze v pools → CanTake M c (Act t) → ⊥

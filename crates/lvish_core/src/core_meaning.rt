@@ -73,6 +73,9 @@ pub trait CoreMeaning: Program {
     /// Every handler was handed the whole log of its variable.
     ghost are_drained: { CoreView Self Self.Lat Self.Lat.Event Self.Local → Type 0 };
 
+    /// Every handler on the variable of this number, if there is one, was handed its whole log.
+    ghost is_drained_at: { CoreView Self Self.Lat Self.Lat.Event Self.Local → ℕ → Type 0 };
+
     /// This many tasks of the picture haven't ended.
     ghost has_running: { CoreView Self Self.Lat Self.Lat.Event Self.Local → ℕ → Type 0 };
 
@@ -88,7 +91,7 @@ impl<P: Program> CoreMeaning for P {
     ghost use Rattle.lvish_calculus.specs.Calculus.{IsEnded};
     ghost use Rattle.lvish_core.specs.Core.{picture, state, IsReached, IsRunTo, IsBegun, CanTake, IsStep, IsStepRefused, IsNext};
     ghost use Rattle.lvish_core.specs.Changes.{IsMoved, local_of};
-    ghost use Rattle.lvish_core.specs.Reads.{IsItsRequest, IsItsPlace, IsLiveAt, HasRunning, AreStates, AreHandlers, AreDrained};
+    ghost use Rattle.lvish_core.specs.Reads.{IsItsRequest, IsItsPlace, IsLiveAt, HasRunning, AreStates, AreHandlers, AreDrained, IsDrainedAt};
     ghost use Rattle.lvish_core.specs.Labels.{AreLabels};
 
     ghost picture = { λ c. picture (⟦<P as Meaning>⟧.machine c.program) c };
@@ -126,6 +129,8 @@ impl<P: Program> CoreMeaning for P {
     ghost is_held = { λ c h. IsSome ((state (⟦<P as Meaning>⟧.machine c.program) c).handlers h) };
 
     ghost are_drained = { λ c. AreDrained c.table };
+
+    ghost is_drained_at = { λ c v. IsDrainedAt c.table v };
 
     ghost has_running = { λ c n. HasRunning (⟦<P as Meaning>⟧.machine c.program) c n };
 

@@ -1,9 +1,10 @@
-ghost use Rattle.std.specs.Prelude.{◌≡◌, ℕ, [], MatchResult, IfOk, IfSome, option_copied};
+ghost use Rattle.std.specs.Prelude.{◌≡◌, [], MatchResult, IfOk, IfSome, length, option_copied, slice_get};
 ghost use Rattle.std.specs.Option.{option_map};
 ghost use Rattle.std.specs.List.{IsDistinct};
 ghost use Rattle.std.specs.List.Sorted.{IsStrictlySortedBy};
 ghost use Rattle.lvish_names.specs.NameOrder.{name_cmp};
 ghost use Rattle.lvish_names.specs.Names.{Name, same_name};
+ghost use Rattle.lvish_calculus.specs.Calculus.{Absent};
 ghost use Rattle.lvish_picture.specs.Picture.{task_of};
 ghost use Rattle.lvish_core.specs.Tasks.{IsAt, Sets, SameTasks, standing, standing_at, standings, entries_at, task_names};
 
@@ -107,11 +108,36 @@ impl<E: Plain + Hash, L: Drop> Tasks<E, L> {
         }
     }
 
-    /// Adds a task, or replaces the one that has its name.
+    /// How many tasks there are.
+    pub fn len(&self) -> usize
+        ensures { result ≡ length self.now }
+    {
+        self.stages.len()
+    }
+
+    /// The name of the task at the index.
+    pub fn name_at(&self, index: usize) -> Option<&TaskName<E>>
+        ensures { option_copied result ≡ slice_get (task_names self.now) index }
+    {
+        match self.stages.get_index(index) {
+            Some((name, _stage)) => Some(name),
+            None => None,
+        }
+    }
+
+    /// The names of the tasks, each at its task's index, without a copy.
+    pub fn into_names(self, alloc: Global) -> Result<Vec<TaskName<E>>, AllocError>
+        ensures { IfOk result (λ v. v.items ≡ task_names self) }
+    {
+        let Tasks { stages } = self;
+        let names: Vec<TaskName<E>> = stages.into_keys().collect(alloc)?;
+        Ok(names)
+    }
+
+    /// Adds a task behind the others, or replaces the one that has its name.
     pub fn insert(&mut self, name: TaskName<E>, stage: Stage<L>) -> Result<(), AllocError>
         ensures set { MatchResult result (λ _. Sets E.eq self.old name (standing stage) self.new) (λ _. self.new ≡ self.old) }
-        // The others keep their indices.
-        ensures stay { IfOk result (λ _. (i : ℕ) (t : Name E) → IsAt self.old i t → IsAt self.new i t) }
+        ensures added { IfOk result (λ _. task_of E.eq self.old name ≡ Absent → IsAt self.new (length self.old) name) }
     {
         self.stages.insert(name, stage)?;
         Ok(())

@@ -12,6 +12,7 @@ mod Texts
 pub mod Braces
 mod Counted
 mod Parts
+mod TraceLines
 pub mod OfScript
 pub mod Once
 pub mod Ending

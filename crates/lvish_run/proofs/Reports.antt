@@ -16,6 +16,8 @@ use Rattle.lvish_core.specs.Labels.{AreLabels}
 use Rattle.lvish_core.specs.laws.Runs.{no_error_before}
 use Rattle.lvish_run.specs.declared.report.FinalState.{FinalState}
 use Rattle.lvish_board.specs.declared.trace_entry.TraceEntry.{TraceEntry}
+use Rattle.lvish_board.specs.declared.noted.Noted.{Noted}
+use Rattle.lvish_board.specs.Noted.{IsNoted, entry_at, entries_of}
 use Rattle.lvish_run.specs.declared.report.Report.{Report}
 use Rattle.lvish_board.specs.declared.outcome.Outcome.{Outcome}
 use Rattle.lvish_board.specs.declared.outcome.Outcome.TheVariants.{Ended, Error as ErrorOutcome, Budget}
@@ -105,6 +107,17 @@ module _ {P S E R A L : Type 0} (cmp : E → E → Ordering) (machine : P → Ma
   walked_counts core counts same is = subst (λ ns. IsCountByWorker 1 s.trace ns) (sym is) (counted_of_one core.steps s.trace (ap (λ c. c.steps) same ∙ walked.walk.steps) walked.walk.workers)
 
 -- ---- the report of a board
+
+-- noted steps are the trace that they are by the names of the tasks
+module _ {E : Type 0} (names theirs : List (Name E)) (noted : List Noted) (trace : List (TraceEntry E)) (same : names ≡ theirs) (is : trace ≡ entries_of theirs noted) where
+  pub named_trace : entries_of names noted ≡ trace
+  named_trace = ap (λ ns. entries_of ns noted) same ∙ sym is
+
+  pub named_all : AllByRecursion (IsNoted theirs) noted → AllByRecursion (IsNoted names) noted
+  named_all all = subst (λ ns. AllByRecursion (IsNoted ns) noted) (sym same) all
+
+  pub named_long : (steps : ℕ) → steps ≡ length noted → steps ≡ length (entries_of names noted)
+  named_long steps long = long ∙ sym (length-map noted (entry_at names))
 
 module _ {P S E R A L : Type 0} (M : Machine S E R A L) (variables budget : ℕ) (s : Standing P S E L) (r : Report S E) (leads : IsRunTo M s.core (labels_of s.trace)) (trace_is : r.trace ≡ s.trace) (steps : r.steps ≡ length s.trace) where
   -- the run of its trace

@@ -1,11 +1,15 @@
 ghost use Rattle.std.specs.Prelude.{◌≡◌, IfOk};
+ghost use Rattle.std.specs.List.{AllByRecursion};
+ghost use Rattle.lvish_core.specs.Tasks.{task_names};
+ghost use Rattle.lvish_board.specs.Noted.{IsNoted, entries_of};
 ghost use Rattle.lvish_run.specs.Walk.{IsHow, IsAccount, AreStatesOf};
 
-use crate::report::{Counts, FinalState, Report, States, Trace};
-use lvish_board::{Outcome, TraceEntry};
+use crate::report::{Counts, FinalState, Report, States};
+use lvish_board::{Noted, Outcome, Trace};
 use lvish_calculus::{Meaning, Program};
 use lvish_core::{Core, RunError};
 use lvish_lattice::{Lattice, Plain};
+use lvish_names::TaskName;
 use lvish_variable::Variable;
 use std::alloc::{AllocError, Global};
 
@@ -14,6 +18,8 @@ pub struct Account<S, E> {
     pub outcome: Outcome<E>,
     pub states: States<S>,
     pub blocked: u64,
+    /// The names of the tasks that were ever there, in the order in which they came.
+    pub names: Vec<TaskName<E>>,
 }
 
 // Written out, so that it is proved once, and not at each exit of a function that owns one.
@@ -23,26 +29,29 @@ impl<S: Drop, E: Drop> Drop for Account<S, E> {
             outcome: _,
             states: _,
             blocked: _,
+            names: _,
         } = self;
     }
 }
 
 impl<S, E> Account<S, E> {
-    /// The report of these steps.
-    pub fn report(self, steps: u64, trace: Vec<TraceEntry<E>>, by_worker: Counts) -> Report<S, E>
-        ensures { result ≡ record { outcome = self.outcome; states = self.states; steps = steps; blocked = self.blocked; trace = trace.items; by_worker = by_worker } }
+    /// The report of these steps of its tasks.
+    pub fn report(self, steps: u64, noted: Vec<Noted>, by_worker: Counts) -> Report<S, E>
+        requires { AllByRecursion (IsNoted self.names.items) noted.items }
+        ensures { result ≡ record { outcome = self.outcome; states = self.states; steps = steps; blocked = self.blocked; trace = entries_of self.names.items noted.items; by_worker = by_worker } }
     {
         let Account {
             outcome,
             states,
             blocked,
+            names,
         } = self;
         Report {
             outcome,
             states,
             steps,
             blocked,
-            trace: Trace::from(trace),
+            trace: Trace::new(noted, names),
             by_worker,
         }
     }
@@ -105,18 +114,22 @@ pub fn account_of<P: Program>(
 ) -> Result<Account<P::Lat, <P::Lat as Lattice>::Event>, AllocError>
     ensures outcome { IfOk result (λ a. a.outcome ≡ outcome) }
     ensures account { IfOk result (λ a. IsAccount (⟦<P as Meaning>⟧.machine core.entry.program) (P.functions core.entry.program).variables core.entry a.outcome a.states a.blocked) }
+    ensures names { IfOk result (λ a. a.names.items ≡ task_names core.entry.table.tasks) }
 {
     let blocked = core.running() as u64;
+    let (variables, names) = core.into_parts(alloc)?;
     match &outcome {
         Outcome::Error { .. } => Ok(Account {
             outcome,
             states: States::from(Vec::new(alloc)),
             blocked: 0,
+            names,
         }),
         Outcome::Ended | Outcome::Budget => Ok(Account {
             outcome,
-            states: final_states(alloc, core.into_states())?,
+            states: final_states(alloc, variables)?,
             blocked,
+            names,
         }),
     }
 }

@@ -1,9 +1,12 @@
 //! The tasks that may go on, and the handlers that may have something left for them.
 
 ghost use Rattle.std.specs.Prelude.{◌≡◌, true, None, Some, IfOk, IfErr, MatchOption};
-ghost use Rattle.std.specs.BTreeMap.{IsUnchanged};
+ghost use Rattle.std.specs.Map.{lookup};
+ghost use Rattle.std.specs.BTreeMap.{IsUnchanged, is_at};
+ghost use Rattle.lvish_names.specs.NameOrder.{name_cmp};
 ghost use Rattle.lvish_run.specs.Agenda.{open_in, IsEmpty, SetsOpenTask, HasHandler, NoTask, NoHandler, IsTaskGone, IsHandlerGone, PutsAt, IsBelow};
 
+use crate::boxed_asked::BoxedAsked;
 use lvish_board::{Asked, Named};
 use lvish_calculus::Program;
 use lvish_lattice::Lattice;
@@ -18,7 +21,7 @@ pub(crate) struct Agenda<P: Program, J: Named<P>> {
     // the first open task, where it doesn't stand among the others: a task that goes on is mostly the
     // first again, and is then taken from here with no tree changed
     first: Option<Asked<P, J>>,
-    others: BTreeMap<TaskName<<P::Lat as Lattice>::Event>, Asked<P, J>>,
+    others: BTreeMap<TaskName<<P::Lat as Lattice>::Event>, BoxedAsked<P, J>>,
     handlers: BTreeSet<HandlerName<<P::Lat as Lattice>::Event>>,
 }
 
@@ -47,7 +50,7 @@ impl<P: Program, J: Named<P>> Model for Agenda<P, J> {
 /// Whether the name is below that of each of these tasks.
 fn is_below<P: Program, J: Named<P>>(
     name: &TaskName<<P::Lat as Lattice>::Event>,
-    others: &BTreeMap<TaskName<<P::Lat as Lattice>::Event>, Asked<P, J>>,
+    others: &BTreeMap<TaskName<<P::Lat as Lattice>::Event>, BoxedAsked<P, J>>,
 ) -> bool
     ensures { result ≡ true → IsBelow P.Lat.Event.cmp name.now others.now.entries }
 {
@@ -63,16 +66,31 @@ fn is_below<P: Program, J: Named<P>>(
 
 /// Puts the task among the others, in place of any of its name.
 fn keep<P: Program, J: Named<P>>(
-    others: &mut BTreeMap<TaskName<<P::Lat as Lattice>::Event>, Asked<P, J>>,
+    alloc: Global,
+    others: &mut BTreeMap<TaskName<<P::Lat as Lattice>::Event>, BoxedAsked<P, J>>,
     asked: Asked<P, J>,
 ) -> Result<(), AllocError>
     ensures ok { IfOk result (λ _. PutsAt P.Lat.Event.cmp others.old.entries asked.task (Some asked) others.new.entries) }
     ensures err { IfErr result (λ _. IsUnchanged others.old others.new) }
 {
     let name = asked.task().copy()?;
-    match others.insert(name, asked) {
+    match others.insert(name, BoxedAsked::new(alloc, asked)?) {
         Ok(_) => Ok(()),
         Err(_) => Err(AllocError),
+    }
+}
+
+/// Takes the task of this name out of the others.
+fn taken<P: Program, J: Named<P>>(
+    others: &mut BTreeMap<TaskName<<P::Lat as Lattice>::Event>, BoxedAsked<P, J>>,
+    name: &TaskName<<P::Lat as Lattice>::Event>,
+) -> Option<Asked<P, J>>
+    ensures was { result ≡ lookup (is_at (name_cmp P.Lat.Event.cmp name.now)) others.old.entries }
+    ensures without { PutsAt P.Lat.Event.cmp others.old.entries name.now None others.new.entries }
+{
+    match others.remove(name) {
+        Some(asked) => Some(asked.into_asked()),
+        None => None,
     }
 }
 
@@ -98,7 +116,7 @@ impl<P: Program, J: Named<P>> Agenda<P, J> {
         let Some((_, asked)) = self.others.pop_first() else {
             return None;
         };
-        Some(asked)
+        Some(asked.into_asked())
     }
 
     /// Takes the open task of this name out.
@@ -114,9 +132,9 @@ impl<P: Program, J: Named<P>> Agenda<P, J> {
                 if first.task().cmp(name).is_eq() {
                     return self.first.take();
                 }
-                self.others.remove(name)
+                taken(&mut self.others, name)
             }
-            None => self.others.remove(name),
+            None => taken(&mut self.others, name),
         }
     }
 
@@ -128,27 +146,27 @@ impl<P: Program, J: Named<P>> Agenda<P, J> {
     }
 
     /// Opens the task, in place of any of its name.
-    pub(crate) fn open_task(&mut self, asked: Asked<P, J>) -> Result<(), AllocError>
+    pub(crate) fn open_task(&mut self, alloc: Global, asked: Asked<P, J>) -> Result<(), AllocError>
         ensures { IfOk result (λ _. SetsOpenTask P.Lat.Event.cmp (open_in P.Lat.Event.cmp self.old) asked.task (Some asked) (open_in P.Lat.Event.cmp self.new)) }
     {
         match &self.first {
             Some(first) => match asked.task().cmp(first.task()) {
                 Ordering::Less => match self.first.replace(asked) {
-                    Some(second) => keep(&mut self.others, second),
+                    Some(second) => keep(alloc, &mut self.others, second),
                     None => Ok(()),
                 },
                 Ordering::Equal => {
                     self.first = Some(asked);
                     Ok(())
                 }
-                Ordering::Greater => keep(&mut self.others, asked),
+                Ordering::Greater => keep(alloc, &mut self.others, asked),
             },
             None => {
                 if is_below(asked.task(), &self.others) {
                     self.first = Some(asked);
                     return Ok(());
                 }
-                keep(&mut self.others, asked)
+                keep(alloc, &mut self.others, asked)
             }
         }
     }

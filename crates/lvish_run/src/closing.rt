@@ -51,9 +51,9 @@ pub(crate) fn told<P: Program, J: Named<P>>(
 {
     handing_kept::<P>();
     same_end::<P>();
-    let (core, trace) = board.into_parts();
+    let (core, noted) = board.into_parts();
     let account = account_of(alloc, core, outcome)?;
-    Ok(account.report(trace.len() as u64, trace, by_worker))
+    Ok(account.report(noted.len() as u64, noted, by_worker))
 }
 
 /// The report of a board that is over, by this many workers.
@@ -79,6 +79,6 @@ pub fn report_of<P: Program, J: Named<P>>(
         return Err(RunFault::Mixed);
     };
     let outcome = copy_of(over)?;
-    let by_worker = count_by_worker(alloc, board.trace(), workers)?;
+    let by_worker = count_by_worker(alloc, board.noted(), workers)?;
     Ok(told(alloc, board, outcome, by_worker)?)
 }

@@ -1,32 +1,28 @@
 ghost use Rattle.std.specs.Prelude.{◌≡◌, ◌≢◌, ◌==◌, IfOk, count_by};
-ghost use Rattle.lvish_run.specs.Honest.{IsCountByWorker};
+ghost use Rattle.lvish_run.specs.Crew.{AreCounts};
 
 use crate::fault::RunFault;
 use crate::report::Counts;
-use lvish_board::TraceEntry;
+use lvish_board::Noted;
 use std::alloc::Global;
 
-/// How many steps of the trace the worker made.
-fn made_by<E>(trace: &[TraceEntry<E>], worker: usize) -> u64
-    ensures { result ≡ count_by (λ e. e.worker == worker) trace.now }
+/// How many of the noted steps the worker made.
+fn made_by(noted: &[Noted], worker: usize) -> u64
+    ensures { result ≡ count_by (λ n. n.worker == worker) noted.now }
 {
-    trace.iter().filter(|entry| entry.worker == worker).count() as u64
+    noted.iter().filter(|entry| entry.worker == worker).count() as u64
 }
 
-/// How many steps of the trace each worker made; `Mixed` where they don't add up to all.
-pub fn count_by_worker<E>(
-    alloc: Global,
-    trace: &[TraceEntry<E>],
-    workers: usize,
-) -> Result<Counts, RunFault>
-    ensures counts { IfOk result (λ counts. IsCountByWorker workers trace.now counts) }
+/// How many of the noted steps each worker made; `Mixed` where they don't add up to all.
+pub fn count_by_worker(alloc: Global, noted: &[Noted], workers: usize) -> Result<Counts, RunFault>
+    ensures counts { IfOk result (λ counts. AreCounts workers noted.now counts) }
     ensures not_stopped { result ≢ Err RunFault.Stopped }
     ensures all_there { result ≢ Err RunFault.NoThread }
 {
     let mut by_worker = Vec::new(alloc);
     let mut total = 0u64;
     for worker in 0..workers {
-        let steps = made_by(trace, worker);
+        let steps = made_by(noted, worker);
         let Some(more) = total.checked_add(steps) else {
             return Err(RunFault::Mixed);
         };
@@ -35,7 +31,7 @@ pub fn count_by_worker<E>(
             return Err(RunFault::Memory);
         }
     }
-    if total == trace.len() as u64 {
+    if total == noted.len() as u64 {
         Ok(Counts::from(by_worker))
     } else {
         Err(RunFault::Mixed)

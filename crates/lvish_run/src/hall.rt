@@ -10,8 +10,7 @@ use crate::gate::Gate;
 use crate::own_steps::OwnSteps;
 use crate::piece::Piece;
 use crate::worker::work;
-use lvish_board::{Board, Named, TraceEntry};
-use lvish_compound::Event;
+use lvish_board::{Board, Named, Noted};
 use lvish_deal::Seat;
 use lvish_task::ScriptCode;
 use std::alloc::{AllocError, Global};
@@ -51,9 +50,9 @@ impl Drop for Crew {
 }
 
 impl Crew {
-    /// Why there is no report of this trace.
-    pub fn fault(&self, trace: &[TraceEntry<Event>]) -> Option<RunFault>
-        ensures { IsFault self.now.missing self.now.owns.items trace.now result }
+    /// Why there is no report of the steps that a board noted.
+    pub fn fault(&self, noted: &[Noted]) -> Option<RunFault>
+        ensures { IsFault self.now.missing self.now.owns.items noted.now result }
     {
         if self.missing {
             return Some(RunFault::NoThread);
@@ -64,7 +63,7 @@ impl Crew {
         if some_was_stopped(&self.owns) {
             return Some(RunFault::Stopped);
         }
-        if are_parts(&self.owns, trace) {
+        if are_parts(&self.owns, noted) {
             None
         } else {
             Some(RunFault::Mixed)
@@ -86,11 +85,11 @@ fn some_was_stopped(owns: &[OwnSteps]) -> bool
     owns.iter().any(|own| own.was_stopped())
 }
 
-/// Whether each worker's own list is just its steps in the trace.
-fn are_parts(owns: &[OwnSteps], trace: &[TraceEntry<Event>]) -> bool
-    ensures { IsTrue result ↔ All (IsPart trace.now) owns.now }
+/// Whether each worker's own list is just its steps among those that a board noted.
+fn are_parts(owns: &[OwnSteps], noted: &[Noted]) -> bool
+    ensures { IsTrue result ↔ All (IsPart noted.now) owns.now }
 {
-    owns.iter().all(|own| own.is_part(trace))
+    owns.iter().all(|own| own.is_part(noted))
 }
 
 /// Runs the worker of the first seat on this thread and those of the others on threads of their own,

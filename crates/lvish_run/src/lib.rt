@@ -15,6 +15,7 @@
 
 mod account;
 mod agenda;
+mod boxed_asked;
 mod closing;
 mod count_by_worker;
 mod ends;
@@ -45,9 +46,9 @@ pub use ends::always_ends;
 pub use fault::RunFault;
 pub use gate::{Gate, Open};
 pub use limits::{MOST_STEPS, MOST_WORKERS};
-pub use lvish_board::{Outcome, TraceEntry};
+pub use lvish_board::{Outcome, Trace, TraceEntry};
 pub use picks::pick_at;
-pub use report::{Counts, FinalState, Report, States, Trace};
+pub use report::{Counts, FinalState, Report, States};
 pub use runner::run_program;
 pub use scripts::{RunMeaning, run_picks};
 pub use text::report_text;

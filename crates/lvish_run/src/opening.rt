@@ -22,7 +22,7 @@ fn open_ticket<P: Program, J: Named<P>>(
     ensures { IfOk result (λ _. SetsOpenTask P.Lat.Event.cmp (open_in P.Lat.Event.cmp agenda.old) ticket.task (Some ticket) (open_in P.Lat.Event.cmp agenda.new)) }
 {
     match stretch(alloc, program, ticket) {
-        Ok(asked) => agenda.open_task(asked),
+        Ok(asked) => agenda.open_task(alloc, asked),
         Err(_ticket) => Err(AllocError),
     }
 }
@@ -39,7 +39,7 @@ pub(crate) fn open_one<P: Program, J: Named<P>>(
 {
     match work {
         Work::Stretch(ticket) => open_ticket(alloc, program, agenda, ticket),
-        Work::Act(asked) => agenda.open_task(asked),
+        Work::Act(asked) => agenda.open_task(alloc, asked),
         Work::Hand(handler) => agenda.open_handler(handler),
     }
 }
@@ -62,13 +62,14 @@ fn open_some<P: Program, J: Named<P>>(
 
 /// Opens the tasks that a step woke.
 fn open_woken<P: Program, J: Named<P>>(
+    alloc: Global,
     agenda: &mut Agenda<P, J>,
     woken: Vec<Asked<P, J>>,
 ) -> Result<(), AllocError>
     ensures { IfOk result (λ _. Opens woken.items [] (open_in P.Lat.Event.cmp agenda.old) (open_in P.Lat.Event.cmp agenda.new)) }
 {
     for asked in woken {
-        agenda.open_task(asked)?;
+        agenda.open_task(alloc, asked)?;
     }
     Ok(())
 }
@@ -97,6 +98,7 @@ pub(crate) fn open_all<P: Program, J: Named<P>>(
     ensures { IfOk result (λ _. Adds (works_of works) (open_in P.Lat.Event.cmp agenda.old) (open_in P.Lat.Event.cmp agenda.new)) }
 {
     let Works {
+        step: _,
         own,
         made,
         woken,
@@ -104,6 +106,6 @@ pub(crate) fn open_all<P: Program, J: Named<P>>(
     } = works;
     open_some(alloc, program, agenda, own)?;
     open_some(alloc, program, agenda, made)?;
-    open_woken(agenda, woken)?;
+    open_woken(alloc, agenda, woken)?;
     open_hands(agenda, hands)
 }

@@ -1,4 +1,4 @@
-use lvish_board::{Outcome, TraceEntry};
+use lvish_board::{Outcome, Trace};
 use lvish_lattice::Items;
 
 /// A variable's content, and whether it is frozen.
@@ -20,9 +20,6 @@ impl<S: Drop> Drop for FinalState<S> {
 
 /// The states of the variables, in their order.
 pub type States<S> = Items<FinalState<S>>;
-
-/// The steps of a run, in their order.
-pub type Trace<E> = Items<TraceEntry<E>>;
 
 /// Numbers by worker, in the order of the workers.
 pub type Counts = Items<u64>;

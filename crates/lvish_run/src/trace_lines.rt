@@ -1,31 +1,28 @@
 ghost use Rattle.std.specs.Prelude.{◌≡◌, ◌++◌, IfOk, OnOk, string_bytes};
 ghost use Rattle.lvish_board.specs.Standing.{labels_of};
-ghost use Rattle.lvish_run.specs.TraceText.{label_line, trace_lines};
+ghost use Rattle.lvish_run.specs.TraceText.{step_line, trace_lines};
 
 use crate::number_text::push_name;
 use crate::report::Report;
-use lvish_calculus::Label;
+use lvish_board::TracedStep;
 use lvish_lattice::{Numbered, Plain};
-use lvish_names::TaskName;
 use std::alloc::{AllocError, Global};
 
 /// Adds a step's line: the task that acts, or the one that a handing starts.
 fn push_line<E: Plain + Numbered>(
-    alloc: Global,
     text: &mut String,
-    label: &Label<E>,
+    step: TracedStep<'_, E>,
 ) -> Result<(), AllocError>
-    ensures { OnOk result (string_bytes text.new ≡ string_bytes text.old ++ label_line E.key_of E.number_of label.now) }
+    ensures { OnOk result (string_bytes text.new ≡ string_bytes text.old ++ step_line E.key_of E.number_of step.entry) }
 {
-    match label {
-        Label::Act(task) => {
+    match step {
+        TracedStep::Run(task) => {
             text.push_str("run ")?;
             push_name(text, task)?;
         }
-        Label::Hand(handler, event) => {
-            let started = TaskName::handled(alloc, handler, event)?;
+        TracedStep::Hand(task) => {
             text.push_str("hand ")?;
-            push_name(text, &started)?;
+            push_name(text, task)?;
         }
     }
     text.push_str("\n")
@@ -44,8 +41,11 @@ pub fn trace_text<S, E: Plain + Numbered>(
     ensures { IfOk result (λ t. string_bytes t ≡ trace_lines E.key_of E.number_of (labels_of report.now.trace)) }
 {
     let mut text = String::new(alloc);
-    for entry in report.trace.as_slice() {
-        push_line(alloc, &mut text, &entry.label)?;
+    for number in 0..report.trace.len() {
+        let Some(step) = report.trace.step(number) else {
+            unreachable!()
+        };
+        push_line(&mut text, step)?;
     }
     Ok(text)
 }

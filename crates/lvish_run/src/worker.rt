@@ -8,10 +8,10 @@ ghost use Rattle.lvish_deal.specs.Place.{IsSameSeat};
 ghost use Rattle.lvish_run.specs.declared.own_steps.Why.TheVariants.{Stopped};
 
 use crate::gate::Gate;
-use crate::own_steps::{OwnSteps, Step, Why};
+use crate::own_steps::{OwnSteps, Why};
 use crate::pause::Pause;
 use crate::piece::Piece;
-use lvish_board::{Acted, Asked, Board, Named, Ticket, Works, stretch};
+use lvish_board::{Acted, Asked, Board, Named, Step, Ticket, Works, stretch};
 use lvish_compound::Event;
 use lvish_deal::{Seat, Steal};
 use lvish_names::HandlerName;
@@ -243,9 +243,6 @@ fn act<J: Named<ScriptCode>, R: Wait>(
     pause: &mut Pause,
     asked: Asked<ScriptCode, J>,
 ) -> AfterWork<J> {
-    let Ok(task) = asked.task().copy() else {
-        return AfterWork::Memory;
-    };
     if steps.reserve(1).is_err() {
         return AfterWork::Memory;
     }
@@ -253,7 +250,7 @@ fn act<J: Named<ScriptCode>, R: Wait>(
     let answer = held.act(alloc, seat.number(), asked);
     let over = is_over(&held);
     drop(held);
-    note(steps, Step::Act(task), is_made(&answer));
+    note(steps, &answer);
     go_by(alloc, seat, over, answer)
 }
 
@@ -268,9 +265,6 @@ fn hand<J: Named<ScriptCode>, R: Wait>(
     pause: &mut Pause,
     handler: HandlerName<Event>,
 ) -> AfterWork<J> {
-    let Ok(name) = handler.copy() else {
-        return AfterWork::Memory;
-    };
     if steps.reserve(1).is_err() {
         return AfterWork::Memory;
     }
@@ -278,22 +272,17 @@ fn hand<J: Named<ScriptCode>, R: Wait>(
     let answer = held.hand(alloc, seat.number(), handler);
     let over = is_over(&held);
     drop(held);
-    note(steps, Step::Hand(name), is_made(&answer));
+    note(steps, &answer);
     go_by(alloc, seat, over, answer)
 }
 
-/// Whether the board made the step.
-fn is_made<J: Named<ScriptCode>>(answer: &Acted<ScriptCode, J>) -> bool {
-    matches!(answer, Acted::Next(_) | Acted::Gone(_))
-}
-
-/// Adds a step to the worker's own list, if it was made.
+/// Adds the step that the board made to the worker's own list, if it made one.
 #[inline(always)]
-fn note(steps: &mut Vec<Step>, step: Step, made: bool)
+fn note<J: Named<ScriptCode>>(steps: &mut Vec<Step>, answer: &Acted<ScriptCode, J>)
     requires room { vec_len steps.old < vec_capacity steps.old }
 {
-    if made {
-        steps.push_reserved(step);
+    if let Acted::Next(works) | Acted::Gone(works) = answer {
+        steps.push_reserved(works.step);
     }
 }
 
@@ -324,6 +313,7 @@ fn go_on<J: Named<ScriptCode>>(
     works: Works<ScriptCode, J>,
 ) -> AfterWork<J> {
     let Works {
+        step: _,
         own,
         made,
         woken,

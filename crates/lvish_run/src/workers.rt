@@ -101,7 +101,7 @@ fn settle<J: Named<ScriptCode>>(
     ensures patient { All (λ own. own.why ≢ Stopped) crew.owns.items → result ≢ Err RunFault.Stopped }
     ensures all_there { crew.missing ≡ false → result ≢ Err RunFault.NoThread }
 {
-    match crew.fault(board.trace()) {
+    match crew.fault(board.noted()) {
         Some(fault) => Err(fault),
         None => report_of(alloc, board, workers),
     }

@@ -169,7 +169,7 @@ fn budgets_stop_runs(rt: HostRuntime) -> Result<(), Fail> {
         let report = run_at_last(&rt, alloc, &script, workers, 7)?;
         assert_eq!(rt; word(&report.outcome), "budget");
         assert_eq!(rt; report.steps, 7);
-        assert_eq!(rt; report.trace.as_slice().len(), 7);
+        assert_eq!(rt; report.trace.len(), 7);
     }
     Ok(())
 }
@@ -247,12 +247,13 @@ fn two_workers_meet(rt: HostRuntime) -> Result<(), Fail> {
         "ended, steps 7, blocked 0"
     );
     assert!(rt; !gate.late.load(Ordering::SeqCst));
+    let trace = report.trace.entries(alloc)?;
     assert_eq!(rt;
-        mark_of(report.trace.as_slice(), 1).ok_or("main/1 made no step")?,
+        mark_of(&trace, 1).ok_or("main/1 made no step")?,
         gate.first.load(Ordering::SeqCst)
     );
     assert_eq!(rt;
-        mark_of(report.trace.as_slice(), 2).ok_or("main/2 made no step")?,
+        mark_of(&trace, 2).ok_or("main/2 made no step")?,
         gate.second.load(Ordering::SeqCst)
     );
     Ok(())

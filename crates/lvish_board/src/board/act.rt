@@ -3,7 +3,7 @@
 ghost use Rattle.std.specs.Prelude.{◌≡◌, ◌≢◌, ◌++◌, ◌∷◌, ◌↔◌, ℕ, [], true, false, None, Some, IsSome, IsTrue, MatchOption};
 ghost use Rattle.lvish_calculus.specs.declared.label.Label.TheVariants.{Act};
 ghost use Rattle.lvish_board.specs.declared.work.Work.TheVariants.{Act as ActOn};
-ghost use Rattle.lvish_board.specs.Acts.{entry_of, is_step, is_gone, is_over, is_stale, is_parked, GivesBack, ComesOfAct, IsDone, HasOwn, ListsWork, KeepsAtMemory};
+ghost use Rattle.lvish_board.specs.Acts.{entry_of, is_step, is_gone, is_over, is_stale, is_parked, GivesBack, ComesOfAct, IsDone, HasOwn, ListsWork, KeepsAtMemory, NotesStep};
 ghost use Rattle.lvish_board.specs.Woken.{IsParkedBeside};
 
 use super::Board;
@@ -26,6 +26,7 @@ impl<'p, P: Program, J: Named<P>> Board<'p, P, J> {
         // The task has ended by it or met an error.
         ensures gone { is_step result ≡ true → (is_gone result ≡ true) ↔ IsDone (⟦<P as Meaning>⟧.machine J.program) self.new.core asked.task }
         ensures list { ListsWork P.Lat.Event.cmp (⟦<P as Meaning>⟧.machine J.program) self.old (Act asked.task) self.new result }
+        ensures noted { NotesStep (Act asked.task) self.new result }
         // Its next ticket is there just where the task goes on.
         ensures own { HasOwn result }
         // A board that is over stays as it is.

@@ -5,23 +5,23 @@ ghost use Rattle.lvish_calculus.specs.declared.label.Label.TheVariants.{Hand};
 ghost use Rattle.lvish_board.specs.declared.work.Work.TheVariants.{Hand as HandTo};
 ghost use Rattle.lvish_core.specs.declared.fault.Stepped.{Stepped};
 ghost use Rattle.lvish_core.specs.Handed.{IsHanded};
-ghost use Rattle.lvish_board.specs.Acts.{entry_of, is_step, is_gone, is_over, is_stale, is_parked, GivesBack, ComesOfHand, HasNoOwn, ListsWork, KeepsAtMemory};
+ghost use Rattle.lvish_board.specs.Acts.{entry_of, is_step, is_gone, is_over, is_stale, is_parked, GivesBack, ComesOfHand, HasNoOwn, ListsWork, KeepsAtMemory, NotesStep};
 
 use super::Board;
 use super::make::has_all_variables;
 use crate::acted::Acted;
 use crate::list::{OwnWork, leave, ticket_of};
 use crate::named::Named;
+use crate::noted::{Noted, Step};
 use crate::outcome::Outcome;
 use crate::room::Room;
-use crate::trace_entry::TraceEntry;
 use crate::work::Work;
-use lvish_calculus::{Label, Meaning, Program};
+use lvish_calculus::{Meaning, Program};
 use lvish_core::laws::{hands_one_event, passes_at_its_spot, waiting_tasks};
 use lvish_core::{Core, CoreMeaning, Moved, StepFault};
-use lvish_lattice::{Lattice, Plain};
+use lvish_lattice::Lattice;
 use lvish_names::HandlerName;
-use std::alloc::{AllocError, Global};
+use std::alloc::Global;
 
 impl<'p, P: Program, J: Named<P>> Board<'p, P, J> {
     /// Hands the handler what comes next for it, by this worker.
@@ -37,6 +37,7 @@ impl<'p, P: Program, J: Named<P>> Board<'p, P, J> {
         ensures step { is_step result ≡ true → (e : P.Lat.Event) → ⟦<P as CoreMeaning>⟧.is_next self.old.core handler e → self.new.trace ≡ self.old.trace ++ entry_of worker (Hand handler e) ∷ [] }
         ensures gone { is_gone result ≡ false }
         ensures list { (e : P.Lat.Event) → ⟦<P as CoreMeaning>⟧.is_next self.old.core handler e → ListsWork P.Lat.Event.cmp (⟦<P as Meaning>⟧.machine J.program) self.old (Hand handler e) self.new result }
+        ensures noted { (e : P.Lat.Event) → ⟦<P as CoreMeaning>⟧.is_next self.old.core handler e → NotesStep (Hand handler e) self.new result }
         // No task has acted.
         ensures own { HasNoOwn result }
         // A board that is over stays as it is.
@@ -62,7 +63,7 @@ impl<'p, P: Program, J: Named<P>> Board<'p, P, J> {
         if self.over.is_some() {
             return Acted::Over;
         }
-        let Some(event) = self.next(&handler) else {
+        let Some(_event) = self.next(&handler) else {
             if self.holds(&handler) {
                 return Acted::Parked;
             }
@@ -72,7 +73,7 @@ impl<'p, P: Program, J: Named<P>> Board<'p, P, J> {
             self.over = Some(Outcome::Budget);
             return Acted::Over;
         }
-        self.make_hand(alloc, worker, handler, event)
+        self.make_hand(alloc, worker, handler)
     }
 
     /// Whether there is such a handler.
@@ -98,19 +99,15 @@ impl<'p, P: Program, J: Named<P>> Board<'p, P, J> {
         alloc: Global,
         worker: usize,
         handler: HandlerName<<P::Lat as Lattice>::Event>,
-        event: <P::Lat as Lattice>::Event,
     ) -> Acted<P, J>
         requires running { self.old.over ≡ None }
         requires room { length self.old.trace < J.budget }
-        requires next { ⟦<P as CoreMeaning>⟧.is_next self.old.core handler event }
         ensures { ComesOfHand P.Lat.Event.cmp (⟦<P as Meaning>⟧.machine J.program) (⟦<P as CoreMeaning>⟧.is_held self.old.core handler) (⟦<P as CoreMeaning>⟧.is_next self.old.core handler) worker handler self.old self.new result }
     {
         hands_one_event::<P>();
         waiting_tasks::<P>();
         passes_at_its_spot::<P>();
-        let Ok(entry) = hand_entry(worker, &handler, event) else {
-            return Acted::Memory(Work::Hand(handler));
-        };
+        let step = Step::Hand(self.core.tasks());
         let parked = self.parked.len();
         let Ok(moved) = hand_with_room(
             alloc,
@@ -118,12 +115,13 @@ impl<'p, P: Program, J: Named<P>> Board<'p, P, J> {
             &mut self.trace,
             &mut self.room,
             parked,
-            entry,
+            Noted { worker, step },
             &handler,
         ) else {
             return Acted::Memory(Work::Hand(handler));
         };
         let left = OwnWork {
+            step,
             own: None,
             made: ticket_of(moved.made),
             added: Some(handler),
@@ -143,16 +141,16 @@ impl<'p, P: Program, J: Named<P>> Board<'p, P, J> {
 fn hand_with_room<P: Program, J: Named<P>>(
     alloc: Global,
     core: &mut Core<'_, P>,
-    trace: &mut Vec<TraceEntry<<P::Lat as Lattice>::Event>>,
+    trace: &mut Vec<Noted>,
     room: &mut Room<P, J>,
     parked: usize,
-    entry: TraceEntry<<P::Lat as Lattice>::Event>,
+    noted: Noted,
     handler: &HandlerName<<P::Lat as Lattice>::Event>,
 ) -> Result<Moved<<P::Lat as Lattice>::Event, P::Local>, StepFault>
     requires program { core.old.program ≡ J.program }
     ensures made { IfOk result (λ m. (said : Stepped) × IsHanded (⟦<P as Meaning>⟧.machine J.program) core.old handler.now core.new said m) }
     ensures long { IfOk result (λ _. length core.old.table.variables ≡ length core.new.table.variables) }
-    ensures written { IfOk result (λ _. trace.new.items ≡ trace.old.items ++ entry ∷ []) }
+    ensures written { IfOk result (λ _. trace.new.items ≡ trace.old.items ++ noted ∷ []) }
     ensures empty { IfOk result (λ _. (room.new.woken.items ≡ []) × (room.new.concerned.items ≡ []) × (room.new.hands.items ≡ [])) }
     ensures woken_room { IfOk result (λ _. parked ≤ vec_capacity room.new.woken) }
     ensures concerned_room { IfOk result (λ _. 1 ≤ vec_capacity room.new.concerned) }
@@ -164,25 +162,6 @@ fn hand_with_room<P: Program, J: Named<P>>(
     has_all_variables(core);
     let (_done, moved) = core.step_hand(alloc, handler)?;
     has_all_variables(core);
-    trace.push_reserved(entry);
+    trace.push_reserved(noted);
     Ok(moved)
-}
-
-/// The entry of a handing.
-///
-/// # Errors
-///
-/// Where there is no room for a copy of the name.
-fn hand_entry<E: Plain>(
-    worker: usize,
-    handler: &HandlerName<E>,
-    event: E,
-) -> Result<TraceEntry<E>, AllocError>
-    ensures { IfOk result (λ e. e ≡ entry_of worker (Hand handler.now event)) }
-{
-    let name = handler.copy()?;
-    Ok(TraceEntry {
-        worker,
-        label: Label::Hand(name, event),
-    })
 }

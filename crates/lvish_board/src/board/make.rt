@@ -2,7 +2,8 @@
 
 ghost use Rattle.std.specs.Prelude.{◌≡◌, ◌<◌, ◌≤◌, ◌+◌, ◌++◌, ◌∷◌, [], true, false, length, None, Some, IfOk, IfErr, MatchResult, option_and_then, vec_len, vec_capacity};
 ghost use Rattle.lvish_calculus.specs.declared.label.Label.TheVariants.{Act};
-ghost use Rattle.lvish_board.specs.Acts.{entry_of, ComesOfAct};
+ghost use Rattle.lvish_board.specs.Vocabulary.{ActStep};
+ghost use Rattle.lvish_board.specs.Acts.{ComesOfAct};
 ghost use Rattle.lvish_board.specs.Left.{IsStepOf, most_added};
 
 use super::Board;
@@ -10,18 +11,17 @@ use crate::acted::Acted;
 use crate::asked::Asked;
 use crate::list::{leave, left_by};
 use crate::named::Named;
+use crate::noted::{Noted, Step};
 use crate::outcome::Outcome;
 use crate::room::Room;
-use crate::trace_entry::TraceEntry;
 use crate::work::Work;
 use crate::works::Works;
 use lvish_calculus::laws::lawful;
-use lvish_calculus::{ErrorKind, Label, Meaning, Program};
+use lvish_calculus::{ErrorKind, Meaning, Program};
 use lvish_core::laws::{passes_at_its_spot, waiting_tasks};
 use lvish_core::{Core, CoreMeaning, Moved, StepFault, Stepped, TaskNumbers};
-use lvish_lattice::{Lattice, Plain};
-use lvish_names::TaskName;
-use std::alloc::{AllocError, Global};
+use lvish_lattice::Lattice;
+use std::alloc::Global;
 
 impl<'p, P: Program, J: Named<P>> Board<'p, P, J> {
     /// Makes the step of a task that can go on.
@@ -41,6 +41,7 @@ impl<'p, P: Program, J: Named<P>> Board<'p, P, J> {
         lawful::<P>();
         waiting_tasks::<P>();
         passes_at_its_spot::<P>();
+        let step = Step::Act(numbers.index);
         let parked = self.parked.len();
         let Ok((logged, stepped, moved)) = step_with_room(
             alloc,
@@ -58,10 +59,10 @@ impl<'p, P: Program, J: Named<P>> Board<'p, P, J> {
             Stepped::Error(kind) => {
                 drop(moved);
                 self.over = Some(error_outcome(&self.core, kind, asked));
-                Acted::Gone(Works::none(alloc))
+                Acted::Gone(Works::none(alloc, step))
             }
             Stepped::Done => {
-                let left = left_by(asked, moved);
+                let left = left_by(step, asked, moved);
                 let goes_on = left.own.is_some();
                 let works = leave(
                     alloc,
@@ -99,7 +100,7 @@ fn next_or_gone<P: Program, J: Named<P>>(goes_on: bool, works: Works<P, J>) -> A
 fn step_with_room<P: Program, J: Named<P>>(
     alloc: Global,
     core: &mut Core<'_, P>,
-    trace: &mut Vec<TraceEntry<<P::Lat as Lattice>::Event>>,
+    trace: &mut Vec<Noted>,
     room: &mut Room<P, J>,
     parked: usize,
     worker: usize,
@@ -110,7 +111,7 @@ fn step_with_room<P: Program, J: Named<P>>(
     requires live { ⟦<P as CoreMeaning>⟧.is_live core.old asked.now.task asked.now.from numbers }
     requires can { ⟦<P as CoreMeaning>⟧.can_take core.old (Act asked.now.task) }
     ensures made { IfOk result (λ s. IsStepOf P.Lat.Event.cmp (⟦<P as Meaning>⟧.machine J.program) core.old asked.now core.new s.0 room.new.concerned.items s.1 s.2) }
-    ensures written { IfOk result (λ _. trace.new.items ≡ trace.old.items ++ entry_of worker (Act asked.now.task) ∷ []) }
+    ensures written { IfOk result (λ _. trace.new.items ≡ trace.old.items ++ record { worker = worker; step = ActStep numbers.index } ∷ []) }
     ensures empty { IfOk result (λ _. (room.new.woken.items ≡ []) × (room.new.hands.items ≡ [])) }
     ensures woken_room { IfOk result (λ _. parked ≤ vec_capacity room.new.woken) }
     ensures concerned_room { IfOk result (λ _. length room.new.concerned.items + most_added ((P.functions J.program).request asked.now.from) ≤ vec_capacity room.new.concerned) }
@@ -118,33 +119,11 @@ fn step_with_room<P: Program, J: Named<P>>(
     ensures kept { IfErr result (λ _. (core.new ≡ core.old) × (trace.new.items ≡ trace.old.items)) }
 {
     let logged = room.reserve_for(core, parked, asked)?;
-    let entry = task_entry(trace, worker, asked.task())?;
+    trace.reserve(1)?;
     has_all_variables(core);
-    let (stepped, moved) = step(alloc, core, trace, entry, numbers, asked)?;
+    let (stepped, moved) = step(alloc, core, trace, worker, numbers, asked)?;
     has_all_variables(core);
     Ok((logged, stepped, moved))
-}
-
-/// The entry of a task's step, for which the trace has room.
-///
-/// # Errors
-///
-/// Where there is no room for it, or for a copy of the name; the trace is as it was.
-fn task_entry<E: Plain>(
-    trace: &mut Vec<TraceEntry<E>>,
-    worker: usize,
-    task: &TaskName<E>,
-) -> Result<TraceEntry<E>, AllocError>
-    ensures entry { IfOk result (λ e. e ≡ entry_of worker (Act task.now)) }
-    ensures room { IfOk result (λ _. vec_len trace.new < vec_capacity trace.new) }
-    ensures same { trace.new.items ≡ trace.old.items }
-{
-    let name = task.copy()?;
-    trace.reserve(1)?;
-    Ok(TraceEntry {
-        worker,
-        label: Label::Act(name),
-    })
 }
 
 /// Makes the task's step, and writes it down.
@@ -155,8 +134,8 @@ fn task_entry<E: Plain>(
 fn step<P: Program, J: Named<P>>(
     alloc: Global,
     core: &mut Core<'_, P>,
-    trace: &mut Vec<TraceEntry<<P::Lat as Lattice>::Event>>,
-    entry: TraceEntry<<P::Lat as Lattice>::Event>,
+    trace: &mut Vec<Noted>,
+    worker: usize,
     numbers: TaskNumbers,
     asked: &Asked<P, J>,
 ) -> Result<(Stepped, Moved<<P::Lat as Lattice>::Event, P::Local>), StepFault>
@@ -166,10 +145,11 @@ fn step<P: Program, J: Named<P>>(
     requires room { vec_len trace.old < vec_capacity trace.old }
     ensures stepped { MatchResult result (λ s. ⟦<P as CoreMeaning>⟧.is_step core.old (Act asked.now.task) core.new s.0) (λ _. core.new ≡ core.old) }
     ensures moved { IfOk result (λ s. ⟦<P as CoreMeaning>⟧.is_moved core.old (Act asked.now.task) s.1) }
-    ensures written { MatchResult result (λ _. trace.new.items ≡ trace.old.items ++ entry ∷ []) (λ _. trace.new ≡ trace.old) }
+    ensures written { MatchResult result (λ _. trace.new.items ≡ trace.old.items ++ record { worker = worker; step = ActStep numbers.index } ∷ []) (λ _. trace.new ≡ trace.old) }
 {
     let stepped = core.step_live(alloc, asked.task(), numbers, asked.asks())?;
-    trace.push_reserved(entry);
+    let step = Step::Act(numbers.index);
+    trace.push_reserved(Noted { worker, step });
     Ok(stepped)
 }
 

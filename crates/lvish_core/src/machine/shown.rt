@@ -1,11 +1,13 @@
 //! What a core shows by reference or number.
 
-ghost use Rattle.std.specs.Prelude.{◌≡◌, ◌<◌, ◌↔◌, None, IsTrue, MatchOption, option_copied};
+ghost use Rattle.std.specs.Prelude.{◌≡◌, ◌<◌, ◌↔◌, None, IfOk, IsTrue, IsFalse, MatchOption, length, option_copied, slice_get};
 ghost use Rattle.lvish_handlers.specs.Handlers.{IsByName};
+ghost use Rattle.lvish_core.specs.Tasks.{task_names};
+ghost use Rattle.lvish_core.specs.Waiting.{NoneFreezes};
 
 use super::Core;
 use crate::core_meaning::CoreMeaning;
-use crate::drained::are_drained;
+use crate::drained::{are_drained, is_drained_at};
 use crate::fault::RunError;
 use crate::stage::{Stage, TaskNumbers};
 use crate::touched::Touched;
@@ -14,8 +16,9 @@ use lvish_calculus::{Meaning, Program};
 use lvish_handlers::Held;
 use lvish_lattice::Lattice;
 use lvish_names::{HandlerName, TaskName};
-use lvish_picture::laws::handlers_are_held;
+use lvish_picture::laws::{drained_at_the_end, handlers_are_held};
 use lvish_variable::Variable;
+use std::alloc::{AllocError, Global};
 
 impl<'p, P: Program> Core<'p, P> {
     /// The task's local state; `None` where it has ended or isn't there.
@@ -89,6 +92,17 @@ impl<'p, P: Program> Core<'p, P> {
         are_drained(&self.variables, &self.handlers)
     }
 
+    /// Whether every handler on the variable was handed the whole log, or there is no such variable.
+    pub fn is_drained_at(&self, variable: usize) -> bool
+        ensures drained { IsTrue result ↔ ⟦<P as CoreMeaning>⟧.is_drained_at self.now variable }
+        // Until then no freeze of the variable can be made.
+        ensures freezes { IsFalse result → NoneFreezes (⟦<P as Meaning>⟧.machine self.now.program) self.now variable }
+    {
+        lawful::<P>();
+        drained_at_the_end::<P>();
+        is_drained_at(&self.variables, &self.handlers, variable)
+    }
+
     /// The variable's handlers, by name.
     pub fn handlers(&self, variable: usize) -> &[Held<<P::Lat as Lattice>::Event>]
         requires { variable < (P.functions self.now.program).variables }
@@ -114,22 +128,52 @@ impl<'p, P: Program> Core<'p, P> {
         &self.variables
     }
 
-    /// The variables, without a copy; where there is an error, as they were before it.
-    pub fn into_states(self) -> Vec<Variable<P::Lat>>
-        ensures { ⟦<P as CoreMeaning>⟧.are_states self.entry result.items }
+    /// How many tasks there are, with those that have ended: the index of the next one.
+    pub fn tasks(&self) -> usize
+        ensures { result ≡ length self.now.table.tasks }
+    {
+        self.tasks.len()
+    }
+
+    /// The name of the task at the index.
+    pub fn name_at(&self, index: usize) -> Option<&TaskName<<P::Lat as Lattice>::Event>>
+        ensures { option_copied result ≡ slice_get (task_names self.now.table.tasks) index }
+    {
+        self.tasks.name_at(index)
+    }
+
+    /// The variables, and the names of the tasks, each at its task's index, without a copy; where
+    /// there is an error, as they were before it.
+    ///
+    /// # Errors
+    ///
+    /// Where there is no room for a list of the names.
+    pub fn into_parts(
+        self,
+        alloc: Global,
+    ) -> Result<
+        (
+            Vec<Variable<P::Lat>>,
+            Vec<TaskName<<P::Lat as Lattice>::Event>>,
+        ),
+        AllocError,
+    >
+        ensures states { IfOk result (λ r. ⟦<P as CoreMeaning>⟧.are_states self.entry r.0.items) }
+        ensures names { IfOk result (λ r. r.1.items ≡ task_names self.entry.table.tasks) }
     {
         let Core {
             program: _,
             variables,
             handlers: _,
-            tasks: _,
+            tasks,
             places: _,
             running: _,
             steps: _,
             fault: _,
             touched: _,
         } = self;
-        variables
+        let names = tasks.into_names(alloc)?;
+        Ok((variables, names))
     }
 
     /// The number of steps made.

@@ -24,19 +24,20 @@ pub fn check_picked(
     requires { budget ≤ MOST_STEPS }
 {
     let mut core = Core::new(alloc, code)?;
-    let picks = places(alloc, &mut core, report.trace.as_slice())?;
+    let trace = report.trace.entries(alloc)?;
+    let picks = places(alloc, &mut core, &trace)?;
     let picked = run_picks(alloc, script, picks.as_slice(), budget)?;
-    if is_same_run(report, &picked) {
+    let replayed = picked.trace.entries(alloc)?;
+    if is_same_report(report, &picked) && are_same_steps(&trace, &replayed) {
         return Ok(());
     }
     Err(Otherwise::Picks)
 }
 
-/// Whether two reports are of one run, by whichever workers.
-fn is_same_run(one: &Report<Any, Event>, other: &Report<Any, Event>) -> bool {
+/// Whether two reports say the same of where their runs come to.
+fn is_same_report(one: &Report<Any, Event>, other: &Report<Any, Event>) -> bool {
     is_same_outcome(&one.outcome, &other.outcome)
         && one.steps == other.steps
         && one.blocked == other.blocked
         && are_alike(one.states.as_slice(), other.states.as_slice())
-        && are_same_steps(one.trace.as_slice(), other.trace.as_slice())
 }

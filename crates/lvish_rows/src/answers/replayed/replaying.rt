@@ -18,11 +18,12 @@ pub fn replay(
     budget: u64,
 ) -> Result<(), Otherwise> {
     let mut core = Core::new(alloc, code)?;
-    retrace(alloc, &mut core, report.trace.as_slice())?;
+    let trace = report.trace.entries(alloc)?;
+    retrace(alloc, &mut core, &trace)?;
     check_steps(&core, report, budget)?;
     check_outcome(alloc, &core, report, budget)?;
     check_states(&core, report)?;
-    check_workers(report, workers)
+    check_workers(report, &trace, workers)
 }
 
 fn check_steps(
@@ -30,7 +31,7 @@ fn check_steps(
     report: &Report<Any, Event>,
     budget: u64,
 ) -> Result<(), Otherwise> {
-    let traced = report.trace.as_slice().len() as u64;
+    let traced = report.trace.len() as u64;
     if report.steps == traced && report.steps == core.steps() && report.steps <= budget {
         return Ok(());
     }
@@ -104,8 +105,11 @@ fn check_none(states: usize, blocked: u64) -> Result<(), Otherwise> {
 
 /// There is a number of steps for each worker, which is that of its entries, and no entry is of
 /// another worker.
-fn check_workers(report: &Report<Any, Event>, workers: usize) -> Result<(), Otherwise> {
-    let trace = report.trace.as_slice();
+fn check_workers(
+    report: &Report<Any, Event>,
+    trace: &[TraceEntry<Event>],
+    workers: usize,
+) -> Result<(), Otherwise> {
     let counts = report.by_worker.as_slice();
     if counts.len() != workers || !are_among(trace, workers) {
         return Err(Otherwise::Workers);

@@ -3,11 +3,11 @@ use Rattle.lvish_run.proofs.Counted.{counts_of, one_more, all_told}
 use Rattle.lvish_run.proofs.count_by_worker.count_by_worker.Goals as goal
 
 pub loop-worker-preserved : goal.loop-worker-preserved
-loop-worker-preserved g c =
-    let m = one_more c.args.trace.now c.loop-worker.by_worker.items c.push.new.self.items c.made_by-steps.result c.loop-worker.worker c.loop-worker.invariant.are c.made_by-steps.ensures (search rules) in
+loop-worker-preserved c =
+    let m = one_more c.args.noted.now c.loop-worker.by_worker.items c.push.new.self.items c.made_by-steps.result c.loop-worker.worker c.loop-worker.invariant.are c.made_by-steps.ensures (search rules) in
     record { are = m.0; total = omega (arith, m.1, c.loop-worker.invariant.total, c.in-Some.ensures) }
 
-pub returns-then-total-trace-clause-counts : goal.returns-then-total-trace-clause-counts
-returns-then-total-trace-clause-counts g c =
+pub returns-then-total-noted-clause-counts : goal.returns-then-total-noted-clause-counts
+returns-then-total-noted-clause-counts c =
     let all : c.loop-worker.worker ≡ c.args.workers = omega arith in
-    all_told c.args.trace.now c.from.result c.args.workers (c.from.ensures ∙ c.loop-worker.invariant.are ∙ ap (counts_of c.args.trace.now) all) (ap sum c.from.ensures ∙ c.loop-worker.invariant.total ∙ c.if-total-trace.true)
+    all_told c.args.noted.now c.from.result c.args.workers (c.from.ensures ∙ c.loop-worker.invariant.are ∙ ap (counts_of c.args.noted.now) all) (ap sum c.from.ensures ∙ c.loop-worker.invariant.total ∙ c.if-total-noted.true)

@@ -6,6 +6,7 @@ returns g c = record {
   step = c.act_once.ensures.step;
   gone = c.act_once.ensures.gone;
   list = c.act_once.ensures.list;
+  noted = c.act_once.ensures.noted;
   own = c.act_once.ensures.own;
   over = c.act_once.ensures.over;
   done = c.act_once.ensures.done;

@@ -6,6 +6,7 @@ returns g c = record {
   step = c.hand_once.ensures.step;
   gone = c.hand_once.ensures.gone;
   list = c.hand_once.ensures.list;
+  noted = c.hand_once.ensures.noted;
   own = c.hand_once.ensures.own;
   over = c.hand_once.ensures.over;
   done = c.hand_once.ensures.done;

@@ -6,10 +6,21 @@ use Rattle.lvish_calculus.specs.Handing.{IsAmong}
 use Rattle.lvish_core.specs.declared.touched.Touched.TheVariants.{Handed}
 use Rattle.lvish_board.specs.Shelved.{list_items}
 use Rattle.lvish_board.specs.Woken.{MayWake}
-use Rattle.lvish_board.proofs.Lists.{freezes_on, stays_on}
+use Rattle.lvish_board.proofs.Lists.{freezes_on, no_freeze_waits, stays_on}
 use Rattle.lvish_board.proofs.Shelving.{shelf_kept}
 use Rattle.lvish_board.proofs.Waking.{wakes_fewer, wakes_none}
+use Rattle.lvish_board.proofs.Woken.{may_freeze}
 use Rattle.lvish_board.proofs.parked.Parked.wake_freezes.Goals as goal
+
+pub returns-then-is_empty : goal.returns-then-is_empty
+returns-then-is_empty g c = rw (← c.self.view_is) (wakes_none _ _ _ _ (λ p i may can.
+    let here = subst (λ x. MayWake g.P.Lat.Reads.spot_of g.P.Lat.Reads.watched (Some (Handed c.args.variable)) [] ((g.P.Program.functions x).request p.from)) c.requires.program may in
+    no_freeze_waits g.P.Lat.Spot.PartialEq.eq g.P.Lat.Reads.watched c.self.inside.gets.lists c.self.inside.freezes.lists (c.is_empty.ensures.0 c.if-is_empty.true) c.args.variable ((g.P.Program.functions g.J.Named.program).request p.from) p.task (c.self.invariant p i) g.P.Lat.Reads.spot_of [] here))
+
+pub returns-then-not-is_drained_at : goal.returns-then-not-is_drained_at
+returns-then-not-is_drained_at g c = wakes_none _ _ _ _ (λ p i may can.
+    let freeze = may_freeze g.P.Lat.Reads.spot_of g.P.Lat.Reads.watched c.args.variable [] ((g.P.Program.functions c.args.core.now.program).request p.from) may in
+    c.is_drained_at.ensures.freezes c.if-not-is_drained_at.true p.task p.from freeze.0 (c.requires.current p i) freeze.1 can)
 
 pub invariant_of-self : goal.invariant_of-self
 invariant_of-self g c = λ q i.

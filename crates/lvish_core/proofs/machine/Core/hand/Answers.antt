@@ -1,4 +1,4 @@
-use Rattle.lvish_core.proofs.Handing.{can_hand, handing}
+use Rattle.lvish_core.proofs.Handing.{can_hand, handing, not_there}
 use Rattle.lvish_core.proofs.Written.{handed_written}
 use Rattle.lvish_core.proofs.machine.Core.hand.Goals as goal
 
@@ -18,6 +18,10 @@ pub returns : goal.returns
 returns g c =
     let made = rw (c.started.ensures, c.in_ok-local.ensures, c.in_ok-task.ensures) at c.in_ok-insert.ensures.set in
     let handed = handed_written c.deref.ensures.value c.deref_mut.ensures.value c.self.inside.handlers.ok.0 c.hand_at.ensures in
-    rw (← c.self.view_is, c.in_ok-copy_local.ensures, c.in_ok-copy.ensures, c.in_ok-local.ensures, c.in_ok-task.ensures)
-    (handing (c.lawful.ensures c.self.inside.program.now) c.self.invariant (g.met.P.Program.lawful c.self.inside.program.now).known (rw (← c.self.view_is) at c.requires.handing) (rw (← c.self.view_is) at c.requires.room) (c.hand_kept.ensures c.self.inside.program.now) (c.counts_kept.ensures.hand c.self.inside.program.now)
-    (c.handlers_are_held.ensures.posts c.self.inside.program.now) (c.counts_follow.ensures.start c.self.inside.program.now) (c.names_are_new.ensures.tasks c.self.inside.program.now) made handed).0
+    let there = not_there (c.lawful.ensures c.self.inside.program.now) c.self.invariant (g.met.P.Program.lawful c.self.inside.program.now).known (rw (← c.self.view_is) at c.requires.handing) (rw (← c.self.view_is) at c.requires.room) (c.hand_kept.ensures c.self.inside.program.now) (c.counts_kept.ensures.hand c.self.inside.program.now)
+    (c.handlers_are_held.ensures.posts c.self.inside.program.now) (c.counts_follow.ensures.start c.self.inside.program.now) (c.names_are_new.ensures.tasks c.self.inside.program.now) made handed in
+    rw (← c.self.view_is, c.in_ok-copy_local.ensures, c.in_ok-copy.ensures, c.in_ok-local.ensures, c.in_ok-task.ensures) (
+      (handing (c.lawful.ensures c.self.inside.program.now) c.self.invariant (g.met.P.Program.lawful c.self.inside.program.now).known (rw (← c.self.view_is) at c.requires.handing) (rw (← c.self.view_is) at c.requires.room) (c.hand_kept.ensures c.self.inside.program.now) (c.counts_kept.ensures.hand c.self.inside.program.now)
+          (c.handlers_are_held.ensures.posts c.self.inside.program.now) (c.counts_follow.ensures.start c.self.inside.program.now) (c.names_are_new.ensures.tasks c.self.inside.program.now) made handed).0,
+      (rw c.in_ok-task.ensures at c.in_ok-insert.ensures.added) there,
+    )

@@ -12,4 +12,5 @@ returns-then-is_some g c =
 pub returns : goal.returns
 returns g c =
     let exact = name_cmp-iff g.P.Lat.Event.Ord.cmp g.met.P.Lat.Event.Plain.identical g.met.P.Lat.Event.Ord.matches_eq g.met.P.Lat.Event.Ord.total in
-    popped_other g.P.Lat.Event.Ord.cmp (name_total g.met.P.Lat.Event.Ord.total) exact c.args.self.now c.self.inside.first c.self.inside.others.entries c.self.inside.handlers.keys (sym c.self.view_is) c.in-Some.field-0-0 c.in-Some.asked c.pop_first.new.self.entries (sym c.is_some.ensures ∙ c.if-is_some.false) c.in-Some.ensures.value c.in-Some.ensures.least c.in-Some.ensures.updates.0 c.in-Some.ensures.removal
+    rw c.into_asked.ensures
+    (popped_other g.P.Lat.Event.Ord.cmp (name_total g.met.P.Lat.Event.Ord.total) exact c.args.self.now c.self.inside.first c.self.inside.others.entries c.self.inside.handlers.keys (sym c.self.view_is) c.in-Some.field-0-0 c.in-Some.asked c.pop_first.new.self.entries (sym c.is_some.ensures ∙ c.if-is_some.false) c.in-Some.ensures.value c.in-Some.ensures.least c.in-Some.ensures.updates.0 c.in-Some.ensures.removal)

@@ -24,10 +24,10 @@ pub returns-else-is_eq-clause-was : goal.returns-else-is_eq-clause-was
 returns-else-is_eq-clause-was g c =
     let exact = name_cmp-iff g.P.Lat.Event.Ord.cmp g.met.P.Lat.Event.Plain.identical g.met.P.Lat.Event.Ord.matches_eq g.met.P.Lat.Event.Ord.total in
     let at = compared g.P.Lat.Event.Ord.cmp (name_total g.met.P.Lat.Event.Ord.total) exact c.cmp.result c.cmp.result c.task.result.now c.args.name.now c.in-Some.first.task c.args.name.now c.cmp.ensures c.task.ensures refl refl in
-    (taken_other g.P.Lat.Event.Ord.cmp (name_total g.met.P.Lat.Event.Ord.total) exact c.args.self.now c.self.inside.first c.self.inside.others.entries c.self.inside.handlers.keys (sym c.self.view_is) c.args.name.now c.remove.result c.remove.new.self.entries (λ p there same. other_from g.P.Lat.Event.Ord.cmp (name_total g.met.P.Lat.Event.Ord.total) exact _ _ c.is_eq.result c.if-is_eq.false c.cmp.result c.is_eq.ensures at (first_is c.in-Some.first p (sym c.in-Some.is ∙ there) ∙ same)) c.remove.ensures.value c.remove.ensures.updates.0).0
+    (taken_other g.P.Lat.Event.Ord.cmp (name_total g.met.P.Lat.Event.Ord.total) exact c.args.self.now c.self.inside.first c.self.inside.others.entries c.self.inside.handlers.keys (sym c.self.view_is) c.args.name.now c.taken.result c.taken.new.others.entries (λ p there same. other_from g.P.Lat.Event.Ord.cmp (name_total g.met.P.Lat.Event.Ord.total) exact _ _ c.is_eq.result c.if-is_eq.false c.cmp.result c.is_eq.ensures at (first_is c.in-Some.first p (sym c.in-Some.is ∙ there) ∙ same)) c.taken.ensures.was c.taken.ensures.without).0
 
 pub returns-else-is_eq-clause-without : goal.returns-else-is_eq-clause-without
 returns-else-is_eq-clause-without g c =
     let exact = name_cmp-iff g.P.Lat.Event.Ord.cmp g.met.P.Lat.Event.Plain.identical g.met.P.Lat.Event.Ord.matches_eq g.met.P.Lat.Event.Ord.total in
     let at = compared g.P.Lat.Event.Ord.cmp (name_total g.met.P.Lat.Event.Ord.total) exact c.cmp.result c.cmp.result c.task.result.now c.args.name.now c.in-Some.first.task c.args.name.now c.cmp.ensures c.task.ensures refl refl in
-    (taken_other g.P.Lat.Event.Ord.cmp (name_total g.met.P.Lat.Event.Ord.total) exact c.args.self.now c.self.inside.first c.self.inside.others.entries c.self.inside.handlers.keys (sym c.self.view_is) c.args.name.now c.remove.result c.remove.new.self.entries (λ p there same. other_from g.P.Lat.Event.Ord.cmp (name_total g.met.P.Lat.Event.Ord.total) exact _ _ c.is_eq.result c.if-is_eq.false c.cmp.result c.is_eq.ensures at (first_is c.in-Some.first p (sym c.in-Some.is ∙ there) ∙ same)) c.remove.ensures.value c.remove.ensures.updates.0).1
+    (taken_other g.P.Lat.Event.Ord.cmp (name_total g.met.P.Lat.Event.Ord.total) exact c.args.self.now c.self.inside.first c.self.inside.others.entries c.self.inside.handlers.keys (sym c.self.view_is) c.args.name.now c.taken.result c.taken.new.others.entries (λ p there same. other_from g.P.Lat.Event.Ord.cmp (name_total g.met.P.Lat.Event.Ord.total) exact _ _ c.is_eq.result c.if-is_eq.false c.cmp.result c.is_eq.ensures at (first_is c.in-Some.first p (sym c.in-Some.is ∙ there) ∙ same)) c.taken.ensures.was c.taken.ensures.without).1

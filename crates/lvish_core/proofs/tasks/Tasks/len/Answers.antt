@@ -1,0 +1,6 @@
+use Rattle.std.proofs.Common.{sym, ◌∙◌}
+use Rattle.std.proofs.lemmas.List.{length-map}
+use Rattle.lvish_core.proofs.tasks.Tasks.len.Goals as goal
+
+pub returns : goal.returns
+returns g c = rw (← c.self.view_is) (c.len.ensures.len ∙ sym (length-map c.self.inside.stages.entries _))
