@@ -1,13 +1,8 @@
 -- The states of one value.
-use Rattle.std.proofs.Common.{◌≡◌, ◌↔◌, ℕ, ℤ, nat_le, Bool, true, false, List, [], ◌∷◌, Some, option_map, Contains, refl, sym, ◌∙◌, ap, arith}
-use Rattle.std.specs.Cmp.{tied_itself}
-use Rattle.std.specs.List.Sorted.{IsStrictlySortedBy}
-use Rattle.std.specs.Ordering.{int_cmp}
-use Rattle.std.proofs.lemmas.Cmp.{int_cmp_total}
+use Rattle.std.proofs.Common.{◌≡◌, ℕ, ℤ, nat_le, Bool, true, false, [], ◌∷◌, Some, option_map, refl, sym, ◌∙◌, ap}
 use borrow.Author.Tests.{le-leb}
 use Rattle.lvish_compound.specs.Vocabulary.{Value, MaxCounter, Pair, Empty, Set, Max, HIGHEST_LEVEL}
 use Rattle.lvish_lattice.specs.GrowSet as grow_set
-use Rattle.lvish_lattice.specs.Listed.{first_contained, later_contained, only_contained}
 use Rattle.lvish_lattice.specs.MaxCounter.{level, level_within, number_of, zero as no_amount}
 use Rattle.lvish_lattice.specs.laws.MaxCounterLaws.{same_counter}
 use Rattle.lvish_compound.specs.declared.part.Part as part
@@ -21,18 +16,13 @@ use Rattle.lvish_compound.specs.Keyed.{single_entry}
 use Rattle.lvish_compound.specs.Tally.{Tally, single, entries_of, amounts_of, amount_test}
 use Rattle.lvish_compound.specs.laws.TallyLaws.{same_tally}
 
-one_item : (n : ℤ) (xs : List ℤ) → IsStrictlySortedBy int_cmp xs → ((x : ℤ) → Contains xs x ↔ Contains (n ∷ []) x) → xs ≡ n ∷ []
-unfolding IsStrictlySortedBy
-one_item n [] s h = let p = (h n).1 (first_contained n []) in absurd (omega (arith, p.1))
-one_item n (x ∷ []) s h = ap (λ y. y ∷ []) (sym (only_contained n x ((h x).0 (first_contained x []))))
-one_item n (x ∷ y ∷ ys) s h =
-    let first : x ≡ n = sym (only_contained n x ((h x).0 (first_contained x (y ∷ ys)))) in
-    let second : y ≡ n = sym (only_contained n y ((h y).0 (later_contained x y (y ∷ ys) (first_contained y ys)))) in
-    absurd (cc (sym (tied_itself int_cmp_total n) ∙ (λ i. int_cmp (sym first i) (sym second i)) ∙ s.0.0))
-
 -- the set of one element
-pub set_is : (s : HeldState Set) (n m : ℤ) → m ≡ n → ((x : ℤ) → Contains (grow_set.items_of s) x ↔ Contains (m ∷ []) x) → s ≡ singleton n
-set_is s n m e h = grow_set.same_set s (singleton m) (one_item m (grow_set.items_of s) (grow_set.items_ascend s) h) ∙ ap singleton e
+pub only_is : (s : HeldState Set) (n m : ℤ) → m ≡ n → grow_set.items_of s ≡ m ∷ [] → s ≡ singleton n
+only_is s n m e h = grow_set.same_set s (singleton m) h ∙ ap singleton e
+
+-- a set of one element isn't empty
+pub set_rises : (s : HeldState Set) (n : ℤ) → grow_set.items_of s ≡ n ∷ [] → is_bottom Set s ≡ false
+set_rises s n h = ap (is_bottom Set) (grow_set.same_set s (singleton n) h)
 
 max_there : (n : ℕ) (t : Bool) (e : nat_le n HIGHEST_LEVEL ≡ t) (c : MaxCounter) → level c ≡ n → t ≡ true → max_by n t e ≡ Some c
 max_there n true e c v t = ap (λ (x : MaxCounter). Some x) (same_counter _ c (sym v))

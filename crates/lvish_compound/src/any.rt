@@ -6,7 +6,8 @@ ghost use Rattle.lvish_compound.specs.declared.amount_fault.AmountFault.TheVaria
 use crate::above::Above;
 use crate::amount_fault::AmountFault;
 use crate::any_events::{
-    entry_events, fresh_in_map, fresh_in_part, part_events, side_events, tally_events,
+    brought_in_part, entry_brought, entry_events, fresh_in_part, part_events, side_events,
+    tally_events,
 };
 use crate::event::Event;
 use crate::map_of::MapOf;
@@ -14,7 +15,7 @@ use crate::pair::Pair;
 use crate::part::Part;
 use crate::sides::Sides;
 use crate::tally::Tally;
-use lvish_lattice::{Flat, GrowSet, HIGHEST_LEVEL, Lattice, MaxCounter, Range};
+use lvish_lattice::{Brought, Flat, GrowSet, HIGHEST_LEVEL, Lattice, MaxCounter, Range};
 use std::alloc::{AllocError, Global};
 use thiserror::Error;
 
@@ -59,11 +60,11 @@ impl Any {
     }
 
     /// The set of one element.
-    pub fn set(alloc: Global, element: i64) -> Result<Any, AllocError>
+    pub fn set(_alloc: Global, element: i64) -> Result<Any, AllocError>
         ensures { IfOk result (λ s. s ≡ set element) }
     {
-        let set = GrowSet::of(alloc, &[element])?;
-        Ok(Any::Part(Part::of_set(alloc, set)))
+        let set = GrowSet::one(element);
+        Ok(Any::Part(Part::Set(Above::rising(set))))
     }
 
     /// The counter that holds the number, where it is from 0 to `HIGHEST_LEVEL`; at 0 it is empty.
@@ -253,7 +254,9 @@ impl Lattice for Any {
     fn fresh(alloc: Global, old: &Any, put: &Any) -> Result<Vec<Event>, AllocError> {
         match (old, put) {
             (Any::Part(a), Any::Part(b)) => fresh_in_part(alloc, a, b),
-            (Any::Map(a), Any::Map(b)) => fresh_in_map(alloc, &a.state, &b.state),
+            (Any::Map(a), Any::Map(b)) => {
+                entry_events(alloc, &MapOf::fresh(alloc, &a.state, &b.state)?)
+            }
             (Any::Sides(a), Any::Sides(b)) => {
                 side_events(alloc, &Pair::fresh(alloc, a.pair(), b.pair())?)
             }
@@ -272,6 +275,14 @@ impl Lattice for Any {
             (Any::Tally(_), Any::Part(_)) => Ok(Vec::new(alloc)),
             (Any::Tally(_), Any::Map(_)) => Ok(Vec::new(alloc)),
             (Any::Tally(_), Any::Sides(_)) => Ok(Vec::new(alloc)),
+        }
+    }
+
+    fn brought(old: &Any, put: &Any) -> Brought<Event> {
+        match (old, put) {
+            (Any::Part(a), Any::Part(b)) => brought_in_part(a, b),
+            (Any::Map(a), Any::Map(b)) => entry_brought(MapOf::brought(&a.state, &b.state)),
+            _ => Brought::Listed,
         }
     }
 

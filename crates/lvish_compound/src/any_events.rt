@@ -1,23 +1,15 @@
 //! The events of a script's variables, named by key, kind and number.
 
-ghost use Rattle.std.specs.Prelude.{◌≡◌, ◌∷◌, [], ⊤, IfOk, MatchOption, filter, map, not, pos, unwrap_or};
-ghost use Rattle.std.specs.Set.{is_member};
-ghost use Rattle.lvish_lattice.specs.Lattice.{fresh_of};
+ghost use Rattle.std.specs.Prelude.{◌≡◌, List, ℤ, IfOk, map, pos};
+ghost use Rattle.lvish_lattice.specs.Lattice.{fresh_of, IsBrought};
 ghost use Rattle.lvish_compound.specs.EventNames.{part_event, number_event, entry_event, side_event, tally_event};
-ghost use Rattle.std.specs.Option.{option_copied};
-ghost use Rattle.lvish_lattice.specs.Flat as flat;
-ghost use Rattle.lvish_lattice.specs.GrowSet as grow_set;
-ghost use Rattle.lvish_lattice.specs.declared.flat.Flat.TheVariants.{Bottom, Value};
-ghost use Rattle.lvish_compound.specs.Keyed.{of_key};
-ghost use Rattle.lvish_compound.specs.MapOf as map_of;
 ghost use Rattle.lvish_compound.specs.Parts.{joined, events_of};
 
 use crate::event::Event;
 use crate::kind::Kind;
-use crate::map_of::MapOf;
 use crate::part::{Part, PartEvent};
 use crate::side_of::SideOf;
-use lvish_lattice::{Flat, GrowSet, Lattice, MaxCounter};
+use lvish_lattice::{Brought, GrowSet, Lattice, MaxCounter};
 use std::alloc::{AllocError, Global};
 
 /// The event of a part under a key.
@@ -60,7 +52,10 @@ pub(crate) fn fresh_in_part(alloc: Global, old: &Part, put: &Part) -> Result<Vec
     ensures { IfOk result (λ v. v.items ≡ map (part_event (pos 0)) (fresh_of joined ⟦<PartEvent as PartialEq>⟧.eq events_of old.now put.now)) }
 {
     match (old, put) {
-        (Part::Set(a), Part::Set(b)) => fresh_in_set(alloc, &a.state, &b.state),
+        (Part::Set(a), Part::Set(b)) => {
+            let numbers = GrowSet::fresh(alloc, &a.state, &b.state)?;
+            numbered(alloc, Kind::Set, &numbers)
+        }
         (Part::Max(a), Part::Max(b)) => {
             let numbers = MaxCounter::fresh(alloc, &a.state, &b.state)?;
             numbered(alloc, Kind::Max, &numbers)
@@ -69,43 +64,25 @@ pub(crate) fn fresh_in_part(alloc: Global, old: &Part, put: &Part) -> Result<Vec
     }
 }
 
-/// The only element of a set; `None` where it has several, or none.
-fn only_of(set: &GrowSet<i64>) -> Option<i64>
-    ensures { MatchOption result ⊤ (λ x. grow_set.items_of set.now ≡ x ∷ []) }
+/// The event of a set or a counter.
+fn number_event(kind: Kind, number: i64) -> Event
+    ensures { result ≡ number_event kind number }
 {
-    let mut items = set.items();
-    match (items.next(), items.next()) {
-        (Some(number), None) => Some(*number),
-        _ => None,
+    Event {
+        key: 0,
+        kind,
+        number,
     }
 }
 
-/// What a number brings to a set: its event, where the set doesn't have it.
-fn element_events(alloc: Global, held: &GrowSet<i64>, number: i64) -> Result<Vec<Event>, AllocError>
-    ensures { IfOk result (λ v. v.items ≡ map (number_event Kind.Set) (filter (λ n. not (is_member ⟦<i64 as PartialEq>⟧.eq (grow_set.items_of held.now) n)) (number ∷ []))) }
+/// The event of a map.
+fn entry_event(key: i64, number: i64) -> Event
+    ensures { result ≡ entry_event (key, number) }
 {
-    if held.has(number) {
-        return Ok(Vec::new(alloc));
-    }
-    numbered(alloc, Kind::Set, &[number])
-}
-
-/// The events that a put brings to a set.
-///
-/// That of a put of one element, as most are, is made with no list of numbers before it.
-fn fresh_in_set(
-    alloc: Global,
-    old: &GrowSet<i64>,
-    put: &GrowSet<i64>,
-) -> Result<Vec<Event>, AllocError>
-    ensures { IfOk result (λ v. v.items ≡ map (number_event Kind.Set) (fresh_of grow_set.joined ⟦<i64 as PartialEq>⟧.eq grow_set.items_of old.now put.now)) }
-{
-    match only_of(put) {
-        Some(number) => element_events(alloc, old, number),
-        None => {
-            let numbers = GrowSet::fresh(alloc, old, put)?;
-            numbered(alloc, Kind::Set, &numbers)
-        }
+    Event {
+        key,
+        kind: Kind::Map,
+        number,
     }
 }
 
@@ -115,11 +92,7 @@ fn numbered(alloc: Global, kind: Kind, numbers: &[i64]) -> Result<Vec<Event>, Al
 {
     let mut named = Vec::with_capacity(alloc, numbers.len())?;
     for number in numbers {
-        named.push_reserved(Event {
-            key: 0,
-            kind,
-            number: *number,
-        });
+        named.push_reserved(number_event(kind, *number));
     }
     Ok(named)
 }
@@ -129,52 +102,9 @@ pub(crate) fn entry_events(alloc: Global, events: &[(i64, i64)]) -> Result<Vec<E
 {
     let mut named = Vec::with_capacity(alloc, events.len())?;
     for (key, number) in events {
-        named.push_reserved(Event {
-            key: *key,
-            kind: Kind::Map,
-            number: *number,
-        });
+        named.push_reserved(entry_event(*key, *number));
     }
     Ok(named)
-}
-
-/// What a value brings to a key: its event, where the key holds nothing.
-fn value_events(
-    alloc: Global,
-    key: i64,
-    held: Option<&Flat<i64>>,
-    number: i64,
-) -> Result<Vec<Event>, AllocError>
-    ensures { IfOk result (λ v. v.items ≡ map entry_event (of_key key (fresh_of (flat.joined ⟦<i64 as PartialEq>⟧.eq) ⟦<i64 as PartialEq>⟧.eq flat.events_of (unwrap_or (option_copied held.entry) Bottom) (Value number)))) }
-{
-    if let Some(Flat::Value(_)) = held {
-        return Ok(Vec::new(alloc));
-    }
-    let mut named = Vec::with_capacity(alloc, 1)?;
-    named.push_reserved(Event {
-        key,
-        kind: Kind::Map,
-        number,
-    });
-    Ok(named)
-}
-
-/// The events that a put brings to a map.
-///
-/// That of a put with one key, as most are, is made with no list of the map's events before it.
-pub(crate) fn fresh_in_map(
-    alloc: Global,
-    old: &MapOf<i64, Flat<i64>>,
-    put: &MapOf<i64, Flat<i64>>,
-) -> Result<Vec<Event>, AllocError>
-    ensures { IfOk result (λ v. v.items ≡ map entry_event (fresh_of map_of.joined ⟦<(i64, i64) as PartialEq>⟧.eq map_of.map_events_of old.now put.now)) }
-{
-    match old.at_only_key(put) {
-        Some((key, held, Flat::Value(number))) => value_events(alloc, key, held, *number),
-        Some((_, _, Flat::Bottom)) | None => {
-            entry_events(alloc, &MapOf::fresh(alloc, old, put)?)
-        }
-    }
 }
 
 pub(crate) fn side_events(
@@ -202,4 +132,43 @@ pub(crate) fn tally_events(alloc: Global, events: &[(i64, i64)]) -> Result<Vec<E
         });
     }
     Ok(named)
+}
+
+/// What is brought to a set or a counter by its number.
+fn number_brought(kind: Kind, brought: Brought<i64>) -> Brought<Event>
+    ensures { (numbers : List ℤ) → IsBrought brought numbers → IsBrought result (map (number_event kind) numbers) }
+{
+    match brought {
+        Brought::Nothing => Brought::Nothing,
+        Brought::One(number) => Brought::One(number_event(kind, number)),
+        Brought::Listed => Brought::Listed,
+    }
+}
+
+/// What a put brings to a part, as far as that is told without a list.
+pub(crate) fn brought_in_part(old: &Part, put: &Part) -> Brought<Event>
+    ensures { IsBrought result (map (part_event (pos 0)) (fresh_of joined ⟦<PartEvent as PartialEq>⟧.eq events_of old.now put.now)) }
+{
+    match (old, put) {
+        (Part::Set(a), Part::Set(b)) => {
+            number_brought(Kind::Set, GrowSet::brought(&a.state, &b.state))
+        }
+        (Part::Max(a), Part::Max(b)) => {
+            number_brought(Kind::Max, MaxCounter::brought(&a.state, &b.state))
+        }
+        (Part::Empty, Part::Cell(number)) => Brought::One(part_event(0, SideOf::One(*number))),
+        (Part::Cell(_), Part::Cell(_)) => Brought::Nothing,
+        _ => Brought::Listed,
+    }
+}
+
+/// What is brought to a map by its key and number.
+pub(crate) fn entry_brought(brought: Brought<(i64, i64)>) -> Brought<Event>
+    ensures { (entries : List (ℤ × ℤ)) → IsBrought brought entries → IsBrought result (map entry_event entries) }
+{
+    match brought {
+        Brought::Nothing => Brought::Nothing,
+        Brought::One((key, number)) => Brought::One(entry_event(key, number)),
+        Brought::Listed => Brought::Listed,
+    }
 }

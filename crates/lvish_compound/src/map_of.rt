@@ -1,13 +1,13 @@
-ghost use Rattle.std.specs.Prelude.{◌≡◌, ◌&&◌, [], ◌∷◌, ⊤, MatchOption, map, true, false, IfOk, unwrap_or};
+ghost use Rattle.std.specs.Prelude.{◌≡◌, ◌&&◌, [], ◌∷◌, ⊤, MatchOption, List, map, true, false, IfOk, unwrap_or};
 ghost use Rattle.std.specs.Option.{option_copied};
 ghost use Rattle.std.specs.List.Sorted.{IsStrictlySortedBy, IsStrictlySortedBy-prop};
 ghost use Rattle.lvish_compound.specs.Keyed.{key, has_no, of_key, single_entry};
-ghost use Rattle.lvish_lattice.specs.Lattice.{fresh_of};
+ghost use Rattle.lvish_lattice.specs.Lattice.{fresh_of, IsBrought};
 
 use crate::entries::Entries;
 use crate::entry_iter::EntryIter;
 use crate::keyed;
-use lvish_lattice::{Lattice, Plain};
+use lvish_lattice::{Brought, Lattice, Plain};
 use std::alloc::{AllocError, Global};
 use std::hash::Hash;
 
@@ -58,18 +58,6 @@ impl<K: Plain, L: Lattice> MapOf<K, L> {
         }
     }
 
-    /// The only key of a put, with what it holds here and what is put there; `None` where the put
-    /// has several keys, or none.
-    pub(crate) fn at_only_key<'a>(
-        &'a self,
-        put: &'a MapOf<K, L>,
-    ) -> Option<(K, Option<&'a L>, &'a L)>
-        ensures { MatchOption result ⊤ (λ r. of_key r.0 (fresh_of L.joined L.Event.eq L.events_of (unwrap_or (option_copied r.1) L.least) r.2.now) ≡ fresh_of joined (λ x y. K.eq x.0 y.0 && L.Event.eq x.1 y.1) map_events_of self.now put.now) }
-    {
-        let (key, part) = put.entries.only()?;
-        Some((*key, self.get(*key), part))
-    }
-
     /// The entries in the order of their keys. No part is bottom.
     pub fn entries(&self) -> EntryIter<'_, K, L>
         ensures same { result ≡ entries_of self.now }
@@ -89,6 +77,17 @@ impl<K: Plain, L: Lattice> MapOf<K, L> {
     /// The allocator that the entries were made with.
     pub(crate) fn alloc(&self) -> Global {
         self.entries.alloc()
+    }
+}
+
+/// What is brought to a key.
+fn at_key<K: Copy, E: Copy>(key: K, brought: Brought<E>) -> Brought<(K, E)>
+    ensures { (events : List E) → IsBrought brought events → IsBrought result (of_key key events) }
+{
+    match brought {
+        Brought::Nothing => Brought::Nothing,
+        Brought::One(event) => Brought::One((key, event)),
+        Brought::Listed => Brought::Listed,
     }
 }
 
@@ -149,6 +148,16 @@ impl<K: Plain + Hash, L: Lattice> Lattice for MapOf<K, L> {
         put: &MapOf<K, L>,
     ) -> Result<Vec<(K, L::Event)>, AllocError> {
         keyed::fresh(alloc, &old.entries, &put.entries)
+    }
+
+    fn brought(old: &MapOf<K, L>, put: &MapOf<K, L>) -> Brought<(K, L::Event)> {
+        let Some((key, part)) = put.entries.only() else {
+            return Brought::Listed;
+        };
+        match old.get(*key) {
+            Some(held) => at_key(*key, L::brought(held, part)),
+            None => at_key(*key, L::brought(&L::bottom(old.alloc()), part)),
+        }
     }
 
     fn copy(&self, alloc: Global) -> Result<MapOf<K, L>, AllocError> {

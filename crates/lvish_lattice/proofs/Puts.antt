@@ -1,5 +1,5 @@
 -- An element put into an ascending list, and lists that are walked element by element.
-use Rattle.std.specs.Prelude.{◌≡◌, ◌↔◌, Bool, true, false, ◌||◌, ◌&&◌, List, [], ◌∷◌, ◌++◌, All, refl, Contains, Result, Ok, Err, IfOk, IfErr, IsTrue}
+use Rattle.std.specs.Prelude.{◌≡◌, ◌↔◌, Bool, true, false, not, filter, ◌||◌, ◌&&◌, List, [], ◌∷◌, ◌++◌, All, refl, Contains, Result, Ok, Err, IfOk, IfErr, IsTrue}
 use Rattle.std.proofs.Common.{sym, ◌∙◌, ap, subst, arith, suc}
 use Rattle.std.proofs.Math.Bool.{or_comm}
 use Rattle.std.specs.declared.cmp.Ordering.{Ordering}
@@ -61,6 +61,13 @@ pub within_by_test : {K : Type 0} {R : K → K → Ordering} (o : IsTotalOrder R
 within_by_test o same eq ties xs ys s t b e =
     let within = within_by o same eq ties xs ys s t in
     ((λ h. within.0 (all_by_test (is_member eq ys) xs (e ∙ h))), λ m. sym e ∙ test_all (is_member eq ys) xs (within.1 m))
+
+-- what one element brings where it is held, and where it is missing
+pub held_brings : {K : Type 0} (m : K → Bool) (x : K) (xs : List K) (held : Bool) → xs ≡ x ∷ [] → held ≡ m x → held ≡ true → filter (λ e. not (m e)) xs ≡ []
+held_brings m x xs held only is h = ap (filter (λ e. not (m e))) only ∙ rw (sym is ∙ h) refl
+
+pub missing_brings : {K : Type 0} (m : K → Bool) (x : K) (xs : List K) (held : Bool) → xs ≡ x ∷ [] → held ≡ m x → held ≡ false → filter (λ e. not (m e)) xs ≡ x ∷ []
+missing_brings m x xs held only is h = ap (filter (λ e. not (m e))) only ∙ rw (sym is ∙ h) refl
 
 -- what a put of one element leaves, where it succeeds and where it is refused
 pub stays_rising : {K A E : Type 0} {R : K → K → Ordering} (o : IsTotalOrder R) (x : K) (xs ys : List K) (r : Result A E) → IfOk r (λ _. ys ≡ sorted_merge R true (x ∷ []) xs) → IfErr r (λ _. ys ≡ xs) → IsStrictlySortedBy R xs → IsStrictlySortedBy R ys

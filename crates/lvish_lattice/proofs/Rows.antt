@@ -1,5 +1,5 @@
 -- Rows: an element behind all others, and what a search finds.
-use Rattle.std.specs.Prelude.{◌≡◌, Bool, true, false, List, [], ◌∷◌, ◌++◌, refl, Contains, Result, Ok, Err, is_ok, nat_lt}
+use Rattle.std.specs.Prelude.{◌≡◌, Bool, true, false, ◌||◌, List, [], ◌∷◌, ◌++◌, refl, Contains, Result, Ok, Err, is_ok, nat_lt}
 use Rattle.std.proofs.Common.{sym, ◌∙◌, ap, subst, arith, zero, suc, length, ◌<◌, ℕ}
 use Rattle.std.specs.declared.cmp.Ordering.{Ordering}
 use Rattle.std.specs.declared.cmp.Ordering.TheVariants.{Less, Equal, Greater}
@@ -48,6 +48,14 @@ module _ {K : Type 0} {R : K → K → Ordering} (o : IsTotalOrder R) where
       let merged : now ≡ sorted_merge R true (x ∷ []) held = push ∙ ap (λ xs. xs ++ x ∷ []) view ∙ sym (put_behind x held rises e) in
       (subst (IsStrictlySortedBy R) (sym merged) (merge_rises o (x ∷ []) held (one_rises R x) rises), merged)
 
+  -- an element behind all others isn't among them
+  not_there : (x : K) (xs : List K) → AllBelow x xs → is_member (eq_by_cmp R) xs x ≡ false
+  not_there x [] h = refl
+  not_there x (y ∷ ys) h = ap (λ r. is_eq r || is_member (eq_by_cmp R) ys x) (back_less y x h.0) ∙ not_there x ys h.1
+
+  pub behind_is_not_there : (x : K) (xs : List K) → IsStrictlySortedBy R xs → EndsBelow R x xs → is_member (eq_by_cmp R) xs x ≡ false
+  behind_is_not_there x xs s e = not_there x xs (all_below x xs s e)
+
   no_test : (x y : K) → R x y ≡ Less → is_lt (R y x) ≡ false
   no_test x y h = ap is_lt (back_less x y h)
 
@@ -95,6 +103,9 @@ module _ {K : Type 0} {R : K → K → Ordering} (o : IsTotalOrder R) where
 module _ {K : Type 0} {R : K → K → Ordering} (o : IsTotalOrder R) (same : (x y : K) → R x y ≡ Equal → x ≡ y) (eq : K → K → Bool) (ties : (x y : K) → eq x y ≡ is_eq (R x y)) where
   pub search_has_by : (x : K) (xs : List K) (r : Result ℕ ℕ) → IsStrictlySortedBy R xs → IsSearchInRange r (length xs) → IsBinarySearchResult (λ y. R y x) xs r → is_ok r ≡ is_member eq xs x
   search_has_by x xs r s l found = search_has o same x xs r s l found ∙ ap (λ (e : K → K → Bool). is_member e xs x) (λ i a b. sym (ties a b) i)
+
+  pub not_there_by : (x : K) (xs : List K) → IsStrictlySortedBy R xs → EndsBelow R x xs → false ≡ is_member eq xs x
+  not_there_by x xs s e = sym (behind_is_not_there o x xs s e) ∙ ap (λ (t : K → K → Bool). is_member t xs x) (λ i a b. sym (ties a b) i)
 
   -- an element that is there changes nothing
   pub put_again : (x : K) (xs : List K) → IsStrictlySortedBy R xs → is_member eq xs x ≡ true → sorted_merge R true (x ∷ []) xs ≡ xs

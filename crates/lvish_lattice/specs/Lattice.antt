@@ -1,8 +1,10 @@
 -- What a lattice with events and a threshold read are.
-use Rattle.std.specs.Prelude.{◌≡◌, ◌⊎◌, ◌↔◌, List, [], Bool, true, false, not, Option, Some, None, filter, option_and_then}
+use Rattle.std.specs.Prelude.{◌≡◌, ◌⊎◌, ◌↔◌, List, [], ◌∷◌, Bool, true, false, not, Option, Some, None, filter, option_and_then}
 use Rattle.std.specs.Set.{is_member, IsUnion}
 use Rattle.std.specs.List.Sorted.{IsStrictlySortedBy}
 use Rattle.std.specs.declared.cmp.Ordering.{Ordering}
+use Rattle.lvish_lattice.specs.declared.brought.Brought.{Brought}
+use Rattle.lvish_lattice.specs.declared.brought.Brought.TheVariants.{Nothing, One, Listed}
 
 -- a test of equality that holds of identical values alone
 abbrev pub IsIdentity : {S : Type 0} → (S → S → Bool) → Type 0
@@ -34,6 +36,12 @@ events_beyond eq events old None = []
 -- the events of the join that old does not have, none where the join is top
 abbrev pub fresh_of : {S E : Type 0} → (S → S → Option S) → (E → E → Bool) → (S → List E) → S → S → List E
 fresh_of join eq events old put = events_beyond eq events old (join old put)
+
+-- the events that are brought are none, or one; a list has to say which they are, where that isn't told
+abbrev pub IsBrought : {E : Type 0} → Brought E → List E → Type 0
+IsBrought Nothing events = events ≡ []
+IsBrought (One event) events = events ≡ event ∷ []
+IsBrought Listed events = Unit {0}
 
 -- A read is a set of groups, each a set of states with one answer, which names the group: member m a says that m is in the group of answer a.
 -- It is checked where any two members of different groups join to top.

@@ -127,6 +127,15 @@ impl<V: Plain> Elements<V> {
         }
     }
 
+    /// One element.
+    pub fn one(x: V) -> Elements<V>
+        ensures { result ≡ x ∷ [] }
+    {
+        Elements {
+            stored: Stored::One(x),
+        }
+    }
+
     /// The values of the list, each once.
     pub fn of(alloc: Global, values: &[V]) -> Result<Elements<V>, AllocError>
         ensures ascending { IfOk result (λ es. IsStrictlySortedBy V.cmp es) }
@@ -232,9 +241,7 @@ impl<V: Plain> Elements<V> {
     {
         match &self.stored {
             Stored::Nothing => Ok(Elements::new()),
-            Stored::One(x) => Ok(Elements {
-                stored: Stored::One(*x),
-            }),
+            Stored::One(x) => Ok(Elements::one(*x)),
             Stored::Row(row) => Ok(Elements {
                 stored: Stored::Row(row.copy(alloc)?),
             }),

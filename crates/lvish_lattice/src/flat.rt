@@ -1,6 +1,7 @@
 ghost use Rattle.std.specs.Prelude.{◌≡◌};
 ghost use Rattle.std.specs.List.{list_any};
 
+use crate::brought::Brought;
 use crate::items::Items;
 use crate::lattice::{Lattice, Plain, Reads};
 use std::alloc::{AllocError, Global};
@@ -87,6 +88,13 @@ impl<V: Plain + Hash> Lattice for Flat<V> {
         match (*old, *put) {
             (Flat::Bottom, Flat::Value(_)) => put.events(alloc),
             _ => Ok(Vec::new(alloc)),
+        }
+    }
+
+    fn brought(old: &Flat<V>, put: &Flat<V>) -> Brought<V> {
+        match (*old, *put) {
+            (Flat::Bottom, Flat::Value(x)) => Brought::One(x),
+            _ => Brought::Nothing,
         }
     }
 

@@ -1,7 +1,8 @@
-ghost use Rattle.std.specs.Prelude.{◌≡◌, ◌↔◌, [], IfOk, IsTrue, Contains, find};
+ghost use Rattle.std.specs.Prelude.{◌≡◌, ◌↔◌, [], ◌∷◌, IfOk, IsTrue, Contains, find};
 ghost use Rattle.std.specs.Set.{is_member};
 ghost use Rattle.std.specs.List.Sorted.{IsStrictlySortedBy, IsStrictlySortedBy-prop};
 
+use crate::brought::Brought;
 use crate::elements::Elements;
 use crate::items::Items;
 use crate::lattice::{Lattice, Plain, Reads};
@@ -53,6 +54,15 @@ impl<V: Plain> GrowSet<V> {
     {
         GrowSet {
             items: Elements::new(),
+        }
+    }
+
+    /// The set of one element.
+    pub fn one(element: V) -> GrowSet<V>
+        ensures { items_of result ≡ element ∷ [] }
+    {
+        GrowSet {
+            items: Elements::one(element),
         }
     }
 
@@ -130,6 +140,14 @@ impl<V: Plain + Hash> Lattice for GrowSet<V> {
 
     fn fresh(alloc: Global, old: &GrowSet<V>, put: &GrowSet<V>) -> Result<Vec<V>, AllocError> {
         old.items.beyond(alloc, &put.items)
+    }
+
+    fn brought(old: &GrowSet<V>, put: &GrowSet<V>) -> Brought<V> {
+        match put.items.only() {
+            None => Brought::Listed,
+            Some(x) if old.items.has(x) => Brought::Nothing,
+            Some(x) => Brought::One(x),
+        }
     }
 
     fn copy(&self, alloc: Global) -> Result<GrowSet<V>, AllocError> {

@@ -1,6 +1,7 @@
 ghost use Rattle.std.specs.Prelude.{◌≡◌, ◌↔◌, List, Option, Some, IfOk, IfErr, is_some, unwrap_or, IsTrue};
-ghost use Rattle.lvish_lattice.specs.Lattice.{IsIdentity, IsJoin, IsAtOrBelow, HasEvents, IsChecked, IsAnswered, IsWatched, fresh_of};
+ghost use Rattle.lvish_lattice.specs.Lattice.{IsIdentity, IsJoin, IsAtOrBelow, HasEvents, IsBrought, IsChecked, IsAnswered, IsWatched, fresh_of};
 
+use crate::brought::Brought;
 use std::alloc::{AllocError, Global};
 use std::hash::Hash;
 
@@ -45,6 +46,14 @@ pub trait Lattice: Eq + Drop {
     /// the join is top.
     fn fresh(alloc: Global, old: &Self, put: &Self) -> Result<Vec<Self::Event>, AllocError>
         ensures { IfOk result (λ v. v.items ≡ fresh_of joined Self.Event.eq events_of old.now put.now) };
+
+    /// What the put brings to `old`, as far as that is told without a list: so a put of one event,
+    /// as most are, takes no memory for it.
+    fn brought(old: &Self, put: &Self) -> Brought<Self::Event>
+        ensures { IsBrought result (fresh_of joined Self.Event.eq events_of old.now put.now) }
+    {
+        Brought::Listed
+    }
 
     /// An equal state.
     fn copy(&self, alloc: Global) -> Result<Self, AllocError>

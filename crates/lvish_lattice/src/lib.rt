@@ -27,6 +27,7 @@
 //! grow. The joins of the last two are never top.
 #![tactic(auto)]
 
+mod brought;
 mod elements;
 mod flat;
 mod grow_set;
@@ -42,6 +43,7 @@ mod row;
 mod set_iter;
 mod tuples;
 
+pub use brought::Brought;
 pub use flat::{Flat, FlatRead, Whole};
 pub use grow_set::{GrowSet, Members};
 pub use items::Items;

@@ -2,6 +2,7 @@ ghost use Rattle.std.specs.Prelude.{◌≡◌, ◌↔◌, ◌≤◌, ◌-◌, �
 ghost use Rattle.std.specs.List.{range_with_len};
 ghost use Rattle.lvish_lattice.specs.declared.limits.TheConstants.{HIGHEST_LEVEL};
 
+use crate::brought::Brought;
 use crate::items::Items;
 use crate::lattice::{Lattice, Plain, Reads};
 use crate::limits::HIGHEST_LEVEL;
@@ -114,6 +115,16 @@ impl Lattice for MaxCounter {
 
     fn fresh(alloc: Global, old: &MaxCounter, put: &MaxCounter) -> Result<Vec<i64>, AllocError> {
         between(alloc, old.value, put.value)
+    }
+
+    fn brought(old: &MaxCounter, put: &MaxCounter) -> Brought<i64> {
+        if put.value <= old.value {
+            return Brought::Nothing;
+        }
+        if put.value == old.value + 1 {
+            return Brought::One(i64::from(put.value));
+        }
+        Brought::Listed
     }
 
     fn copy(&self, _alloc: Global) -> Result<MaxCounter, AllocError> {

@@ -81,7 +81,12 @@ impl<V: Plain> Row<V> {
         ensures member { result ≡ is_member V.eq self.now x }
         ensures put { IsTrue result → sorted_merge V.cmp true (x ∷ []) self.now ≡ self.now }
     {
-        self.as_slice().binary_search(&x).is_ok()
+        let items = self.as_slice();
+        // Elements that come in ascending order need no search.
+        if self.ends_below(x) {
+            return false;
+        }
+        items.binary_search(&x).is_ok()
     }
 
     pub fn copy(&self, alloc: Global) -> Result<Row<V>, AllocError>

@@ -1,4 +1,4 @@
-ghost use Rattle.std.specs.Prelude.{◌≡◌, ◌++◌, IfOk, IfErr};
+ghost use Rattle.std.specs.Prelude.{◌≡◌, ◌++◌, ◌∷◌, [], IfOk, IfErr};
 ghost use Rattle.lvish_variable.specs.Variable.{entries};
 
 use lvish_lattice::Plain;
@@ -26,6 +26,29 @@ impl<E: Drop> Drop for Entry<E> {
     }
 }
 
+/// Puts an entry onto the log's end, if there is room for it.
+#[inline(always)]
+pub(crate) fn note_one<E: Plain>(
+    log: &mut Vec<Entry<E>>,
+    event: E,
+    task: &TaskName<E>,
+    number: u64,
+) -> Result<(), AllocError>
+    ensures ok { IfOk result (λ _. log.new.items ≡ log.old.items ++ entries task.now number (event ∷ [])) }
+    ensures refused { IfErr result (λ _. log.new.items ≡ log.old.items) }
+{
+    log.reserve(1)?;
+    let Ok(task) = task.copy() else {
+        return Err(AllocError);
+    };
+    log.push_reserved(Entry {
+        event,
+        task,
+        number,
+    });
+    Ok(())
+}
+
 /// Puts the entries of one put onto the log's end, or none where there is no room for them all.
 pub(crate) fn note<E: Plain>(
     log: &mut Vec<Entry<E>>,
@@ -39,15 +62,10 @@ pub(crate) fn note<E: Plain>(
     log.reserve(events.len())?;
     let before = log.len();
     for event in events {
-        let Ok(task) = task.copy() else {
+        if let Err(refused) = note_one(log, *event, task, number) {
             log.truncate(before);
-            return Err(AllocError);
-        };
-        log.push_reserved(Entry {
-            event: *event,
-            task,
-            number,
-        });
+            return Err(refused);
+        }
     }
     Ok(())
 }

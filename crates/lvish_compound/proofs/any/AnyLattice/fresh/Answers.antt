@@ -11,14 +11,14 @@ returns-in-Part-Part c = IfOk-weaker c.fresh_in_part.result _ _
     (by_name _ (λ d e. refl)))
     c.fresh_in_part.ensures
 
-pub returns-in-Map-Map : goal.returns-in-Map-Map
-returns-in-Map-Map c = IfOk-weaker c.fresh_in_map.result _ _
-    (λ v e. e ∙ maps_fresh _ (by_name _ (λ d e. refl)) _ c.args.old.now c.args.put.now _ _ _ _ c.in-Map-Map.is-0 c.in-Map-Map.is-1 refl refl refl)
-    c.fresh_in_map.ensures
+pub returns-in_ok-fresh-in-Map-Map : goal.returns-in_ok-fresh-in-Map-Map
+returns-in_ok-fresh-in-Map-Map c = IfOk-weaker c.entry_events.result _ _
+    (λ v e. e ∙ maps_fresh _ (by_name _ (λ d e. refl)) _ c.args.old.now c.args.put.now _ _ _ _ c.in-Map-Map.is-0 c.in-Map-Map.is-1 refl refl (c.deref.ensures.value ∙ c.in_ok-fresh-in-Map-Map.ensures))
+    c.entry_events.ensures
 
 pub returns-in_ok-fresh-in-Sides-Sides : goal.returns-in_ok-fresh-in-Sides-Sides
 returns-in_ok-fresh-in-Sides-Sides c = IfOk-weaker c.side_events.result _ _
-    (λ v e. e ∙ pairs_fresh_by _ _ _ _ c.args.old.now c.args.put.now _ _ _ _ c.in-Sides-Sides.is-0 c.in-Sides-Sides.is-1 c.pair.ensures c.pair-in-Sides-Sides.ensures (c.deref.ensures.value ∙ c.in_ok-fresh-in-Sides-Sides.ensures)
+    (λ v e. e ∙ pairs_fresh_by _ _ _ _ c.args.old.now c.args.put.now _ _ _ _ c.in-Sides-Sides.is-0 c.in-Sides-Sides.is-1 c.pair.ensures c.pair-in-Sides-Sides.ensures (c.deref-in-Sides-Sides.ensures.value ∙ c.in_ok-fresh-in-Sides-Sides.ensures)
     (record { cells = λ x z. refl; sets = λ x z. refl; maxes = λ x z. refl; one_two = λ x y. refl; two_one = λ x y. refl; set_max = λ x y. refl; max_set = λ x y. refl })
     (record { ones = λ d e. refl; twos = λ d e. refl; one_two = λ d e. refl; two_one = λ d e. refl })
     (by_name _ (λ d e. refl)))
