@@ -1,5 +1,7 @@
 pub mod Vocabulary
 pub mod Remaining
+pub mod Numbers
+pub mod Below
 pub mod Arithmetic
 pub mod States
 pub mod Meaning

@@ -1,6 +1,8 @@
 -- The events that local states share, however they are kept.
-use Rattle.std.specs.Prelude.{ℤ, List, [], map}
-use Rattle.std.specs.Arc.{arc_slice_items}
+use Rattle.std.specs.Prelude.{ℤ, List, [], map, Option, None, Some}
+use Rattle.std.specs.Arc.{arc_value}
+use Rattle.std.specs.Global.{Global}
+use Rattle.std.specs.declared.sync.Arc.{Arc}
 use Rattle.lvish_compound.specs.declared.event.Event.{Event}
 use Rattle.lvish_compound.specs.declared.kind.Kind.{Kind}
 use Rattle.lvish_task.specs.declared.remaining.Shared.{Shared}
@@ -12,6 +14,10 @@ alike key kind numbers = map (λ n. record { key = key; kind = kind; number = n 
 
 -- the events that are shared
 abbrev pub events_in : Shared → List Event
-events_in shared.Nothing = []
-events_in (shared.Alike key kind numbers) = alike key kind (arc_slice_items numbers)
-events_in (shared.Mixed events) = arc_slice_items events
+events_in (shared.Alike key kind numbers) = alike key kind numbers.items
+events_in (shared.Mixed events) = events.items
+
+-- those that are shared, if any are
+abbrev pub shared_events : Option (Arc Shared Global) → List Event
+shared_events None = []
+shared_events (Some all) = events_in (arc_value all)

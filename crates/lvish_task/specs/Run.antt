@@ -1,5 +1,5 @@
 -- What flat code does.
-use Rattle.std.specs.Prelude.{ℕ, zero, suc, ℤ, pos, ◌+◌, ◌-◌, Bool, true, false, ◌&&◌, ◌||◌, ◌==◌, nat_lt, nat_le, List, [], ◌∷◌, ◌++◌, length, map, replicate, Option, Some, None, Result, Ok, Err, unwrap_or, if◌then◌else◌}
+use Rattle.std.specs.Prelude.{◌≡◌, ℕ, zero, suc, ℤ, pos, ◌+◌, ◌-◌, Bool, true, false, ◌&&◌, ◌||◌, ◌==◌, nat_lt, nat_le, List, [], ◌∷◌, ◌++◌, length, map, replicate, Option, Some, None, Result, Ok, Err, unwrap_or, if◌then◌else◌}
 use Rattle.std.specs.List.{slice_get, slice_set, slice_index_or, list_all}
 use Rattle.lvish_task.specs.Vocabulary.{Event, ErrorKind, Request, Reply, Operand, Expression, Target, First, Second, Wanted, Action, Put, Get, Fork, Handle, Freeze, Instruction, Ask, Let, Call, SkipIfZero, BackUnlessZero, GoOn, Return, Routine, Place, Test, Any, AnyRead}
 use Rattle.lvish_calculus.specs.declared.request.ErrorKind.TheVariants as fault
@@ -244,6 +244,11 @@ module _ (c : flat.Code) where
   run (suc n) top below =
       let l = returned top below (suc n) in
       went l (run n) (flat_turn l)
+
+  -- the local state asks by this instruction where it stands: what the action asks for, or End
+  abbrev pub AsksBy : Stack → Instruction → Type 0
+  AsksBy l (Ask a) = (q : Request Any AnyRead Stack) → Asks q ≡ action_turn l.top.values a → run l.left l.top l.below ≡ record { request = q; at = l }
+  AsksBy l i = run l.left l.top l.below ≡ record { request = ask.End; at = l }
 
   -- ---- local states that fit
 

@@ -3,7 +3,8 @@ ghost use Rattle.lvish_task.specs.Run.{operand_value, expression_value, target_p
 ghost use Rattle.lvish_task.specs.Meaning.{kind_meant};
 
 use crate::arithmetic::combine;
-use crate::values::Few;
+use crate::in_place::{IN_PLACE, InPlace};
+use crate::values::Values;
 use lvish_calculus::ErrorKind;
 use lvish_code::{Expression, Operand, Side, Target, Wanted};
 use lvish_compound::{Kind, Place, Test};
@@ -26,14 +27,28 @@ pub fn value_of(values: &[i64], operand: Operand) -> i64
 }
 
 /// The values of operands in their order.
-pub fn values_of(alloc: Global, values: &[i64], operands: &[Operand]) -> Result<Few, AllocError>
-    ensures { IfOk result (λ v. v.items ≡ map (operand_value values.now) operands.now) }
+pub fn values_of(alloc: Global, values: &[i64], operands: &[Operand]) -> Result<Values, AllocError>
+    ensures { IfOk result (λ v. v ≡ map (operand_value values.now) operands.now) }
 {
-    let mut found = Few::with_capacity(alloc, operands.len())?;
+    if operands.len() > IN_PLACE {
+        return many_values_of(alloc, values, operands);
+    }
+    let mut found = InPlace::new();
+    for operand in operands {
+        found.push(value_of(values, *operand));
+    }
+    Ok(Values::few(found))
+}
+
+/// The values of many operands in their order.
+fn many_values_of(alloc: Global, values: &[i64], operands: &[Operand]) -> Result<Values, AllocError>
+    ensures { IfOk result (λ v. v ≡ map (operand_value values.now) operands.now) }
+{
+    let mut found = Vec::with_capacity(alloc, operands.len())?;
     for operand in operands {
         found.push(value_of(values, *operand))?;
     }
-    Ok(found)
+    Ok(Values::many(found))
 }
 
 /// What a `let` gives its local, or how it fails.

@@ -17,6 +17,7 @@ pub struct Frame {
 
 // Written out, so that it is proved once, and not at each exit of a function that owns one.
 impl Drop for Frame {
+    #[inline(always)]
     fn drop(self) {
         let Frame {
             place: _,
@@ -30,6 +31,7 @@ impl Drop for Frame {
 
 impl Frame {
     /// An equal frame.
+    #[inline(always)]
     pub fn copy(&self, alloc: Global) -> Result<Frame, AllocError>
         ensures { IfOk result (λ f. f ≡ self.now) }
     {

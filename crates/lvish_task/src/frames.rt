@@ -1,17 +1,21 @@
-ghost use Rattle.std.specs.Prelude.{◌≡◌, IfOk, OnOk, OnErr, [], ◌∷◌, ◌==◌, length, MatchOption, reverse};
+ghost use Rattle.std.specs.Prelude.{◌≡◌, IfOk, OnOk, [], ◌∷◌, ◌==◌, length, MatchOption, reverse};
 
 use crate::frame::Frame;
 use std::alloc::{AllocError, Global};
 use std::marker::Model;
+use std::sync::Arc;
 
 /// The frames below the innermost one, seen from there.
+///
+/// Copies share them, until one of the two is changed.
 #[derive(Debug)]
 pub struct Frames {
-    items: Vec<Frame>,
+    items: Option<Arc<Vec<Frame>>>,
 }
 
 // Written out, so that it is proved once, and not at each exit of a function that owns one.
 impl Drop for Frames {
+    #[inline(always)]
     fn drop(self) {
         let Frames { items: _ } = self;
     }
@@ -20,10 +24,11 @@ impl Drop for Frames {
 impl Model for Frames {
     ghost use Rattle.std.specs.Prelude.{List, reverse};
     ghost use Rattle.lvish_task.specs.declared.frame.Frame.{Frame};
+    ghost use Rattle.lvish_task.specs.Below.{frames_in};
 
     ghost Value = { List Frame };
 
-    ghost view = { λ f. reverse f.items.items };
+    ghost view = { λ f. reverse (frames_in f.items) };
 }
 
 impl PartialEq for Frames {
@@ -37,7 +42,7 @@ impl PartialEq for Frames {
     ghost laws = { on_per reverse (lists_per laws-law) };
 
     fn eq(&self, other: &Frames) -> bool {
-        self.items.as_slice() == other.items.as_slice()
+        self.as_slice() == other.as_slice()
     }
 }
 
@@ -50,61 +55,114 @@ impl Eq for Frames {
     ghost laws = { on_equiv reverse (lists_equiv laws-law) };
 }
 
+/// The same frames, one by one.
+#[inline(never)]
+fn copied(alloc: Global, frames: &[Frame]) -> Result<Vec<Frame>, AllocError>
+    ensures { IfOk result (λ v. v.items ≡ frames.now) }
+{
+    let mut items = Vec::with_capacity(alloc, frames.len())?;
+    for frame in frames {
+        items.push(frame.copy(alloc)?)?;
+    }
+    Ok(items)
+}
+
 impl Frames {
     /// No frames.
-    pub fn new(alloc: Global) -> Frames
+    #[inline(always)]
+    pub fn new() -> Frames
         ensures { result ≡ [] }
     {
-        Frames {
-            items: Vec::new(alloc),
+        Frames { items: None }
+    }
+
+    /// These frames, the innermost one last.
+    fn of(alloc: Global, frames: Vec<Frame>) -> Result<Frames, AllocError>
+        ensures { IfOk result (λ f. f ≡ reverse frames.items) }
+    {
+        if frames.is_empty() {
+            return Ok(Frames::new());
         }
+        let items = Some(Arc::new(alloc, frames)?);
+        Ok(Frames { items })
     }
 
     /// How many there are.
+    #[inline(always)]
     pub fn len(&self) -> usize
         ensures { result ≡ length self.now }
     {
-        self.items.len()
+        match &self.items {
+            None => 0,
+            Some(items) => items.len(),
+        }
     }
 
     /// Whether there is none.
+    #[inline(always)]
     pub fn is_empty(&self) -> bool
         ensures { result ≡ (length self.now == 0) }
     {
-        self.items.is_empty()
+        self.len() == 0
     }
 
     /// The frames as a slice, the innermost one last.
+    #[inline(always)]
     pub fn as_slice(&self) -> &[Frame]
         ensures { result.now ≡ reverse self.now }
     {
-        &self.items
+        match &self.items {
+            None => &[],
+            Some(items) => items.as_slice(),
+        }
+    }
+
+    /// The frames, the innermost one last, which are then no longer here.
+    fn taken(&mut self, alloc: Global) -> Result<Vec<Frame>, AllocError>
+        ensures taken { IfOk result (λ v. v.items ≡ reverse self.old) }
+        ensures none { self.new ≡ [] }
+    {
+        match self.items.take() {
+            None => Ok(Vec::new(alloc)),
+            Some(shared) => match Arc::try_unwrap(shared) {
+                Ok(items) => Ok(items),
+                Err(shared) => copied(alloc, shared.as_slice()),
+            },
+        }
     }
 
     /// One more frame above the others.
-    pub fn push(&mut self, frame: Frame) -> Result<(), AllocError>
-        ensures ok { OnOk result (self.new ≡ frame ∷ self.old) }
-        ensures err { OnErr result (self.new ≡ self.old) }
+    #[inline(never)]
+    pub fn push(&mut self, alloc: Global, frame: Frame) -> Result<(), AllocError>
+        ensures { OnOk result (self.new ≡ frame ∷ self.old) }
     {
-        self.items.push(frame)?;
+        let mut items = self.taken(alloc)?;
+        items.push(frame)?;
+        *self = Frames::of(alloc, items)?;
         Ok(())
     }
 
     /// Takes the topmost frame off.
-    pub fn pop(&mut self) -> Option<Frame>
-        ensures { MatchOption result ((self.old ≡ []) × (self.new ≡ [])) (λ f. self.old ≡ f ∷ self.new) }
+    #[inline(never)]
+    pub fn pop(&mut self, alloc: Global) -> Result<Option<Frame>, AllocError>
+        ensures { IfOk result (λ o. MatchOption o ((self.old ≡ []) × (self.new ≡ [])) (λ f. self.old ≡ f ∷ self.new)) }
     {
-        self.items.pop()
+        let mut items = self.taken(alloc)?;
+        let top = items.pop();
+        *self = Frames::of(alloc, items)?;
+        Ok(top)
     }
 
-    /// Equal frames.
-    pub fn copy(&self, alloc: Global) -> Result<Frames, AllocError>
+    /// The same frames, which both share.
+    #[inline(always)]
+    pub fn copy(&self) -> Result<Frames, AllocError>
         ensures { IfOk result (λ f. f ≡ self.now) }
     {
-        let mut items = Vec::with_capacity(alloc, self.items.len())?;
-        for frame in &self.items {
-            items.push(frame.copy(alloc)?)?;
-        }
-        Ok(Frames { items })
+        Ok(Frames {
+            items: match &self.items {
+                None => None,
+                Some(items) => Some(items.clone()?),
+            },
+        })
     }
 }

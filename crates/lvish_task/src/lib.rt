@@ -7,6 +7,7 @@ mod evaluate;
 mod fits;
 mod frame;
 mod frames;
+mod in_place;
 pub mod laws;
 mod limits;
 mod local;

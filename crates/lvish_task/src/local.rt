@@ -15,6 +15,7 @@ pub struct Local {
 
 // Written out, so that it is proved once, and not at each exit of a function that owns one.
 impl Drop for Local {
+    #[inline(always)]
     fn drop(self) {
         let Local { stack: _ } = self;
     }
@@ -49,6 +50,7 @@ impl Eq for Local {
 
 impl Local {
     /// A local state that holds the stack.
+    #[inline(always)]
     pub(crate) fn new(alloc: Global, stack: Stack) -> Result<Local, AllocError>
         ensures { IfOk result (λ l. l ≡ stack) }
     {
@@ -57,6 +59,7 @@ impl Local {
     }
 
     /// What it holds.
+    #[inline(always)]
     pub(crate) fn stack(&self) -> &Stack
         ensures { result.now ≡ self.now }
     {
@@ -68,6 +71,7 @@ impl Local {
     /// # Errors
     ///
     /// Where more share it than can be counted.
+    #[inline(always)]
     pub fn copy(&self) -> Result<Local, AllocError>
         ensures { IfOk result (λ l. l ≡ self.now) }
     {

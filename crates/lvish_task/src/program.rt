@@ -2,9 +2,10 @@ ghost use Rattle.std.specs.Prelude.{◌≡◌, IfOk};
 ghost use Rattle.lvish_task.specs.Run.{functions};
 
 use crate::frame::Frame;
+use crate::in_place::InPlace;
 use crate::local::Local;
 use crate::script_code::ScriptCode;
-use crate::values::Few;
+use crate::values::Values;
 use lvish_calculus::{Asks, Program, Reply};
 use lvish_compound::{Any, AnyRead, Event};
 use std::alloc::{AllocError, Global};
@@ -27,7 +28,7 @@ impl Program for ScriptCode {
     }
 
     fn start(&self, alloc: Global) -> Result<Local, AllocError> {
-        self.begin(alloc, self.flat.main(), Few::new(alloc))
+        self.begin(alloc, self.flat.main(), Values::few(InPlace::new()))
     }
 
     fn start_handler(
@@ -39,7 +40,7 @@ impl Program for ScriptCode {
         self.begin(
             alloc,
             procedure,
-            Few::from_array(alloc, [event.key, event.number])?,
+            Values::few(InPlace::two(event.key, event.number)),
         )
     }
 
@@ -48,8 +49,7 @@ impl Program for ScriptCode {
     }
 
     fn ask(&self, alloc: Global, local: &Local) -> Result<Asks<Any, AnyRead, Local>, AllocError> {
-        let (request, at) = self.asked(alloc, local)?;
-        Ok(Asks { request, at })
+        self.asked(alloc, local)
     }
 
     fn resume(&self, alloc: Global, at: &Local, reply: Reply<Any, i64>) -> Result<Local, AllocError>

@@ -1,13 +1,13 @@
 ghost use Rattle.std.specs.Prelude.{◌≡◌, IfOk, [], ◌∷◌, ◌==◌, length, slice_get, List, MatchOption};
 ghost use Rattle.std.specs.Cmp.Lexicographic.{pointwise};
 ghost use Rattle.lvish_compound.specs.declared.event.Event.{Event};
-ghost use Rattle.lvish_task.specs.Remaining.{events_in};
+ghost use Rattle.lvish_task.specs.Remaining.{events_in, shared_events};
 
 use crate::equal::are_equal;
 use lvish_compound::{Event, Kind};
 use std::alloc::{AllocError, Global};
 use std::marker::Model;
-use std::sync::ArcSlice;
+use std::sync::Arc;
 
 /// Events that local states share.
 ///
@@ -15,18 +15,16 @@ use std::sync::ArcSlice;
 /// which take a third of the room and can be compared several at a time.
 #[derive(Debug)]
 pub enum Shared {
-    Nothing,
     /// Of this key and kind, with these numbers.
-    Alike(i64, Kind, ArcSlice<i64>),
+    Alike(i64, Kind, Vec<i64>),
     /// Of several keys or kinds.
-    Mixed(ArcSlice<Event>),
+    Mixed(Vec<Event>),
 }
 
 // Written out, so that it is proved once, and not at each exit of a function that owns one.
 impl Drop for Shared {
     fn drop(self) {
         match self {
-            Shared::Nothing => {}
             Shared::Alike(_, _, _) => {}
             Shared::Mixed(_) => {}
         }
@@ -34,22 +32,19 @@ impl Drop for Shared {
 }
 
 impl Shared {
-    /// These events.
-    fn of(alloc: Global, events: Vec<Event>) -> Result<Shared, AllocError>
+    /// These events, the first of which is this one.
+    fn of(alloc: Global, first: Event, events: Vec<Event>) -> Result<Shared, AllocError>
         ensures { IfOk result (λ s. events_in s ≡ events.items) }
     {
-        let Some(first) = events.first() else {
-            return Ok(Shared::Nothing);
-        };
-        let (key, kind) = (first.key, first.kind);
+        let Event { key, kind, .. } = first;
         let mut numbers = Vec::with_capacity(alloc, events.len())?;
         for event in events.iter() {
             if event.key != key || event.kind != kind {
-                return Ok(Shared::Mixed(ArcSlice::from_vec(events)?));
+                return Ok(Shared::Mixed(events));
             }
             numbers.push(event.number)?;
         }
-        Ok(Shared::Alike(key, kind, ArcSlice::from_vec(numbers)?))
+        Ok(Shared::Alike(key, kind, numbers))
     }
 
     /// How many there are.
@@ -57,9 +52,8 @@ impl Shared {
         ensures { result ≡ length (events_in self.now) }
     {
         match self {
-            Shared::Nothing => 0,
-            Shared::Alike(_, _, numbers) => numbers.as_slice().len(),
-            Shared::Mixed(events) => events.as_slice().len(),
+            Shared::Alike(_, _, numbers) => numbers.len(),
+            Shared::Mixed(events) => events.len(),
         }
     }
 
@@ -68,28 +62,16 @@ impl Shared {
         ensures { result ≡ slice_get (events_in self.now) place }
     {
         match self {
-            Shared::Nothing => None,
             Shared::Alike(key, kind, numbers) => {
-                let number = *numbers.as_slice().get(place)?;
+                let number = *numbers.get(place)?;
                 Some(Event {
                     key: *key,
                     kind: *kind,
                     number,
                 })
             }
-            Shared::Mixed(events) => events.as_slice().get(place).copied(),
+            Shared::Mixed(events) => events.get(place).copied(),
         }
-    }
-
-    /// The same events.
-    fn copy(&self) -> Result<Shared, AllocError>
-        ensures { IfOk result (λ s. events_in s ≡ events_in self.now) }
-    {
-        Ok(match self {
-            Shared::Nothing => Shared::Nothing,
-            Shared::Alike(key, kind, numbers) => Shared::Alike(*key, *kind, numbers.clone()?),
-            Shared::Mixed(events) => Shared::Mixed(events.clone()?),
-        })
     }
 }
 
@@ -98,12 +80,13 @@ impl Shared {
 /// Copies share them.
 #[derive(Debug)]
 pub struct Remaining {
-    all: Shared,
+    all: Option<Arc<Shared>>,
     next: usize,
 }
 
 // Written out, so that it is proved once, and not at each exit of a function that owns one.
 impl Drop for Remaining {
+    #[inline(always)]
     fn drop(self) {
         let Remaining { all: _, next: _ } = self;
     }
@@ -112,13 +95,13 @@ impl Drop for Remaining {
 impl Model for Remaining {
     ghost use Rattle.std.specs.Prelude.{List, ◌≤◌, length, drop};
     ghost use Rattle.lvish_compound.specs.declared.event.Event.{Event};
-    ghost use Rattle.lvish_task.specs.Remaining.{events_in};
+    ghost use Rattle.lvish_task.specs.Remaining.{shared_events};
 
     ghost Value = { List Event };
 
-    ghost view = { λ r. drop r.next (events_in r.all) };
+    ghost view = { λ r. drop r.next (shared_events r.all) };
 
-    ghost invariant = { λ r. r.next ≤ length (events_in r.all) };
+    ghost invariant = { λ r. r.next ≤ length (shared_events r.all) };
 }
 
 impl PartialEq for Remaining {
@@ -129,16 +112,11 @@ impl PartialEq for Remaining {
 
     ghost laws = { lists_per laws-law };
 
+    #[inline(always)]
     fn eq(&self, other: &Remaining) -> bool {
         match (&self.all, &other.all) {
-            (Shared::Alike(key, kind, numbers), Shared::Alike(other_key, other_kind, others))
-                if key == other_key && kind == other_kind => {
-                are_equal(
-                    &numbers.as_slice()[self.next..],
-                    &others.as_slice()[other.next..],
-                )
-            }
-            _ => self.is_equal(other),
+            (None, None) => true,
+            _ => self.is_same(other),
         }
     }
 }
@@ -152,13 +130,11 @@ impl Eq for Remaining {
 
 impl Remaining {
     /// No events.
+    #[inline(always)]
     pub fn new() -> Remaining
         ensures { result ≡ [] }
     {
-        Remaining {
-            all: Shared::Nothing,
-            next: 0,
-        }
+        Remaining { all: None, next: 0 }
     }
 
     /// These events.
@@ -169,22 +145,52 @@ impl Remaining {
     pub fn of(alloc: Global, events: Vec<Event>) -> Result<Remaining, AllocError>
         ensures { IfOk result (λ r. r ≡ events.items) }
     {
-        let all = Shared::of(alloc, events)?;
+        let Some(first) = events.first().copied() else {
+            return Ok(Remaining::new());
+        };
+        let all = Some(Arc::new(alloc, Shared::of(alloc, first, events)?)?);
         Ok(Remaining { all, next: 0 })
     }
 
     /// How many are left.
+    #[inline(always)]
     fn len(&self) -> usize
         ensures { result ≡ length self.now }
     {
-        self.all.len() - self.next
+        match &self.all {
+            None => 0,
+            Some(all) => all.len() - self.next,
+        }
     }
 
     /// The event at this place among those that are left.
     fn at(&self, place: usize) -> Option<Event>
         ensures { result ≡ slice_get self.now place }
     {
-        self.all.at(self.next.checked_add(place)?)
+        match &self.all {
+            None => None,
+            Some(all) => all.at(self.next.checked_add(place)?),
+        }
+    }
+
+    /// Whether the two are equal: by their numbers alone, where those are alike.
+    #[inline(never)]
+    fn is_same(&self, other: &Remaining) -> bool
+        ensures { result ≡ pointwise ⟦<Event as PartialEq>⟧.eq self.now other.now }
+    {
+        let (Some(all), Some(others)) = (&self.all, &other.all) else {
+            return self.is_equal(other);
+        };
+        match (&**all, &**others) {
+            (Shared::Alike(key, kind, numbers), Shared::Alike(other_key, other_kind, others))
+                if key == other_key && kind == other_kind => {
+                are_equal(
+                    &numbers.as_slice()[self.next..],
+                    &others.as_slice()[other.next..],
+                )
+            }
+            _ => self.is_equal(other),
+        }
     }
 
     /// Whether the two are equal, event by event, however each of them is kept.
@@ -203,6 +209,7 @@ impl Remaining {
     }
 
     /// Whether there is none.
+    #[inline(always)]
     pub fn is_empty(&self) -> bool
         ensures { result ≡ (length self.now == 0) }
     {
@@ -210,6 +217,7 @@ impl Remaining {
     }
 
     /// The first event.
+    #[inline(always)]
     pub fn first(&self) -> Option<Event>
         ensures { MatchOption result (self.now ≡ []) (λ e. (more : List Event) × (self.now ≡ e ∷ more)) }
     {
@@ -226,11 +234,15 @@ impl Remaining {
     }
 
     /// The same events, which both share.
+    #[inline(always)]
     pub fn copy(&self) -> Result<Remaining, AllocError>
         ensures { IfOk result (λ r. r ≡ self.now) }
     {
         Ok(Remaining {
-            all: self.all.copy()?,
+            all: match &self.all {
+                None => None,
+                Some(all) => Some(all.clone()?),
+            },
             next: self.next,
         })
     }

@@ -1,16 +1,17 @@
 ghost use Rattle.std.specs.Prelude.{◌≡◌, ◌<◌, ◌+◌, ◌^◌, IfOk, OnOk};
-ghost use Rattle.lvish_task.specs.Run.{answered, asked, resumed, resumed_top};
+ghost use Rattle.lvish_calculus.specs.declared.request.Request.TheVariants.{End};
+ghost use Rattle.lvish_task.specs.Run.{AsksBy, answered, asked, resumed, resumed_top, run};
 
 use crate::frame::Frame;
 use crate::limits::TURNS;
 use crate::local::Local;
 use crate::remaining::Remaining;
 use crate::script_code::ScriptCode;
+use crate::stack::Stack;
 use crate::states::events_below;
-use crate::turn::Ask;
-use lvish_calculus::{Reply, Request};
+use lvish_calculus::{Asks, Reply, Request};
 use lvish_code::{Action, Instruction};
-use lvish_compound::Any;
+use lvish_compound::{Any, AnyRead};
 use std::alloc::{AllocError, Global};
 
 impl Frame {
@@ -41,21 +42,78 @@ impl Frame {
     }
 }
 
+/// The end of a task, in this local state.
+fn ended(at: Local) -> Result<Asks<Any, AnyRead, Local>, AllocError>
+    ensures request { IfOk result (λ a. a.request ≡ End) }
+    ensures at { IfOk result (λ a. a.at ≡ at) }
+{
+    Ok(Asks {
+        request: Request::End,
+        at,
+    })
+}
+
 impl ScriptCode {
     /// The next request, and the local state in which it is made.
-    pub(crate) fn asked(&self, alloc: Global, local: &Local) -> Result<(Ask, Local), AllocError>
-        ensures request { IfOk result (λ a. a.0 ≡ (asked self.now.flat local.now).request) }
-        ensures at { IfOk result (λ a. a.1 ≡ (asked self.now.flat local.now).at) }
+    pub(crate) fn asked(
+        &self,
+        alloc: Global,
+        local: &Local,
+    ) -> Result<Asks<Any, AnyRead, Local>, AllocError>
+        ensures request { IfOk result (λ a. a.request ≡ (asked self.now.flat local.now).request) }
+        ensures at { IfOk result (λ a. a.at ≡ (asked self.now.flat local.now).at) }
     {
         if !self.fits(local) {
-            return Ok((Request::End, local.copy()?));
+            return ended(local.copy()?);
         }
-        if let Some(request) = self.request_here(alloc, local.stack())? {
-            return Ok((request, local.copy()?));
+        let stack = local.stack();
+        if let Some(instruction) = self.here(stack) {
+            return self.asked_by(alloc, local.copy()?, instruction);
         }
-        let mut at = local.stack().copy(alloc)?;
+        let mut at = stack.copy(alloc)?;
+        self.stride(&mut at);
+        match self.here(&at) {
+            Some(instruction) => self.asked_by(alloc, Local::new(alloc, at)?, instruction),
+            None => self.asked_further(alloc, at),
+        }
+    }
+
+    /// What a task asks by the instruction at its place.
+    #[inline(never)]
+    fn asked_by(
+        &self,
+        alloc: Global,
+        at: Local,
+        instruction: &Instruction,
+    ) -> Result<Asks<Any, AnyRead, Local>, AllocError>
+        requires asks { AsksBy self.now.flat at instruction.now }
+        ensures request { IfOk result (λ a. a.request ≡ (run self.now.flat at.left at.top at.below).request) }
+        ensures at { IfOk result (λ a. a.at ≡ (run self.now.flat at.left at.top at.below).at) }
+    {
+        match instruction {
+            Instruction::Ask(action) => {
+                let request = self.request(alloc, at.stack().top.values.as_slice(), action)?;
+                Ok(Asks { request, at })
+            }
+            _ => ended(at),
+        }
+    }
+
+    /// What a task asks after more local statements, calls among them.
+    ///
+    /// It isn't inlined, since most requests come before the next call.
+    #[inline(never)]
+    fn asked_further(
+        &self,
+        alloc: Global,
+        mut at: Stack,
+    ) -> Result<Asks<Any, AnyRead, Local>, AllocError>
+        ensures request { IfOk result (λ a. a.request ≡ (run self.now.flat at.left at.top at.below).request) }
+        ensures at { IfOk result (λ a. a.at ≡ (run self.now.flat at.left at.top at.below).at) }
+    {
         let request = self.run(alloc, &mut at)?;
-        Ok((request, Local::new(alloc, at)?))
+        let at = Local::new(alloc, at)?;
+        Ok(Asks { request, at })
     }
 
     /// The local state after the reply to the request that `at` makes.

@@ -1,4 +1,4 @@
-ghost use Rattle.std.specs.Prelude.{◌≡◌, ◌<◌, IfSome, slice_get};
+ghost use Rattle.std.specs.Prelude.{◌≡◌, ◌<◌, IfSome, OnOk, slice_get};
 ghost use Rattle.std.specs.Option.{option_copied};
 ghost use Rattle.lvish_task.specs.Run.{landing, landed, settled, routine, instructions_in, instruction, is_end, is_frame_over, jump_in};
 ghost use Rattle.lvish_task.specs.Jumps.{JumpsStay, AllLand, HasPlaces};
@@ -87,14 +87,16 @@ impl ScriptCode {
     }
 
     /// Leaves each frame in which nothing follows, except the first, and moves past jumps.
-    pub(crate) fn settle(&self, local: &mut Stack)
-        ensures { local.new ≡ settled self.now.flat local.old }
+    #[inline(never)]
+    pub(crate) fn settle(&self, alloc: Global, local: &mut Stack) -> Result<(), AllocError>
+        ensures { OnOk result (local.new ≡ settled self.now.flat local.old) }
     {
         while self.lands_at_its_end(&mut local.top) {
-            match local.below.pop() {
-                None => return,
+            match local.below.pop(alloc)? {
+                None => return Ok(()),
                 Some(frame) => local.top = frame,
             }
         }
+        Ok(())
     }
 }

@@ -18,6 +18,7 @@ pub struct Stack {
 
 // Written out, so that it is proved once, and not at each exit of a function that owns one.
 impl Drop for Stack {
+    #[inline(always)]
     fn drop(self) {
         let Stack {
             left: _,
@@ -29,13 +30,14 @@ impl Drop for Stack {
 
 impl Stack {
     /// An equal stack.
+    #[inline(always)]
     pub fn copy(&self, alloc: Global) -> Result<Stack, AllocError>
         ensures { IfOk result (λ s. s ≡ self.now) }
     {
         Ok(Stack {
             left: self.left,
             top: self.top.copy(alloc)?,
-            below: self.below.copy(alloc)?,
+            below: self.below.copy()?,
         })
     }
 }

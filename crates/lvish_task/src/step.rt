@@ -1,5 +1,5 @@
 ghost use Rattle.std.specs.Prelude.{◌≡◌, ◌<◌, ◌+◌, ◌-◌, ◌^◌, IfOk, IfSome};
-ghost use Rattle.lvish_task.specs.Run.{operand_value, expression_value, assigned, placed, instruction_turn, flat_turn, requested, moved, run};
+ghost use Rattle.lvish_task.specs.Run.{AsksBy, operand_value, expression_value, assigned, placed, instruction_turn, flat_turn, requested, moved, run};
 ghost use Rattle.lvish_task.specs.Jumps.{HasPlaces};
 ghost use Rattle.lvish_task.specs.Meaning.{chosen};
 
@@ -91,39 +91,37 @@ impl ScriptCode {
         }
     }
 
-    /// The request that a task makes right where it stands; `None` where it may be at none.
-    pub(crate) fn request_here(
-        &self,
-        alloc: Global,
-        local: &Stack,
-    ) -> Result<Option<Ask>, AllocError>
-        ensures { IfOk result (λ r. IfSome r (λ q. run self.now.flat local.now.left local.now.top local.now.below ≡ record { request = q; at = local.now })) }
+    /// The instruction by which a task asks right where it stands: an action, or its end. `None`
+    /// where it may be at neither.
+    #[inline(always)]
+    pub(crate) fn here(&self, local: &Stack) -> Option<&Instruction>
+        ensures { IfSome result (λ i. AsksBy self.now.flat local.now i.now) }
     {
         if local.left == 0 || !local.top.events.is_empty() {
-            return Ok(None);
+            return None;
         }
-        match self.instruction(&local.top) {
-            Some(Instruction::Ask(action)) => {
-                Ok(Some(self.request(alloc, local.top.values.as_slice(), action)?))
-            }
-            Some(Instruction::Return) if local.below.is_empty() => Ok(Some(Request::End)),
-            _ => Ok(None),
+        let instruction = self.instruction(&local.top)?;
+        match instruction {
+            Instruction::Ask(_) => Some(instruction),
+            Instruction::Return if local.below.is_empty() => Some(instruction),
+            _ => None,
         }
     }
 
     /// Runs local statements up to the next request, for as many as are left.
+    #[inline(never)]
     pub(crate) fn run(&self, alloc: Global, local: &mut Stack) -> Result<Ask, AllocError>
         ensures request { IfOk result (λ r. r ≡ (run self.now.flat local.old.left local.old.top local.old.below).request) }
         ensures at { IfOk result (λ _. local.new ≡ (run self.now.flat local.old.left local.old.top local.old.below).at) }
     {
         self.stride(local);
-        self.settle(local);
+        self.settle(alloc, local)?;
         while local.left > 0 {
             if let Some(request) = self.turn(alloc, local)? {
                 return Ok(request);
             }
             self.stride(local);
-            self.settle(local);
+            self.settle(alloc, local)?;
         }
         Ok(Request::Pause)
     }

@@ -11,10 +11,10 @@ ghost use Rattle.lvish_task.specs.Meaning.{chosen};
 ghost use Rattle.lvish_task.specs.Stride.{KeepsAsking, is_test, jump_taken, let_taken, taken};
 
 use crate::evaluate::{evaluate, value_of};
+use crate::in_place::give;
 use crate::run::at;
 use crate::script_code::ScriptCode;
 use crate::stack::Stack;
-use crate::values::give;
 use lvish_code::{Expression, Instruction, Operand};
 
 /// How far a frame has come: how many local statements are left before a pause, and its place.
@@ -152,6 +152,7 @@ fn take(instructions: &[Instruction], values: &mut [i64], from: Progress) -> Opt
 }
 
 /// Takes local statements of a frame, as far as they are `let`s that succeed, tests and jumps.
+#[inline(always)]
 pub(crate) fn strides(instructions: &[Instruction], values: &mut [i64], from: Progress) -> Progress
     requires { AllLand instructions.now }
     ensures same { KeepsAsking instructions.now from values.old result values.new }
@@ -170,6 +171,7 @@ pub(crate) fn strides(instructions: &[Instruction], values: &mut [i64], from: Pr
 impl ScriptCode {
     /// Takes local statements of the innermost frame, as far as they are `let`s that succeed, tests
     /// and jumps. What the task asks for next stays the same.
+    #[inline(never)]
     pub(crate) fn stride(&self, local: &mut Stack)
         ensures same { run self.now.flat local.new.left local.new.top local.new.below ≡ run self.now.flat local.old.left local.old.top local.old.below }
         ensures fewer { local.new.left ≤ local.old.left }

@@ -5,13 +5,14 @@ ghost use Rattle.lvish_compound.specs.declared.event.Event.{Event};
 use crate::evaluate::{evaluate, place_of, test_of, value_of, values_of};
 use crate::frame::Frame;
 use crate::frames::Frames;
+use crate::in_place::InPlace;
 use crate::limits::{MOST_BELOW, TURNS};
 use crate::local::Local;
 use crate::remaining::Remaining;
 use crate::script_code::ScriptCode;
 use crate::stack::Stack;
 use crate::states::{put_at, read_at};
-use crate::values::{Few, Values};
+use crate::values::Values;
 use lvish_calculus::{ErrorKind, Pools, Request};
 use lvish_code::{Action, Instruction, Operand};
 use lvish_compound::{Any, AnyRead, Event};
@@ -23,12 +24,12 @@ pub type Ask = Request<Any, AnyRead, Local>;
 
 impl Stack {
     /// Goes into a frame above the others, as a local statement.
-    fn enter(&mut self, callee: Frame) -> Result<(), AllocError>
+    fn enter(&mut self, alloc: Global, callee: Frame) -> Result<(), AllocError>
         requires { 0 < self.old.left }
         ensures { OnOk result (self.new ≡ record { left = self.old.left - 1; top = callee; below = self.old.top ∷ self.old.below }) }
     {
         let caller = mem::replace(&mut self.top, callee);
-        self.below.push(caller)?;
+        self.below.push(alloc, caller)?;
         self.left -= 1;
         Ok(())
     }
@@ -36,14 +37,19 @@ impl Stack {
 
 impl ScriptCode {
     /// The frame of a procedure that begins on the arguments, if there is one that takes them.
-    fn callee(&self, procedure: usize, arguments: Few) -> Result<Option<Frame>, AllocError>
-        ensures { IfOk result (λ f. f ≡ callee self.now.flat procedure arguments.items) }
+    fn callee(
+        &self,
+        alloc: Global,
+        procedure: usize,
+        arguments: Values,
+    ) -> Result<Option<Frame>, AllocError>
+        ensures { IfOk result (λ f. f ≡ callee self.now.flat procedure arguments) }
     {
         match self.routine(procedure) {
             Some(routine) if arguments.len() == routine.parameters => Ok(Some(Frame {
                 place: 0,
                 procedure,
-                values: Values::new(arguments, routine.locals)?,
+                values: arguments.filled(alloc, routine.locals)?,
                 each: 0,
                 events: Remaining::new(),
             })),
@@ -57,21 +63,21 @@ impl ScriptCode {
         &self,
         alloc: Global,
         procedure: usize,
-        arguments: Few,
+        arguments: Values,
     ) -> Result<Local, AllocError>
-        ensures { IfOk result (λ l. l ≡ started self.now.flat procedure arguments.items) }
+        ensures { IfOk result (λ l. l ≡ started self.now.flat procedure arguments) }
     {
-        let top = match self.callee(procedure, arguments)? {
+        let top = match self.callee(alloc, procedure, arguments)? {
             Some(callee) => callee,
             None => Frame {
                 place: 0,
                 procedure: self.flat.routines().len(),
-                values: Values::new(Few::new(alloc), 0)?,
+                values: Values::few(InPlace::new()),
                 each: 0,
                 events: Remaining::new(),
             },
         };
-        let below = Frames::new(alloc);
+        let below = Frames::new();
         Local::new(
             alloc,
             Stack {
@@ -135,11 +141,11 @@ impl ScriptCode {
             return Ok(Some(Request::Fault(ErrorKind::Deep)));
         }
         let arguments = values_of(alloc, local.top.values.as_slice(), operands)?;
-        match self.callee(procedure, arguments)? {
+        match self.callee(alloc, procedure, arguments)? {
             None => Ok(Some(Request::End)),
             Some(callee) => {
                 local.top.place += 1;
-                local.enter(callee)?;
+                local.enter(alloc, callee)?;
                 Ok(None)
             }
         }
@@ -160,12 +166,12 @@ impl ScriptCode {
         if local.below.len() >= MOST_BELOW {
             return Ok(Some(Request::Fault(ErrorKind::Deep)));
         }
-        let arguments = Few::from_array(alloc, [event.key, event.number])?;
-        match self.callee(local.top.each, arguments)? {
+        let arguments = Values::few(InPlace::two(event.key, event.number));
+        match self.callee(alloc, local.top.each, arguments)? {
             None => Ok(Some(Request::End)),
             Some(callee) => {
                 local.top.events.take();
-                local.enter(callee)?;
+                local.enter(alloc, callee)?;
                 Ok(None)
             }
         }

@@ -1,40 +1,55 @@
-ghost use Rattle.std.specs.Prelude.{◌≡◌, IfOk, OnOk, ◌++◌, replicate, length, pos, ◌-◌, ◌≤◌};
+ghost use Rattle.std.specs.Prelude.{◌≡◌, IfOk, ◌++◌, replicate, length, pos, ◌-◌, ◌≤◌};
 ghost use Rattle.std.specs.List.{slice_set};
 ghost use Rattle.lvish_task.specs.Jumps.{AllLand};
 ghost use Rattle.lvish_task.specs.Stride.{KeepsAsking};
+ghost use Rattle.lvish_task.specs.Numbers.{numbers_in};
 
 use crate::equal::are_equal;
+use crate::in_place::{IN_PLACE, InPlace, give};
 use crate::stride::{Progress, strides};
 use lvish_code::Instruction;
-use smallvec::SmallVec;
 use std::alloc::{AllocError, Global};
 use std::marker::Model;
 
-/// As many numbers as most procedures have locals stand in place, with no memory of their own.
-const IN_PLACE: usize = 6;
+/// Numbers in order: a few of them in place, or many in memory of their own.
+#[derive(Debug)]
+pub enum Numbers {
+    Few(InPlace),
+    Many(Vec<i64>),
+}
 
-/// Numbers in order, a few of them in place.
-pub type Few = SmallVec<i64, IN_PLACE>;
+// Written out, so that it is proved once, and not at each exit of a function that owns one.
+impl Drop for Numbers {
+    #[inline(always)]
+    fn drop(self) {
+        match self {
+            Numbers::Few(_) => {}
+            Numbers::Many(_) => {}
+        }
+    }
+}
 
 /// The values of locals, by number.
 #[derive(Debug)]
 pub struct Values {
-    items: Few,
+    numbers: Numbers,
 }
 
 // Written out, so that it is proved once, and not at each exit of a function that owns one.
 impl Drop for Values {
+    #[inline(always)]
     fn drop(self) {
-        let Values { items: _ } = self;
+        let Values { numbers: _ } = self;
     }
 }
 
 impl Model for Values {
     ghost use Rattle.std.specs.Prelude.{List, ℤ};
+    ghost use Rattle.lvish_task.specs.Numbers.{numbers_in};
 
     ghost Value = { List ℤ };
 
-    ghost view = { λ v. v.items.items };
+    ghost view = { λ v. numbers_in v.numbers };
 }
 
 impl PartialEq for Values {
@@ -46,6 +61,7 @@ impl PartialEq for Values {
 
     ghost laws = { partial_equiv_from_equiv (lists_equiv int_eq_equiv) };
 
+    #[inline(always)]
     fn eq(&self, other: &Values) -> bool {
         are_equal(self.as_slice(), other.as_slice())
     }
@@ -58,62 +74,148 @@ impl Eq for Values {
     ghost laws = { lists_equiv int_eq_equiv };
 }
 
-/// Gives a local a value; nothing where there is no such local.
-#[inline(always)]
-pub(crate) fn give(values: &mut [i64], local: usize, value: i64)
-    ensures { values.new ≡ slice_set values.old local value }
+/// The same numbers, in memory of their own, which has room for this many.
+///
+/// It isn't inlined, so that a copy of a few numbers doesn't pay for it.
+#[inline(never)]
+fn many(alloc: Global, numbers: &[i64], room: usize) -> Result<Vec<i64>, AllocError>
+    ensures { IfOk result (λ v. v.items ≡ numbers.now) }
 {
-    if local < values.len() {
-        values[local] = value;
+    let mut many = Vec::with_capacity(alloc, room)?;
+    many.extend_from_slice(numbers)?;
+    Ok(many)
+}
+
+/// These numbers and zeros after them, `count` in all, in memory of their own.
+#[inline(never)]
+fn spread(alloc: Global, numbers: &[i64], count: usize) -> Result<Vec<i64>, AllocError>
+    requires { length numbers.now ≤ count }
+    ensures { IfOk result (λ v. v.items ≡ numbers.now ++ replicate (count - length numbers.now) (pos 0)) }
+{
+    let mut more = many(alloc, numbers, count)?;
+    more.resize(count, 0)?;
+    Ok(more)
+}
+
+impl Numbers {
+    /// These numbers, and zeros after them, `count` in all.
+    fn filled(self, alloc: Global, count: usize) -> Result<Numbers, AllocError>
+        requires { length (numbers_in self) ≤ count }
+        ensures { IfOk result (λ n. numbers_in n ≡ numbers_in self ++ replicate (count - length (numbers_in self)) (pos 0)) }
+    {
+        match self {
+            Numbers::Few(few) => {
+                if count <= IN_PLACE {
+                    return Ok(Numbers::Few(few.filled(count)));
+                }
+                Ok(Numbers::Many(spread(alloc, few.as_slice(), count)?))
+            }
+            Numbers::Many(mut numbers) => {
+                numbers.resize(count, 0)?;
+                Ok(Numbers::Many(numbers))
+            }
+        }
+    }
+
+    /// The same numbers.
+    #[inline(always)]
+    fn copy(&self, alloc: Global) -> Result<Numbers, AllocError>
+        ensures { IfOk result (λ n. numbers_in n ≡ numbers_in self.now) }
+    {
+        match self {
+            Numbers::Few(few) => Ok(Numbers::Few(few.copy())),
+            Numbers::Many(numbers) => {
+                let numbers = numbers.as_slice();
+                Ok(Numbers::Many(many(alloc, numbers, numbers.len())?))
+            }
+        }
     }
 }
 
 impl Values {
-    /// These values, and zeros after them, `count` in all.
-    pub fn new(mut values: Few, count: usize) -> Result<Values, AllocError>
-        requires { length values.items ≤ count }
-        ensures { IfOk result (λ v. v ≡ values.items ++ replicate (count - length values.items) (pos 0)) }
+    /// These few values.
+    #[inline(always)]
+    pub fn few(values: InPlace) -> Values
+        ensures { result ≡ values }
     {
-        values.resize(count, 0)?;
-        Ok(Values { items: values })
+        Values {
+            numbers: Numbers::Few(values),
+        }
+    }
+
+    /// These many values.
+    pub fn many(values: Vec<i64>) -> Values
+        ensures { result ≡ values.items }
+    {
+        Values {
+            numbers: Numbers::Many(values),
+        }
+    }
+
+    /// These values, and zeros after them, `count` in all.
+    pub fn filled(self, alloc: Global, count: usize) -> Result<Values, AllocError>
+        requires { length self ≤ count }
+        ensures { IfOk result (λ v. v ≡ self ++ replicate (count - length self) (pos 0)) }
+    {
+        let Values { numbers } = self;
+        Ok(Values {
+            numbers: numbers.filled(alloc, count)?,
+        })
     }
 
     /// How many there are.
+    #[inline(always)]
     pub fn len(&self) -> usize
         ensures { result ≡ length self.now }
     {
-        self.items.len()
+        match &self.numbers {
+            Numbers::Few(few) => few.len(),
+            Numbers::Many(numbers) => numbers.len(),
+        }
     }
 
     /// The values as a slice.
+    #[inline(always)]
     pub fn as_slice(&self) -> &[i64]
         ensures { result.now ≡ self.now }
     {
-        self.items.as_slice()
+        match &self.numbers {
+            Numbers::Few(few) => few.as_slice(),
+            Numbers::Many(numbers) => numbers.as_slice(),
+        }
     }
 
     /// Gives a local a value; nothing where there is no such local.
+    #[inline(always)]
     pub fn set(&mut self, local: usize, value: i64)
         ensures { self.new ≡ slice_set self.old local value }
     {
-        give(self.items.as_mut_slice(), local, value);
+        match &mut self.numbers {
+            Numbers::Few(few) => few.set(local, value),
+            Numbers::Many(numbers) => give(numbers.as_mut_slice(), local, value),
+        }
     }
 
     /// Takes statements of a frame with these values, as [`strides`] does.
+    #[inline(always)]
     pub(crate) fn stride(&mut self, instructions: &[Instruction], from: Progress) -> Progress
         requires { AllLand instructions.now }
         ensures same { KeepsAsking instructions.now from self.old result self.new }
         ensures fewer { result.left ≤ from.left }
     {
-        strides(instructions, self.items.as_mut_slice(), from)
+        match &mut self.numbers {
+            Numbers::Few(few) => few.stride(instructions, from),
+            Numbers::Many(numbers) => strides(instructions, numbers.as_mut_slice(), from),
+        }
     }
 
     /// Equal values.
+    #[inline(always)]
     pub fn copy(&self, alloc: Global) -> Result<Values, AllocError>
         ensures { IfOk result (λ v. v ≡ self.now) }
     {
         Ok(Values {
-            items: Few::from_slice(alloc, self.as_slice())?,
+            numbers: self.numbers.copy(alloc)?,
         })
     }
 }

@@ -1,7 +1,7 @@
 use Rattle.std.proofs.Common.{◌≤◌, sym, arith}
 use Rattle.lvish_task.proofs.script_code.ScriptCode.callee.Goals as goal
 
-pub new-requires : goal.new-requires
-new-requires c =
+pub filled-requires : goal.filled-requires
+filled-requires c =
     let within : c.in-Some.routine.now.parameters ≤ c.in-Some.routine.now.locals = (c.args.self.now.flat.sound.routines_sound c.args.procedure c.in-Some.routine.now (sym c.in-Some.ensures)).parameters in
     omega arith

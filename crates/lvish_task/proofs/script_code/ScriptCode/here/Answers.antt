@@ -1,4 +1,4 @@
-use Rattle.std.proofs.Common.{◌≡◌, ◌<◌, true, false, ◌&&◌, ◌==◌, List, [], length, Some, None, sym, ◌∙◌, ap, arith}
+use Rattle.std.proofs.Common.{◌≡◌, ◌<◌, true, false, ◌&&◌, ◌==◌, List, [], length, Some, None, sym, ◌∙◌, ap, subst, arith}
 use Rattle.std.proofs.Math.Bool.{and-false}
 use Rattle.std.proofs.lemmas.Bool.Decides.{Decides-eqb}
 use Rattle.std.proofs.lemmas.List.{nil_from_length}
@@ -6,10 +6,10 @@ use Rattle.lvish_task.specs.Vocabulary.{Request, Action, Ask, Return, Any, AnyRe
 use Rattle.lvish_calculus.specs.declared.request.Request.TheVariants as ask
 use Rattle.lvish_code.specs.Flat as flat
 use Rattle.lvish_task.specs.declared.stack.Stack.{Stack}
-use Rattle.lvish_task.specs.Run.{Asks, jump_in, is_end, placed, instructions, instruction, landed, is_frame_over, returned, settled, action_turn, instruction_turn, frame_turn, run}
+use Rattle.lvish_task.specs.Run.{Asks, AsksBy, jump_in, is_end, placed, instructions, instruction, landed, is_frame_over, returned, settled, action_turn, instruction_turn, frame_turn, run}
 use Rattle.lvish_task.specs.laws.Landing.{landing_here}
 use Rattle.lvish_task.specs.laws.Settling.{stays, makes_some, asked_here}
-use Rattle.lvish_task.proofs.script_code.ScriptCode.request_here.Goals as goal
+use Rattle.lvish_task.proofs.script_code.ScriptCode.here.Goals as goal
 
 nothing : {X : Type 0} (xs : List X) → true ≡ (length xs == 0) → xs ≡ []
 nothing xs e = nil_from_length xs ((Decides-eqb _ _).0 (sym e))
@@ -36,16 +36,16 @@ module _ (c : flat.Code) (l : Stack) (some : 0 < l.left) (none : l.top.events �
       ∙ ap (λ fs. record { left = l.left; top = l.top; below = fs }) (sym alone) in
       asks_here ask.End here (ap (instruction_turn c l.top l.below) is)
 
-pub returns-in_ok-request-in-Some-Ask : goal.returns-in_ok-request-in-Some-Ask
-returns-in_ok-request-in-Some-Ask c =
+pub returns-in-Ask : goal.returns-in-Ask
+returns-in-Ask c =
     let code = c.args.self.now.flat in
     let l = c.args.local.now in
-    let is : instruction code l.top ≡ Some (Ask c.in-Some-Ask.action) = sym c.in-Some-Ask.ensures.value ∙ ap Some c.in-Some-Ask.field-0-is in
-    acts_here code l (omega arith) (nothing l.top.events c.if-not-is_empty.ensures) c.in-Some-Ask.action c.in_ok-request-in-Some-Ask.field-0 is (rw c.as_slice.ensures at c.in_ok-request-in-Some-Ask.ensures)
+    let is : instruction code l.top ≡ Some (Ask c.in-Ask.field-0) = sym c.in_ok-instruction.ensures.value ∙ ap Some c.in-Ask.is in
+    subst (AsksBy code l) (sym c.in-Ask.is) (λ q e. acts_here code l (omega arith) (nothing l.top.events c.if-not-is_empty.ensures) c.in-Ask.field-0 q is e)
 
-pub returns-in-Some-Return : goal.returns-in-Some-Return
-returns-in-Some-Return c =
+pub returns-in-Return : goal.returns-in-Return
+returns-in-Return c =
     let code = c.args.self.now.flat in
     let l = c.args.local.now in
-    let is : instruction code l.top ≡ Some Return = sym c.in-Some-Return.ensures.value ∙ ap Some c.in-Some-Return.field-0-is in
-    ends_here code l (omega arith) (nothing l.top.events c.if-not-is_empty.ensures) is (nothing l.below c.if-is_empty.ensures)
+    let is : instruction code l.top ≡ Some Return = sym c.in_ok-instruction.ensures.value ∙ ap Some c.in-Return.is in
+    subst (AsksBy code l) (sym c.in-Return.is) (ends_here code l (omega arith) (nothing l.top.events c.if-not-is_empty.ensures) is (nothing l.below c.if-is_empty.ensures))

@@ -1,0 +1,142 @@
+ghost use Rattle.std.specs.Prelude.{◌≡◌, ◌<◌, ◌≤◌, ◌++◌, ◌∷◌, ◌-◌, [], length, replicate, pos};
+ghost use Rattle.std.specs.List.{slice_set};
+ghost use Rattle.lvish_task.specs.Jumps.{AllLand};
+ghost use Rattle.lvish_task.specs.Stride.{KeepsAsking};
+
+use crate::stride::{Progress, strides};
+use lvish_code::Instruction;
+use std::marker::Model;
+
+/// As many numbers as most procedures have locals.
+pub const IN_PLACE: usize = 6;
+
+/// A few numbers in order, with no memory of their own.
+#[derive(Debug)]
+pub struct InPlace {
+    count: usize,
+    numbers: [i64; IN_PLACE],
+}
+
+// Written out, so that it is proved once, and not at each exit of a function that owns one.
+impl Drop for InPlace {
+    #[inline(always)]
+    fn drop(self) {
+        let InPlace {
+            count: _,
+            numbers: _,
+        } = self;
+    }
+}
+
+impl Model for InPlace {
+    ghost use Rattle.std.specs.Prelude.{List, ℤ, ◌≤◌, take};
+
+    ghost Value = { List ℤ };
+
+    ghost view = { λ p. take p.count p.numbers };
+
+    ghost invariant = { λ p. p.count ≤ 6 };
+}
+
+/// Gives a local a value; nothing where there is no such local.
+#[inline(always)]
+pub(crate) fn give(values: &mut [i64], local: usize, value: i64)
+    ensures { values.new ≡ slice_set values.old local value }
+{
+    if local < values.len() {
+        values[local] = value;
+    }
+}
+
+impl InPlace {
+    /// No numbers.
+    #[inline(always)]
+    pub fn new() -> InPlace
+        ensures { result ≡ [] }
+    {
+        InPlace {
+            count: 0,
+            numbers: [0; IN_PLACE],
+        }
+    }
+
+    /// Two numbers.
+    #[inline(always)]
+    pub fn two(first: i64, second: i64) -> InPlace
+        ensures { result ≡ first ∷ second ∷ [] }
+    {
+        InPlace {
+            count: 2,
+            numbers: [first, second, 0, 0, 0, 0],
+        }
+    }
+
+    /// The same numbers.
+    #[inline(always)]
+    pub fn copy(&self) -> InPlace
+        ensures { result ≡ self.now }
+    {
+        InPlace {
+            count: self.count,
+            numbers: self.numbers,
+        }
+    }
+
+    /// How many there are.
+    #[inline(always)]
+    pub fn len(&self) -> usize
+        ensures count { result ≡ length self.now }
+        ensures few { result ≤ 6 }
+    {
+        self.count
+    }
+
+    /// The numbers as a slice.
+    #[inline(always)]
+    pub fn as_slice(&self) -> &[i64]
+        ensures { result.now ≡ self.now }
+    {
+        &self.numbers[..self.count]
+    }
+
+    /// One more number behind the others, where there is room for it.
+    #[inline(always)]
+    pub fn push(&mut self, number: i64)
+        requires { length self.old < 6 }
+        ensures { self.new ≡ self.old ++ number ∷ [] }
+    {
+        self.numbers[self.count] = number;
+        self.count += 1;
+    }
+
+    /// These numbers, and zeros after them, `count` in all.
+    #[inline(always)]
+    pub fn filled(mut self, count: usize) -> InPlace
+        requires more { length self ≤ count }
+        requires few { count ≤ 6 }
+        ensures { result ≡ self ++ replicate (count - length self) (pos 0) }
+    {
+        while self.len() < count {
+            self.push(0);
+        }
+        self
+    }
+
+    /// Gives a local a value; nothing where there is no such local.
+    #[inline(always)]
+    pub fn set(&mut self, local: usize, value: i64)
+        ensures { self.new ≡ slice_set self.old local value }
+    {
+        give(&mut self.numbers[..self.count], local, value);
+    }
+
+    /// Takes statements of a frame with these values, as [`strides`] does.
+    #[inline(always)]
+    pub fn stride(&mut self, instructions: &[Instruction], from: Progress) -> Progress
+        requires { AllLand instructions.now }
+        ensures same { KeepsAsking instructions.now from self.old result self.new }
+        ensures fewer { result.left ≤ from.left }
+    {
+        strides(instructions, &mut self.numbers[..self.count], from)
+    }
+}
