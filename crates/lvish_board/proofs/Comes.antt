@@ -1,20 +1,25 @@
 -- All that a board says of its answer, for each answer, over any machine.
-use Rattle.std.proofs.Common.{◌≡◌, ◌++◌, ◌∷◌, [], Bool, true, false, ℕ, Ordering, Option, None, is_some, IsSome, refl, sym, ap, subst, ◌∙◌}
+use Rattle.std.proofs.Common.{◌≡◌, ◌++◌, ◌∷◌, [], Bool, true, false, ℕ, Ordering, Option, None, Some, is_some, unwrap_or, IsSome, refl, sym, ap, subst, ◌∙◌}
 use Rattle.std.proofs.lemmas.Bool.{false≢true, true≢false}
-use Rattle.lvish_board.specs.Vocabulary.{Act, Hand, Acted, Over, Stale, Parked, Next, Gone, Works}
+use Rattle.lvish_board.specs.Vocabulary.{Act, ActOn, Hand, HandTo, Acted, Over, Stale, Parked, Memory, Next, Gone, Came, CameOver, CameStale, CameParked, CameMemory, CameNext, CameGone, Works}
 use Rattle.lvish_calculus.specs.Machine.{Machine}
 use Rattle.lvish_names.specs.Names.{Handler}
 use Rattle.lvish_core.specs.Tasks.{task_names}
-use Rattle.lvish_board.specs.Acts.{ComesOfAct, IsDone, ComesOfHand, entry_of}
+use Rattle.lvish_board.specs.Acts.{ComesOfAct, ComesOfNoAct, IsDone, ComesOfHand, ComesOfNoHanding, entry_of, with_work}
 use Rattle.lvish_board.specs.Listed.{IsListed, works_of}
 use Rattle.lvish_board.specs.Noted.{label_at}
 use Rattle.lvish_board.specs.Place.{TaskPlace}
 use Rattle.lvish_board.specs.Standing.{Standing}
+use Rattle.lvish_board.specs.Woken.{IsParkedBeside}
 use Rattle.lvish_board.proofs.Steps.{none_is}
 
 -- what isn't over is over in no way
 pub not_over : {X Y : Type 0} (o : Option X) → o ≡ None → IsSome o → Y
 not_over o none some = absurd (false≢true (subst (λ z. IsSome z) none some))
+
+-- what holds of the content of a place holds of whatever it is said to be
+pub for_this : {X : Type 0} (F : X → Type 0) (x : X) (o : Option X) → Some x ≡ o → F x → (y : X) → o ≡ Some y → F y
+for_this F x o same holds y there = subst F (ap (λ p. unwrap_or p x) (same ∙ there)) holds
 
 module _ {P S E R Ans L P1 J1 A1 W : Type 0} {cmp : E → E → Ordering} {M : Machine S E R Ans L} {Stands Can : Type 0} {worker : ℕ} {asked : TaskPlace E L} {old new : Standing P S E L} where
   -- the board is over
@@ -82,11 +87,61 @@ module _ {P S E R Ans L P1 J1 A1 W : Type 0} {cmp : E → E → Ordering} {M : M
   }
 
   -- a step was made, and the answer says whether the task goes on
-  pub act_left : (goes_on : Bool) (list : Works P1 J1 S L R A1 W E) (result : Acted P1 J1 S L R A1 W E) → (goes_on ≡ true → result ≡ Next list) → (goes_on ≡ false → result ≡ Gone list)
+  pub act_left : (goes_on : Bool) (list : Works P1 J1 S L R A1 W E) (came : Came) → (goes_on ≡ true → came ≡ CameNext) → (goes_on ≡ false → came ≡ CameGone)
       → old.over ≡ None → new.trace ≡ old.trace ++ entry_of worker (Act asked.task) ∷ [] → (goes_on ≡ true → IsDone M new.core asked.task → ⊥) → (goes_on ≡ false → IsDone M new.core asked.task)
-      → IsListed cmp M old (Act asked.task) new (works_of list) → label_at (task_names new.core.table.tasks) list.step ≡ Act asked.task → is_some list.own ≡ goes_on → ComesOfAct cmp M Stands Can worker asked old new result
-  act_left true list result next gone none written goes ends listed noted own = subst (λ r. ComesOfAct cmp M Stands Can worker asked old new r) (sym (next refl)) (act_next list none written (goes refl) listed noted own)
-  act_left false list result next gone none written goes ends listed noted own = subst (λ r. ComesOfAct cmp M Stands Can worker asked old new r) (sym (gone refl)) (act_gone list none written (ends refl) listed noted (none_is list.own own))
+      → IsListed cmp M old (Act asked.task) new (works_of list) → label_at (task_names new.core.table.tasks) list.step ≡ Act asked.task → is_some list.own ≡ goes_on → ComesOfAct cmp M Stands Can worker asked old new (with_work came (ActOn asked) list)
+  act_left true list came next gone none written goes ends listed noted own = subst (λ k. ComesOfAct cmp M Stands Can worker asked old new (with_work k (ActOn asked) list)) (sym (next refl)) (act_next list none written (goes refl) listed noted own)
+  act_left false list came next gone none written goes ends listed noted own = subst (λ k. ComesOfAct cmp M Stands Can worker asked old new (with_work k (ActOn asked) list)) (sym (gone refl)) (act_gone list none written (ends refl) listed noted (none_is list.own own))
+
+  -- the task is blocked, and parked
+  act_parked : old.over ≡ None → (Can → ⊥) → new.trace ≡ old.trace → new.core ≡ old.core → IsParkedBeside old.parked asked new.parked → ComesOfAct {P = P1} {J = J1} {A = A1} {W = W} cmp M Stands Can worker asked old new Parked
+  act_parked none blocked trace core beside = record {
+    stays = λ _. (trace, core);
+    step = λ e. absurd (false≢true e);
+    gone = λ e. absurd (false≢true e);
+    list = tt;
+    noted = tt;
+    own = tt;
+    over = λ e. absurd (false≢true e);
+    done = not_over old.over none;
+    stale = λ e. absurd (false≢true e);
+    parked = λ _. (blocked, beside);
+    memory = (tt, tt);
+  }
+
+  -- a growth was refused
+  pub act_memory : old.over ≡ None → new ≡ old → ComesOfAct {P = P1} {J = J1} {A = A1} {W = W} cmp M Stands Can worker asked old new (Memory (ActOn asked))
+  act_memory none same = record {
+    stays = λ _. (ap (λ b. b.trace) same, ap (λ b. b.core) same);
+    step = λ e. absurd (false≢true e);
+    gone = λ e. absurd (false≢true e);
+    list = tt;
+    noted = tt;
+    own = tt;
+    over = λ e. absurd (false≢true e);
+    done = not_over old.over none;
+    stale = λ e. absurd (false≢true e);
+    parked = λ e. absurd (false≢true e);
+    memory = (refl, same);
+  }
+
+  -- no step was made
+  pub act_unmade : (list : Works P1 J1 S L R A1 W E) (came : Came) → old.over ≡ None → new.trace ≡ old.trace → new.core ≡ old.core → ComesOfNoAct Can asked old new came → ComesOfAct cmp M Stands Can worker asked old new (with_work came (ActOn asked) list)
+  act_unmade list CameOver none trace core some = act_over trace core some (not_over old.over none)
+  act_unmade list CameParked none trace core kept = act_parked none kept.0 trace core kept.1
+  act_unmade list CameMemory none trace core same = act_memory none same
+  act_unmade list CameStale none trace core never = absurd never
+  act_unmade list CameNext none trace core never = absurd never
+  act_unmade list CameGone none trace core never = absurd never
+
+  -- what holds of the answer with its work holds of the answer that is made of both
+  pub act_whole : (list : Works P1 J1 S L R A1 W E) (came : Came) (result : Acted P1 J1 S L R A1 W E) → result ≡ with_work came (ActOn asked) list → ComesOfAct cmp M Stands Can worker asked old new (with_work came (ActOn asked) list) → ComesOfAct cmp M Stands Can worker asked old new result
+  act_whole list came result same comes = subst (λ r. ComesOfAct cmp M Stands Can worker asked old new r) (sym same) comes
+
+-- a step whose answer says whether the task goes on was not refused
+pub left_kept : {Y : Type 0} (goes_on : Bool) (came : Came) → (goes_on ≡ true → came ≡ CameNext) → (goes_on ≡ false → came ≡ CameGone) → came ≡ CameMemory → Y
+left_kept true came next gone refused = absurd (let z : CameNext ≡ CameMemory = sym (next refl) ∙ refused in let y : ⊥ = cc in y)
+left_kept false came next gone refused = absurd (let z : CameGone ≡ CameMemory = sym (gone refl) ∙ refused in let y : ⊥ = cc in y)
 
 module _ {P S E R Ans L P1 J1 A1 W : Type 0} {cmp : E → E → Ordering} {M : Machine S E R Ans L} {Held : Type 0} {IsNext : E → Type 0} {worker : ℕ} {handler : Handler E} {old new : Standing P S E L} where
   -- the board is over
@@ -137,6 +192,22 @@ module _ {P S E R Ans L P1 J1 A1 W : Type 0} {cmp : E → E → Ordering} {M : M
     memory = (tt, tt);
   }
 
+  -- a growth was refused
+  pub hand_memory : old.over ≡ None → new ≡ old → ComesOfHand {P = P1} {J = J1} {A = A1} {W = W} cmp M Held IsNext worker handler old new (Memory (HandTo handler))
+  hand_memory none same = record {
+    stays = λ _. (ap (λ b. b.trace) same, ap (λ b. b.core) same, ap (λ b. b.parked) same);
+    step = λ e. absurd (false≢true e);
+    gone = refl;
+    list = λ e next. tt;
+    noted = λ e next. tt;
+    own = tt;
+    over = λ e. absurd (false≢true e);
+    done = not_over old.over none;
+    stale = λ e. absurd (false≢true e);
+    parked = λ e. absurd (false≢true e);
+    memory = (refl, same);
+  }
+
   -- what came next was handed
   pub hand_next : (list : Works P1 J1 S L R A1 W E) (event : E) → ((e : E) → IsNext e → event ≡ e) → old.over ≡ None → new.trace ≡ old.trace ++ entry_of worker (Hand handler event) ∷ [] → IsListed cmp M old (Hand handler event) new (works_of list) → label_at (task_names new.core.table.tasks) list.step ≡ Hand handler event → list.own ≡ None → ComesOfHand {P = P1} {J = J1} {A = A1} {W = W} cmp M Held IsNext worker handler old new (Next list)
   hand_next list event one none written listed noted own = record {
@@ -152,3 +223,16 @@ module _ {P S E R Ans L P1 J1 A1 W : Type 0} {cmp : E → E → Ordering} {M : M
     parked = λ e. absurd (false≢true e);
     memory = (tt, tt);
   }
+
+  -- nothing was handed
+  pub hand_unmade : (list : Works P1 J1 S L R A1 W E) (came : Came) → old.over ≡ None → (new.trace ≡ old.trace) × (new.core ≡ old.core) × (new.parked ≡ old.parked) → ComesOfNoHanding Held IsNext old new came → ComesOfHand cmp M Held IsNext worker handler old new (with_work came (HandTo handler) list)
+  hand_unmade list CameOver none stays some = hand_over stays.0 stays.1 stays.2 some (not_over old.over none)
+  hand_unmade list CameStale none stays kept = hand_stale kept.1 (ap (λ b. b.over) kept.1 ∙ none) kept.0
+  hand_unmade list CameParked none stays kept = hand_drained kept.1 (ap (λ b. b.over) kept.1 ∙ none) kept.0
+  hand_unmade list CameMemory none stays same = hand_memory none same
+  hand_unmade list CameNext none stays never = absurd never
+  hand_unmade list CameGone none stays never = absurd never
+
+  -- what holds of the answer with its work holds of the answer that is made of both
+  pub hand_whole : (list : Works P1 J1 S L R A1 W E) (came : Came) (result : Acted P1 J1 S L R A1 W E) → result ≡ with_work came (HandTo handler) list → ComesOfHand cmp M Held IsNext worker handler old new (with_work came (HandTo handler) list) → ComesOfHand cmp M Held IsNext worker handler old new result
+  hand_whole list came result same comes = subst (λ r. ComesOfHand cmp M Held IsNext worker handler old new r) (sym same) comes

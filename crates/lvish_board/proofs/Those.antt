@@ -1,5 +1,5 @@
 -- Those elements of a list that something holds of, and lists that are filled with them.
-use Rattle.std.proofs.Common.{◌≡◌, ◌↔◌, inl, inr, true, false, List, [], ◌∷◌, ◌++◌, Ordering, Option, Some, None, is_some, MatchOption, sym, ap, subst, ◌∙◌, append_assoc, append-nil, reverse, Less}
+use Rattle.std.proofs.Common.{◌≡◌, ◌↔◌, inl, inr, List, [], ◌∷◌, ◌++◌, Ordering, sym, ap, subst, ◌∙◌, append_assoc, append-nil, reverse, Less}
 use Rattle.std.specs.List.{AllByRecursion}
 use Rattle.std.proofs.lemmas.List.{reverse-append}
 use Rattle.std.specs.List.Sorted.{IsStrictlySortedBy}
@@ -7,15 +7,6 @@ use Rattle.lvish_calculus.specs.Handing.{IsAmong}
 use Rattle.lvish_core.specs.laws.Lists.{all_always}
 use Rattle.lvish_core.proofs.Listing.{all_at}
 use Rattle.lvish_board.specs.Left.{AreThose}
-
--- an answer tells whether there is something
-pub there : {X : Type 0} (N : X → Type 0) (o : Option X) → MatchOption o ((x : X) → N x → ⊥) N → is_some o ≡ true → (x : X) × N x
-there N None h e = absurd cc
-there N (Some x) h e = (x, h)
-
-pub none_there : {X : Type 0} (N : X → Type 0) (o : Option X) → MatchOption o ((x : X) → N x → ⊥) N → is_some o ≡ false → (x : X) × N x → ⊥
-none_there N None h e w = h w.0 w.1
-none_there N (Some x) h e w = cc
 
 module _ {X : Type 0} (P : X → Type 0) where
   -- just those that P holds of

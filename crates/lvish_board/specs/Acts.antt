@@ -1,7 +1,7 @@
 -- What comes of acts.
 use Rattle.std.specs.Prelude.{◌≡◌, ◌⊎◌, ◌↔◌, ◌++◌, ◌∷◌, ℕ, Bool, [], true, false, None, IsSome}
 use Rattle.std.specs.declared.cmp.Ordering.{Ordering}
-use Rattle.lvish_board.specs.Vocabulary.{Label, Act, Hand, TraceEntry, Work, ActOn, HandTo, Acted, Over, Stale, Parked, Memory, Next, Gone}
+use Rattle.lvish_board.specs.Vocabulary.{Label, Act, Hand, TraceEntry, Work, Works, ActOn, HandTo, Acted, Over, Stale, Parked, Memory, Next, Gone, Came, CameOver, CameStale, CameParked, CameMemory, CameNext, CameGone}
 use Rattle.lvish_calculus.specs.Machine.{Machine}
 use Rattle.lvish_names.specs.Names.{Name, Handler}
 use Rattle.lvish_core.specs.Core.{CoreView, state}
@@ -38,6 +38,15 @@ is_stale _ = false
 abbrev pub is_parked : {P J S L R A W E : Type 0} → Acted P J S L R A W E → Bool
 is_parked Parked = true
 is_parked _ = false
+
+-- what came of this work, with it where memory was refused, and with the work that a step left
+abbrev pub with_work : {P J S L R A W E : Type 0} → Came → Work P J S L R A W E → Works P J S L R A W E → Acted P J S L R A W E
+with_work CameOver w left = Over
+with_work CameStale w left = Stale
+with_work CameParked w left = Parked
+with_work CameMemory w left = Memory w
+with_work CameNext w left = Next left
+with_work CameGone w left = Gone left
 
 -- the work for which memory was refused is this
 abbrev pub GivesBack : {P J S L R A W E : Type 0} → Work P J S L R A W E → Acted P J S L R A W E → Type 0
@@ -107,3 +116,18 @@ pub record ComesOfHand {P' P J S L R A W E Ans : Type 0} (cmp : E → E → Orde
   pub stale : is_stale result ≡ true → (Held → ⊥) × (new ≡ old)
   pub parked : is_parked result ≡ true → ((e : E) → Next e → ⊥) × (new ≡ old)
   pub memory : GivesBack (HandTo handler) result × KeepsAtMemory old new result
+
+-- what comes of an act whose step isn't made, which leaves trace and core: Can says that it can be made
+abbrev pub ComesOfNoAct : {P S E L : Type 0} → Type 0 → TaskPlace E L → Standing P S E L → Standing P S E L → Came → Type 0
+ComesOfNoAct Can asked old new CameOver = IsSome new.over
+ComesOfNoAct Can asked old new CameParked = (Can → ⊥) × IsParkedBeside old.parked asked new.parked
+ComesOfNoAct Can asked old new CameMemory = new ≡ old
+ComesOfNoAct Can asked old new _ = ⊥
+
+-- what comes of a handing that isn't made, which leaves trace, core and parked tasks: Held says that there is such a handler, IsNext which event comes next for it
+abbrev pub ComesOfNoHanding : {P S E L : Type 0} → Type 0 → (E → Type 0) → Standing P S E L → Standing P S E L → Came → Type 0
+ComesOfNoHanding Held IsNext old new CameOver = IsSome new.over
+ComesOfNoHanding Held IsNext old new CameStale = (Held → ⊥) × (new ≡ old)
+ComesOfNoHanding Held IsNext old new CameParked = ((e : _) → IsNext e → ⊥) × (new ≡ old)
+ComesOfNoHanding Held IsNext old new CameMemory = new ≡ old
+ComesOfNoHanding Held IsNext old new _ = ⊥

@@ -30,3 +30,5 @@ pub use Rattle.lvish_board.specs.declared.work.Work.TheVariants.{Stretch, Act as
 pub use Rattle.lvish_board.specs.declared.works.Works.{Works}
 pub use Rattle.lvish_board.specs.declared.acted.Acted.{Acted}
 pub use Rattle.lvish_board.specs.declared.acted.Acted.TheVariants.{Over, Stale, Parked, Memory, Next, Gone}
+pub use Rattle.lvish_board.specs.declared.came.Came.{Came}
+pub use Rattle.lvish_board.specs.declared.came.Came.TheVariants.{Over as CameOver, Stale as CameStale, Parked as CameParked, Memory as CameMemory, Next as CameNext, Gone as CameGone}

@@ -1,3 +1,7 @@
+ghost use Rattle.std.specs.Prelude.{◌≡◌, Some, IsSome};
+ghost use Rattle.lvish_board.specs.Acts.{with_work};
+
+use crate::came::Came;
 use crate::named::Named;
 use crate::work::Work;
 use crate::works::Works;
@@ -19,4 +23,24 @@ pub enum Acted<P: Program, J: Named<P>> {
     Next(Works<P, J>),
     /// A step was made, by which the task has ended or met an error, and left this work.
     Gone(Works<P, J>),
+}
+
+impl<P: Program, J: Named<P>> Acted<P, J> {
+    /// What came of the work, with it where memory was refused, and with the work that a step left.
+    pub(crate) fn of(came: Came, work: Option<Work<P, J>>, left: Works<P, J>) -> Acted<P, J>
+        requires back { came ≡ Came.Memory → IsSome work }
+        ensures { (w : _) → (came ≡ Came.Memory → work ≡ Some w) → result ≡ with_work came w left }
+    {
+        match came {
+            Came::Over => Acted::Over,
+            Came::Stale => Acted::Stale,
+            Came::Parked => Acted::Parked,
+            Came::Memory => match work {
+                Some(work) => Acted::Memory(work),
+                None => unreachable!(),
+            },
+            Came::Next => Acted::Next(left),
+            Came::Gone => Acted::Gone(left),
+        }
+    }
 }

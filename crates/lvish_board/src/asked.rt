@@ -7,6 +7,7 @@ use lvish_lattice::{Lattice, Reads};
 use lvish_names::TaskName;
 use std::alloc::Global;
 use std::marker::Model;
+use std::mem;
 
 /// A task at a local state, with what it asks for there.
 pub struct Asked<P: Program, J: Named<P>> {
@@ -67,13 +68,12 @@ impl<P: Program, J: Named<P>> Asked<P, J> {
         &self.asks
     }
 
-    /// The task's name; all else is dropped.
+    /// Takes out the task's name, and leaves another.
     #[inline(always)]
-    pub(crate) fn into_task(self) -> TaskName<<P::Lat as Lattice>::Event>
-        ensures { result ≡ self.task }
+    pub(crate) fn take_task(&mut self) -> TaskName<<P::Lat as Lattice>::Event>
+        ensures { result ≡ self.old.task }
     {
-        let Asked { ticket, asks: _ } = self;
-        ticket.into_task()
+        mem::replace(&mut self.ticket.task, TaskName::main())
     }
 }
 

@@ -14,7 +14,7 @@ use crate::asked::Asked;
 use crate::named::Named;
 use crate::noted::Step;
 use crate::parked::Parked;
-use crate::room::{Room, given};
+use crate::room::{Room, give};
 use crate::ticket::Ticket;
 use crate::works::Works;
 use lvish_calculus::{Meaning, Program};
@@ -22,7 +22,6 @@ use lvish_core::{Core, CoreMeaning, Made, Moved, Touched};
 use lvish_lattice::Lattice;
 use lvish_names::HandlerName;
 use lvish_variable::Entry;
-use std::alloc::Global;
 
 /// What a step leaves by itself: the tickets of its tasks, and a handler that it added.
 #[derive(Drop)]
@@ -37,17 +36,17 @@ pub(crate) struct OwnWork<P: Program, J: Named<P>> {
 #[inline(always)]
 pub(crate) fn left_by<P: Program, J: Named<P>>(
     step: Step,
-    asked: Asked<P, J>,
+    asked: &mut Asked<P, J>,
     moved: Moved<<P::Lat as Lattice>::Event, P::Local>,
 ) -> OwnWork<P, J>
     ensures step { result.step ≡ step }
-    ensures own { result.own ≡ own_ticket asked.task moved.own }
+    ensures own { result.own ≡ own_ticket asked.old.task moved.own }
     ensures made { result.made ≡ made_ticket moved.made }
     ensures added { result.added ≡ moved.added }
 {
     let Moved { own, made, added } = moved;
     let own = match own {
-        Some(local) => Some(Ticket::new(asked.into_task(), local)),
+        Some(local) => Some(Ticket::new(asked.take_task(), local)),
         None => None,
     };
     OwnWork {
@@ -92,13 +91,13 @@ fn fresh<'c, P: Program>(
 /// before the step.
 #[inline(always)]
 pub(crate) fn leave<P: Program, J: Named<P>>(
-    alloc: Global,
     core: &Core<'_, P>,
     parked: &mut Parked<P, J>,
     left: OwnWork<P, J>,
     room: &mut Room<P, J>,
     logged: usize,
-) -> Works<P, J>
+    works: &mut Works<P, J>,
+)
     requires program { core.now.program ≡ J.program }
     requires logged { IsLogged core.now.table.variables logged core.now.touched }
     requires current { (p : TaskPlace P.Lat.Event P.Local) → IsAmong p parked.old → ⟦<P as CoreMeaning>⟧.local_in core.now p.task ≡ Some p.from }
@@ -106,9 +105,9 @@ pub(crate) fn leave<P: Program, J: Named<P>>(
     requires woken_room { length parked.old ≤ vec_capacity room.old.woken }
     requires concerned_room { length room.old.concerned.items + length (option_list left.added) ≤ vec_capacity room.old.concerned }
     requires hands_room { length room.old.concerned.items + length (option_list left.added) ≤ vec_capacity room.old.hands }
-    ensures left { IsLeft P.Lat.Event.cmp (⟦<P as Meaning>⟧.machine J.program) P.Lat.spot_of P.Lat.watched core.now logged left.own left.made left.added room.old.concerned.items parked.old parked.new (works_of result) }
-    ensures own { result.own ≡ left.own }
-    ensures step { result.step ≡ left.step }
+    ensures left { IsLeft P.Lat.Event.cmp (⟦<P as Meaning>⟧.machine J.program) P.Lat.spot_of P.Lat.watched core.now logged left.own left.made left.added room.old.concerned.items parked.old parked.new (works_of works.new) }
+    ensures own { works.new.own ≡ left.own }
+    ensures step { works.new.step ≡ left.step }
     ensures once { NoRepeats (tasks_of parked.old) → NoRepeats (tasks_of parked.new) }
 {
     let entries = fresh(core, logged);
@@ -121,15 +120,11 @@ pub(crate) fn leave<P: Program, J: Named<P>>(
     } = left;
     keep_candidates(entries, &mut room.concerned, added);
     list_hands(core, &mut room.concerned, &mut room.hands);
-    let woken = given(alloc, &mut room.woken);
-    let hands = given(alloc, &mut room.hands);
-    Works {
-        step,
-        own,
-        made,
-        woken,
-        hands,
-    }
+    works.step = step;
+    works.own = own;
+    works.made = made;
+    give(&mut room.woken, &mut works.woken);
+    give(&mut room.hands, &mut works.hands);
 }
 
 /// Leaves the handlers that a step may concern: none of a put's where it brought no entry, and an
@@ -165,7 +160,7 @@ fn list_hands<P: Program>(
 {
     // (from the back, since what is taken out there moves no other)
     while let Some(handler) = concerned.pop() {
-        if core.next(&handler).is_some() {
+        if core.has_next(&handler) {
             list.push_reserved(handler);
         }
     }

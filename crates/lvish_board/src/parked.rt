@@ -117,7 +117,31 @@ impl<P: Program, J: Named<P>> Parked<P, J> {
 
     /// Takes out the tasks that the last step woke, in the order of their names: these entries are
     /// what it brought to the log of its variable.
+    #[inline(always)]
     pub(crate) fn wake(
+        &mut self,
+        core: &Core<'_, P>,
+        fresh: &[Entry<<P::Lat as Lattice>::Event>],
+        woken: &mut Vec<Asked<P, J>>,
+    )
+        requires program { core.now.program ≡ J.program }
+        requires current { (p : TaskPlace P.Lat.Event P.Local) → IsAmong p self.old → ⟦<P as CoreMeaning>⟧.local_in core.now p.task ≡ Some p.from }
+        requires empty { woken.old.items ≡ [] }
+        requires room { length self.old ≤ vec_capacity woken.old }
+        ensures woken { IsWoken (λ p. ⟦<P as CoreMeaning>⟧.can_take core.now (Act p.task)) (λ p. MayWake P.Lat.spot_of P.Lat.watched core.now.touched fresh.now ((P.functions core.now.program).request p.from)) self.old self.new woken.new.items }
+        ensures by_name { IsStrictlySortedBy (name_cmp P.Lat.Event.cmp) (tasks_of woken.new.items) }
+        ensures once { NoRepeats (tasks_of self.old) → NoRepeats (tasks_of self.new) }
+        ensures few { vec_len woken.new ≤ length self.old }
+    {
+        // (small, so that a step while nothing is parked asks for no more)
+        if self.tasks.len() == 0 {
+            return;
+        }
+        self.wake_some(core, fresh, woken);
+    }
+
+    /// Takes out the tasks that the last step woke, where some are parked.
+    fn wake_some(
         &mut self,
         core: &Core<'_, P>,
         fresh: &[Entry<<P::Lat as Lattice>::Event>],
@@ -213,6 +237,9 @@ fn sort_by_task<P: Program, J: Named<P>>(woken: &mut Vec<Asked<P, J>>)
     ensures len { vec_len woken.new ≡ vec_len woken.old }
     ensures capacity { vec_capacity woken.new ≡ vec_capacity woken.old }
 {
+    if woken.len() < 2 {
+        return;
+    }
     woken.sort_unstable_by(order);
 }
 

@@ -101,18 +101,25 @@ impl<P: Program, J: Named<P>> Room<P, J> {
     }
 }
 
-/// Takes out what is in the buffer: in a list of its own, so that the buffer keeps its room, where
-/// there is memory for one, else with the buffer.
-pub(crate) fn given<T: Drop>(alloc: Global, buffer: &mut Vec<T>) -> Vec<T>
-    ensures { result.items ≡ buffer.old.items }
+/// Puts what is in the buffer in place of what is in the list: the buffer keeps its room, where there
+/// is room in the list or memory for more, else they change places.
+#[inline(always)]
+pub(crate) fn give<T: Drop>(buffer: &mut Vec<T>, list: &mut Vec<T>)
+    ensures { list.new.items ≡ buffer.old.items }
 {
-    let mut items = Vec::new(alloc);
-    if buffer.is_empty() {
-        return items;
+    list.clear();
+    if !buffer.is_empty() {
+        give_some(buffer, list);
     }
-    match items.append(buffer) {
-        Ok(()) => items,
-        Err(_refused) => mem::replace(buffer, Vec::new(alloc)),
+}
+
+/// Puts what is in the buffer into the empty list.
+fn give_some<T: Drop>(buffer: &mut Vec<T>, list: &mut Vec<T>)
+    requires { list.old.items ≡ [] }
+    ensures { list.new.items ≡ buffer.old.items }
+{
+    if list.append(buffer).is_err() {
+        mem::swap(buffer, list);
     }
 }
 

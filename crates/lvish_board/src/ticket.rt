@@ -64,16 +64,4 @@ impl<P: Program, J: Named<P>> Ticket<P, J> {
         let from = program.copy_local(alloc, &self.from)?;
         Ok(Ticket::new(task, from))
     }
-
-    /// The task's name; the local state is dropped.
-    pub(crate) fn into_task(self) -> TaskName<<P::Lat as Lattice>::Event>
-        ensures { result ≡ self.task }
-    {
-        let Ticket {
-            task,
-            from: _,
-            of: _,
-        } = self;
-        task
-    }
 }

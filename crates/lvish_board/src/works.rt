@@ -28,7 +28,7 @@ pub struct Works<P: Program, J: Named<P>> {
 
 impl<P: Program, J: Named<P>> Works<P, J> {
     /// No work of this step.
-    pub(crate) fn none(alloc: Global, step: Step) -> Works<P, J>
+    pub fn none(alloc: Global, step: Step) -> Works<P, J>
         ensures list { works_of result ≡ [] }
         ensures own { result.own ≡ None }
         ensures step { result.step ≡ step }
@@ -40,6 +40,19 @@ impl<P: Program, J: Named<P>> Works<P, J> {
             woken: Vec::new(alloc),
             hands: Vec::new(alloc),
         }
+    }
+
+    /// No work of this step.
+    pub(crate) fn empty(&mut self, step: Step)
+        ensures list { works_of self.new ≡ [] }
+        ensures own { self.new.own ≡ None }
+        ensures step { self.new.step ≡ step }
+    {
+        self.step = step;
+        self.own = None;
+        self.made = None;
+        self.woken.clear();
+        self.hands.clear();
     }
 
     /// The pieces of work in a list, in their order.

@@ -5,14 +5,14 @@ use Rattle.std.proofs.lemmas.Bool.{false_from_ne_true, false≢true}
 use Rattle.lvish_lattice.specs.Lattice.{fresh_of}
 use Rattle.lvish_core.specs.Vocabulary.{Request, Put, Get, Fork, Freeze, End, Reply, Done, Answer, Content, Frozen, Deep, Act, Entry, MOST_STEPS, HandlerPlace, PutOn, EndedIn, Other, Touched}
 use Rattle.lvish_calculus.specs.Machine.{Machine, IsLawful}
-use Rattle.lvish_calculus.specs.Calculus.{Task, Absent, Live, Ended, State, Running, Change, Changes, Fails, just, get_effect, put_effect, request_effect, after, with_task}
+use Rattle.lvish_calculus.specs.Calculus.{Task, Absent, Live, Ended, IsReady, State, Running, Change, Changes, Fails, just, get_effect, put_effect, request_effect, after, with_task}
 use Rattle.lvish_calculus.specs.Program.{IsReplyTo}
 use Rattle.lvish_names.specs.Names.{Name, Handler, forked, is_deep, same_name}
 use Rattle.lvish_calculus.proofs.Names.{nat_eq-refl, nat_eq-true}
 use Rattle.lvish_variable.specs.Variable.{VariableView as Variable, entries}
 use Rattle.lvish_handlers.specs.Handlers.{HandlersView as Handlers}
 use Rattle.lvish_picture.specs.Picture.{Table, task_of}
-use Rattle.lvish_picture.specs.Steps.{AreHeld, AreTasks, IsPutStep, IsFreezeStep, IsPlainStep}
+use Rattle.lvish_picture.specs.Steps.{IsAsking, AreHeld, AreTasks, IsPutStep, IsFreezeStep, IsPlainStep}
 use Rattle.lvish_picture.specs.Laws.{ActKept, NewTaskIsNew}
 use Rattle.lvish_picture.specs.Counts.{ActCounted, AreCounts, PlainCounted, StartIsFollowed, EndIsFollowed, RestIsFollowed}
 use Rattle.lvish_core.specs.Core.{CoreView, state}
@@ -20,7 +20,7 @@ use Rattle.lvish_core.specs.Changes.{put_brings, touching, touched_in}
 use Rattle.lvish_core.specs.Places.{IsPlaceOf}
 use Rattle.lvish_core.specs.Beside.{PutAt, FrozenAt, CountsAt, one_more_in, one_less_in}
 use Rattle.lvish_core.specs.Tasks.{KeepsIndices, Sets}
-use Rattle.lvish_core.specs.Acts.{IsActing, IsReplied}
+use Rattle.lvish_core.specs.Acts.{IsAsked, IsActing, IsReplied}
 use Rattle.lvish_core.specs.Kept.{IsKept}
 use Rattle.lvish_core.specs.laws.Runs.{content_at}
 use Rattle.lvish_core.proofs.Turns.{Start, Turn, nobody, child, on, off, live_some}
@@ -69,13 +69,25 @@ module _ {P S E R A L : Type 0} {M : Machine S E R A L} {c : CoreView P S E L} {
   pub few_numbers : {variables n : ℕ} {places : List (Handler E × HandlerPlace)} → IsKept M variables n places c → c.steps < MOST_STEPS → (f < MOST_STEPS) × (a < MOST_STEPS) × (p < MOST_STEPS)
   few_numbers kept room = let few = kept.numbers t acts.local f a p acts.asking.live in (omega (arith, few.0), omega (arith, few.1), omega (arith, few.2))
 
--- what a get has
-module _ {P S E R A L : Type 0} {M : Machine S E R A L} {old : CoreView P S E L} {t : Name E} {at : L} {f a p v : ℕ} {r : R} (acts : IsActing M old t at f a p (Get v r)) (x : Variable S E) (x_at : slice_get old.table.variables v ≡ Some x) where
-  pub get_answered : (y : A) → M.answer r x.state ≡ Some y → IsReplied M old t at f a p (Answer y)
-  get_answered y e = record { request = Get v r; acting = acts; fits = tt; does = ap (get_effect M t at f a p) (ap (M.answer r) (content_at M old v x x_at) ∙ e) }
+-- a request that is ready is made
+pub readied : {P S E R A L : Type 0} {M : Machine S E R A L} {c : CoreView P S E L} {t : Name E} {at : L} {f a p : ℕ} {r : Request S R L} → IsAsked M c t at f a p r → (q : Request S R L) → r ≡ q → IsReady M (state M c) q → IsActing M c t at f a p q
+readied {M = M} {c = c} {t = t} {f = f} {a = a} {p = p} asked q is ready = record {
+  no_fault = asked.no_fault;
+  local = asked.local;
+  asking = subst (λ z. IsAsking M c.table t asked.local f a p z) is asked.asking;
+  at_is = asked.at_is;
+  ready = ready;
+}
 
-  pub get_has : M.answer r x.state ≡ None → ⊥
-  get_has e = false≢true (sym (ap (λ (q : Option A). is_some q) (ap (M.answer r) (content_at M old v x x_at) ∙ e)) ∙ acts.ready)
+-- what a get has
+module _ {P S E R A L : Type 0} {M : Machine S E R A L} {old : CoreView P S E L} {t : Name E} {at : L} {f a p v : ℕ} {r : R} (asked : IsAsked M old t at f a p (Get v r)) (x : Variable S E) (x_at : slice_get old.table.variables v ≡ Some x) where
+  pub get_answered : (y : A) → M.answer r x.state ≡ Some y → IsReplied M old t at f a p (Answer y)
+  get_answered y e =
+      let answered = ap (M.answer r) (content_at M old v x x_at) ∙ e in
+      record { request = Get v r; acting = readied asked (Get v r) refl (ap (λ (q : Option A). is_some q) answered); fits = tt; does = ap (get_effect M t at f a p) answered }
+
+  pub get_waits : M.answer r x.state ≡ None → IsReady M (state M old) (Get v r) → ⊥
+  get_waits e ready = false≢true (sym (ap (λ (q : Option A). is_some q) (ap (M.answer r) (content_at M old v x x_at) ∙ e)) ∙ ready)
 
 module _ {P S E R A L : Type 0} {M : Machine S E R A L} (ok : IsLawful M) {variables n : ℕ} {places : List (Handler E × HandlerPlace)} {old : CoreView P S E L} (kept : IsKept M variables n places old) {t : Name E} {at : L} {f a p : ℕ} where
   -- ---- a put

@@ -1,5 +1,5 @@
 -- Where a handler is, and what comes next for it.
-use Rattle.std.proofs.Common.{◌≡◌, ◌↔◌, ◌<◌, ℕ, Bool, false, List, Option, Some, None, refl, sym, ap, subst, ◌∙◌, is_some, option_map, slice_get, true, Result, Ok, Err, IsErrAnd, MatchResult, MatchOption, IsTrue, Contains}
+use Rattle.std.proofs.Common.{◌≡◌, ◌↔◌, ◌<◌, ℕ, Bool, false, List, Option, Some, None, refl, sym, ap, subst, ◌∙◌, is_some, option_map, slice_get, true, Result, Ok, Err, IsErrAnd, MatchResult, MatchOption, IsTrue, IsSome, Contains}
 use Rattle.lvish_calculus.specs.Machine.{Machine, IsLawful}
 use Rattle.lvish_core.specs.Vocabulary.{Hand, Held, HandlerPlace, Label, Stepped, StepFault, NotEnabled, Full, Memory, Moved}
 use Rattle.lvish_calculus.specs.Calculus.{Post, IsEnabled}
@@ -177,3 +177,8 @@ pub goes_on : {P S E R A L : Type 0} (M : Machine S E R A L) (c new : CoreView P
     → MatchResult r (λ s. IsStep M c l new s) (λ e. IsStepRefused M c l e × (new ≡ c))
 goes_on M c new l (Ok s) why h refused same = absurd h
 goes_on M c new l (Err e) why h refused same = (subst (λ q. IsStepRefused M c l q) (sym h) refused, same)
+
+-- whether an event comes next, by the one that does
+pub comes_next : {E : Type 0} {IsNext : E → Type 0} (o : Option E) → MatchOption o ((e : E) → IsNext e → ⊥) (λ e. IsNext e) → IsSome o ↔ ((e : E) × IsNext e)
+comes_next None never = (λ s. absurd (false≢true s), λ z. absurd (never z.0 z.1))
+comes_next (Some e) is = (λ _. (e, is), λ _. refl)

@@ -1,20 +1,20 @@
 -- What a core shows, told of the configuration that it stands for, and when a task's step is made.
-use Rattle.std.proofs.Common.{◌≡◌, ◌↔◌, ◌<◌, ℕ, Bool, true, false, List, length, Option, Some, None, refl, sym, ap, subst, ◌∙◌, is_some, option_map, unwrap_or, arith, inl, inr, ◌≤◌, IsTrue, IsSome, slice_get}
+use Rattle.std.proofs.Common.{◌≡◌, ◌↔◌, ◌<◌, ℕ, Bool, true, false, List, length, Option, Some, None, refl, sym, ap, subst, ◌∙◌, is_some, option_map, unwrap_or, arith, inl, inr, ◌≤◌, IsTrue, IsSome, IfOk, MatchResult, Result, Ok, Err, slice_get}
 use Rattle.std.proofs.lemmas.Bool.{false≢true, both_ways, cases_lt}
 use Rattle.std.proofs.lemmas.Option.{same_Some}
-use Rattle.lvish_core.specs.Vocabulary.{MOST_STEPS, Request, Freeze, Label, Act, RunError, HandlerPlace}
+use Rattle.lvish_core.specs.Vocabulary.{MOST_STEPS, Request, Freeze, Label, Act, RunError, HandlerPlace, Stepped, StepFault, NotEnabled, Full, Memory, Moved}
 use Rattle.lvish_calculus.specs.Machine.{Machine}
 use Rattle.lvish_calculus.specs.Calculus.{Task, Absent, Live, Ended, IsReady, IsReadyTask, IsEnabled, CanStep}
 use Rattle.lvish_names.specs.Names.{Name, Handler}
 use Rattle.lvish_picture.specs.Picture.{task_of}
 use Rattle.lvish_picture.specs.Laws.{DrainedAtTheEnd}
 use Rattle.lvish_core.specs.Kept.{IsKept}
-use Rattle.lvish_core.specs.Changes.{local_of}
+use Rattle.lvish_core.specs.Changes.{local_of, IsMoved}
 use Rattle.lvish_variable.specs.Variable.{VariableView as Variable}
 use Rattle.lvish_core.specs.Reads.{AreStates, IsDrainedAt}
 use Rattle.lvish_core.specs.Waiting.{NoneFreezes}
-use Rattle.lvish_core.specs.Core.{CoreView, CanTake, state, at_fault, picture}
-use Rattle.lvish_core.specs.Acts.{IsActing}
+use Rattle.lvish_core.specs.Core.{CoreView, CanTake, IsStep, IsStepRefused, state, at_fault, picture}
+use Rattle.lvish_core.specs.Acts.{IsAsked, IsActing, ActsIfReady}
 use Rattle.lvish_picture.proofs.Slots.{get_there}
 
 -- a task with a local state is live
@@ -97,15 +97,23 @@ can_acting M n running places c k t l f a p live can r asks at at_is = by (is_so
           ready = subst (IsReady M (state M c)) asks (subst (IsReadyTask M (state M c)) live ready);
         }
 
-pub acting : {P S E R A L : Type 0} (M : Machine S E R A L) (c : CoreView P S E L) → is_some c.fault ≡ false → (t : Name E) (l : L) (f a p : ℕ) → task_of M.event_same c.table.tasks t ≡ Live l f a p
-    → (r : Request S R L) → M.request l ≡ r → (at : L) → M.at l ≡ at → (b : Bool) → IsTrue b ↔ IsReady M (state M c) r → b ≡ true → IsActing M c t at f a p r
-acting M c none t l f a p live r asks at at_is b ready e = record {
-  no_fault = no_fault c.fault none;
-  local = l;
-  asking = record { live = live; asked = asks };
-  at_is = sym at_is;
-  ready = ready.0 e;
-}
+-- a live task asks for its request, where there is no error
+pub asked_live : {P S E R A L : Type 0} (M : Machine S E R A L) (c : CoreView P S E L) → is_some c.fault ≡ false → (t : Name E) (l : L) (f a p : ℕ) → task_of M.event_same c.table.tasks t ≡ Live l f a p
+    → (r : Request S R L) → M.request l ≡ r → (at : L) → M.at l ≡ at → IsAsked M c t at f a p r
+asked_live M c none t l f a p live r asks at at_is = record { no_fault = no_fault c.fault none; local = l; asking = record { live = live; asked = asks }; at_is = sym at_is }
+
+-- what it does or doesn't do is its step or the refusal of it
+pub stepped_live : {P S E R A L : Type 0} (M : Machine S E R A L) (n running : ℕ) (places : List (Handler E × HandlerPlace)) (c : CoreView P S E L) (k : IsKept M n running places c) (t : Name E) (l : L) (f a p : ℕ) → task_of M.event_same c.table.tasks t ≡ Live l f a p → (r : Request S R L) → M.request l ≡ r
+    → (new : CoreView P S E L) (result : Result (Stepped × Moved E L) StepFault) → ActsIfReady M c t r new result → MatchResult result (λ s. IsStep M c (Act t) new s.0) (λ e. IsStepRefused M c (Act t) e × (new ≡ c))
+stepped_live M n running places c k t l f a p live r asks new (Ok s) made = made.step
+stepped_live M n running places c k t l f a p live r asks new (Err NotEnabled) (waits, same) = (λ can. waits (can_acting M n running places c k t l f a p live can r asks (M.at l) refl).ready, same)
+stepped_live M n running places c k t l f a p live r asks new (Err Full) (never, same) = absurd never
+stepped_live M n running places c k t l f a p live r asks new (Err Memory) (_, same) = (tt, same)
+
+-- and moves what the step moves
+pub moved_live : {P S E R A L : Type 0} (M : Machine S E R A L) (c : CoreView P S E L) (t : Name E) (r : Request S R L) (new : CoreView P S E L) (result : Result (Stepped × Moved E L) StepFault) → ActsIfReady M c t r new result → IfOk result (λ s. IsMoved M (state M c) (Act t) s.1)
+moved_live M c t r new (Ok s) made = made.change
+moved_live M c t r new (Err e) _ = tt
 
 -- while something is left to hand to a handler of a variable, no task can freeze it
 pub none_freezes : {P S E R A L : Type 0} (M : Machine S E R A L) (n running : ℕ) (places : List (Handler E × HandlerPlace)) (c : CoreView P S E L) (k : IsKept M n running places c) → DrainedAtTheEnd M

@@ -1,6 +1,6 @@
 -- What the parts of a step take and leave.
 use Rattle.std.specs.Prelude.{◌≡◌, ◌+◌, ℕ, false, Option, Some, None, Result, MatchResult}
-use Rattle.lvish_core.specs.Vocabulary.{Label, Act, ErrorKind, Request, Put, Reply, PutFault, HandlerPlace, Stepped, StepFault, Memory, Moved}
+use Rattle.lvish_core.specs.Vocabulary.{Label, Act, ErrorKind, Request, Put, Reply, PutFault, HandlerPlace, Stepped, StepFault, NotEnabled, Full, Memory, Moved}
 use Rattle.lvish_calculus.specs.Machine.{Machine}
 use Rattle.lvish_calculus.specs.Calculus.{Live, Changes, IsReady, request_effect, just}
 use Rattle.lvish_names.specs.Names.{Name, Handler, is_deep}
@@ -9,6 +9,13 @@ use Rattle.lvish_picture.specs.Steps.{IsAsking, IsErring}
 use Rattle.lvish_core.specs.Core.{CoreView, IsStep, state}
 use Rattle.lvish_core.specs.Changes.{IsMoved}
 use Rattle.lvish_core.specs.Beside.{RefusedAt}
+
+-- there is no error, and t asks for r in the local state at
+pub record IsAsked {P S E R A L : Type 0} (M : Machine S E R A L) (c : CoreView P S E L) (t : Name E) (at : L) (f a p : ℕ) (r : Request S R L) : Type 0 where
+  pub no_fault : c.fault ≡ None
+  pub local : L
+  pub asking : IsAsking M c.table t local f a p r
+  pub at_is : at ≡ M.at local
 
 -- there is no error, and t's request r, made in the local state at, is ready
 pub record IsActing {P S E R A L : Type 0} (M : Machine S E R A L) (c : CoreView P S E L) (t : Name E) (at : L) (f a p : ℕ) (r : Request S R L) : Type 0 where
@@ -60,3 +67,13 @@ pub record IsMoving {P S E R A L : Type 0} (M : Machine S E R A L) (old : CoreVi
 -- t made its step, or memory was refused and the core is as it was
 abbrev pub Acts : {P S E R A L : Type 0} → Machine S E R A L → CoreView P S E L → Name E → CoreView P S E L → Result (Stepped × Moved E L) StepFault → Type 0
 Acts M old t new r = MatchResult r (λ s. IsMoving M old (Act t) new s.0 s.1) (λ e. (e ≡ Memory) × (new ≡ old))
+
+-- why a request isn't made: it isn't ready, or memory was refused
+abbrev pub IsUnmade : {P S E R A L : Type 0} → Machine S E R A L → CoreView P S E L → Request S R L → StepFault → Type 0
+IsUnmade M c r NotEnabled = IsReady M (state M c) r → ⊥
+IsUnmade M c r Full = ⊥
+IsUnmade M c r Memory = Unit {0}
+
+-- t made its step by the request, or didn't make it and the core is as it was
+abbrev pub ActsIfReady : {P S E R A L : Type 0} → Machine S E R A L → CoreView P S E L → Name E → Request S R L → CoreView P S E L → Result (Stepped × Moved E L) StepFault → Type 0
+ActsIfReady M old t r new result = MatchResult result (λ s. IsMoving M old (Act t) new s.0 s.1) (λ e. IsUnmade M old r e × (new ≡ old))

@@ -3,6 +3,7 @@ use Rattle.std.specs.Prelude.{◌≡◌, ◌<◌, ◌+◌, ◌-◌, ℕ, Bool, t
 use Rattle.lvish_core.specs.Vocabulary.{MOST_STEPS, PutFault, Held, HandlerPlace}
 use Rattle.lvish_names.specs.Names.{Name, Handler}
 use Rattle.lvish_variable.specs.Variable.{VariableView as Variable, IsPut, IsPutRefused}
+use Rattle.lvish_handlers.specs.Places.{IsAt}
 use Rattle.lvish_handlers.specs.Handlers.{HandlersView as Handlers, IsHeld, IsWithin, IsAdded, IsAdvanced, next_of}
 
 -- the v-th variable took the put, and the others stay
@@ -83,3 +84,7 @@ pub record CanAdd {E : Type 0} (name : Handler E) (p : HandlerPlace) (hss : List
   pub at : slice_get hss p.variable ≡ Some beside
   pub fresh : IsHeld beside.held name → ⊥
   pub there : p.pool < length beside.running
+
+-- the handler is at this place among those of its variable
+abbrev pub IsPostedAt : {E : Type 0} → Handler E → HandlerPlace → ℕ → List (Handlers E) → Type 0
+IsPostedAt {E} name p at hss = (hs : Handlers E) → slice_get hss p.variable ≡ Some hs → IsAt hs.held name at

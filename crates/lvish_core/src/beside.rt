@@ -1,7 +1,7 @@
 //! Changes to one variable, or to the handlers of one, among all.
 
 ghost use Rattle.std.specs.Prelude.{◌≡◌, ◌<◌, false, IfOk, IfErr, MatchResult, length};
-ghost use Rattle.lvish_core.specs.Beside.{PutAt, RefusedAt, FrozenAt, AddedAt, HandedAt, CountsAt, CanCount, CanHand, CanAdd, one_more_in, one_less_in};
+ghost use Rattle.lvish_core.specs.Beside.{PutAt, RefusedAt, FrozenAt, AddedAt, HandedAt, CountsAt, CanCount, CanHand, IsPostedAt, CanAdd, one_more_in, one_less_in};
 
 use crate::handler_place::HandlerPlace;
 use crate::limits::MOST_STEPS;
@@ -63,19 +63,22 @@ pub(crate) fn add_at<L: Lattice>(
     }
 }
 
-/// Counts the event that comes next for the handler as handed, and the task that handles it.
+/// Counts the event that comes next for the handler, which is at this place among its variable's, as
+/// handed, and the task that handles it.
 pub(crate) fn hand_at<L: Lattice>(
     handlers: &mut [Handlers<L>],
     variables: &[Variable<L>],
-    name: &HandlerName<L::Event>,
+    _name: &HandlerName<L::Event>,
     place: HandlerPlace,
+    at: usize,
 )
-    requires { CanHand L.Event.eq variables.now name.now place handlers.old }
-    ensures { HandedAt L.Event.eq variables.now name.now place handlers.old handlers.new }
+    requires fits { CanHand L.Event.eq variables.now _name.now place handlers.old }
+    requires there { IsPostedAt _name.now place at handlers.old }
+    ensures { HandedAt L.Event.eq variables.now _name.now place handlers.old handlers.new }
 {
     let variable = &variables[place.variable];
     let beside = &mut handlers[place.variable];
-    match beside.advance(variable, name) {
+    match beside.advance_at(variable, at) {
         Ok(()) => beside.task_started(place.pool),
         Err(NothingToHand) => unreachable!("an event comes next"),
     }

@@ -1,4 +1,7 @@
-ghost use Rattle.std.specs.Prelude.{◌≡◌, ◌↔◌, ◌<◌, ◌+◌, ◌-◌, [], None, All, IfOk, IsErr, IsErrOf, IsTrue, OnOk, OnErr, length, slice_index, slice_set, replicate};
+ghost use Rattle.std.specs.Prelude.{◌≡◌, ◌↔◌, ◌<◌, ◌+◌, ◌-◌, [], None, List, All, IfOk, IfSome, IsNone, IsSome, IsErr, IsErrOf, IsTrue, OnOk, OnErr, length, slice_index, slice_set, replicate};
+ghost use Rattle.lvish_names.specs.Names.{Handler};
+ghost use Rattle.lvish_variable.specs.declared.entry.Entry.{Entry};
+ghost use Rattle.lvish_handlers.specs.Places.{IsAt};
 ghost use Rattle.lvish_handlers.specs.Handlers.{IsHeld, IsByName, IsWithin, IsAdded, IsAdvanced, next_of};
 
 use crate::fault::{AddFault, NothingToHand};
@@ -114,16 +117,45 @@ impl<L: Lattice> Handlers<L> {
         &self.held
     }
 
+    /// Where the handler of this name is among the others, if there is one.
+    pub fn find(&self, name: &HandlerName<L::Event>) -> Option<usize>
+        ensures found { IfSome result (λ at. IsAt self.now.held name.now at) }
+        ensures none { IsNone result → (log : List (Entry L.Event)) → next_of L.Event.eq log self.now.held name.now ≡ None }
+    {
+        match place_of(&self.held, name) {
+            Ok(at) => Some(at),
+            Err(_gap) => None,
+        }
+    }
+
     /// The event that comes next for the handler of this name, if there is one.
     pub fn next(&self, variable: &Variable<L>, name: &HandlerName<L::Event>) -> Option<L::Event>
         ensures { result ≡ next_of L.Event.eq variable.now.log self.now.held name.now }
     {
-        match place_of(&self.held, name) {
-            Ok(at) => match variable.log().get(self.held[at].handed) {
-                Some(entry) => Some(entry.event),
-                None => None,
-            },
-            Err(_) => None,
+        match self.find(name) {
+            Some(at) => self.next_at(variable, at),
+            None => None,
+        }
+    }
+
+    /// The event that comes next for the handler at this place, if there is one.
+    pub fn next_at(&self, variable: &Variable<L>, at: usize) -> Option<L::Event>
+        requires { (name : Handler L.Event) × IsAt self.now.held name at }
+        ensures { (name : Handler L.Event) → IsAt self.now.held name at → result ≡ next_of L.Event.eq variable.now.log self.now.held name }
+    {
+        match variable.log().get(self.held[at].handed) {
+            Some(entry) => Some(entry.event),
+            None => None,
+        }
+    }
+
+    /// Whether an event comes next for the handler of this name.
+    pub fn has_next(&self, variable: &Variable<L>, name: &HandlerName<L::Event>) -> bool
+        ensures { IsTrue result ↔ IsSome (next_of L.Event.eq variable.now.log self.now.held name.now) }
+    {
+        match self.find(name) {
+            Some(at) => self.next_at(variable, at).is_some(),
+            None => false,
         }
     }
 
@@ -143,11 +175,26 @@ impl<L: Lattice> Handlers<L> {
         ensures nothing { IsErr result ↔ (next_of L.Event.eq variable.now.log self.old.held name.now ≡ None) }
         ensures kept { OnErr result (self.new ≡ self.old) }
     {
-        let at = match place_of(&self.held, name) {
-            Ok(at) => at,
-            Err(_) => return Err(NothingToHand),
-        };
-        let handed = self.held[at].handed;
+        match self.find(name) {
+            Some(at) => self.advance_at(variable, at),
+            None => Err(NothingToHand),
+        }
+    }
+
+    /// Counts the event that comes next for the handler at this place as handed.
+    ///
+    /// # Errors
+    ///
+    /// `NothingToHand` where no event comes next.
+    pub fn advance_at(&mut self, variable: &Variable<L>, at: usize) -> Result<(), NothingToHand>
+        requires there { (name : Handler L.Event) × IsAt self.old.held name at }
+        requires within { IsWithin self.old variable.now.log }
+        ensures ok { OnOk result ((name : Handler L.Event) → IsAt self.old.held name at → IsAdvanced L.Event.eq variable.now.log name self.old self.new) }
+        ensures within { IsWithin self.new variable.now.log }
+        ensures nothing { (name : Handler L.Event) → IsAt self.old.held name at → IsErr result ↔ (next_of L.Event.eq variable.now.log self.old.held name ≡ None) }
+        ensures kept { OnErr result (self.new ≡ self.old) }
+    {
+        let handed = self.held.as_slice()[at].handed;
         if handed >= variable.log().len() {
             return Err(NothingToHand);
         }

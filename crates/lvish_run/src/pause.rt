@@ -70,11 +70,18 @@ impl Pause {
     }
 
     /// Takes what the lock holds, and pauses as long as another has it.
+    #[inline(always)]
     pub fn take<'l, T, R: Wait>(&mut self, rt: &R, lock: &'l Mutex<T>) -> MutexGuard<'l, T> {
         if let Some(guard) = lock.try_lock() {
             self.crowded = self.crowded.saturating_sub(1);
             return guard;
         }
+        self.wait_for(rt, lock)
+    }
+
+    /// Takes what the lock holds once nobody else has it, as somebody had.
+    #[inline(never)]
+    fn wait_for<'l, T, R: Wait>(&mut self, rt: &R, lock: &'l Mutex<T>) -> MutexGuard<'l, T> {
         if self.crowded < MOST_CROWDED {
             self.crowded += 1;
         }

@@ -9,7 +9,7 @@ ghost use Rattle.lvish_run.specs.Walk.{IsTried, IsTriedHand, IsActed, IsHandTurn
 
 use crate::agenda::Agenda;
 use crate::opening::open_all;
-use lvish_board::{Acted, Asked, Board, Named, Works};
+use lvish_board::{Asked, Board, Came, Named, Step, Works};
 use lvish_calculus::laws::lawful;
 use lvish_calculus::{Meaning, Program};
 use lvish_core::CoreMeaning;
@@ -68,13 +68,15 @@ fn take_act<P: Program, J: Named<P>>(
     ensures { IfOk result (λ o. IsTried P.Lat.Event.cmp (⟦<P as Meaning>⟧.machine J.program) board.old asked o board.new) }
 {
     is_sound(board);
-    match board.act(alloc, 0, asked) {
-        Acted::Next(works) => Ok(Some(works)),
-        Acted::Gone(works) => Ok(Some(works)),
-        Acted::Parked => Ok(None),
-        Acted::Over => Ok(None),
-        Acted::Stale => unreachable!(),
-        Acted::Memory(_work) => Err(AllocError),
+    let mut place = Some(asked);
+    let mut works = Works::none(alloc, Step::Act(0));
+    match board.act_into(alloc, 0, &mut place, &mut works) {
+        Came::Next => Ok(Some(works)),
+        Came::Gone => Ok(Some(works)),
+        Came::Parked => Ok(None),
+        Came::Over => Ok(None),
+        Came::Stale => unreachable!(),
+        Came::Memory => Err(AllocError),
     }
 }
 
@@ -121,12 +123,14 @@ fn take_hand<P: Program, J: Named<P>>(
 {
     hands_one_event::<P>();
     is_sound(board);
-    match board.hand(alloc, 0, handler) {
-        Acted::Next(works) => Ok(Some(works)),
-        Acted::Over => Ok(None),
-        Acted::Memory(_work) => Err(AllocError),
-        Acted::Gone(_works) => unreachable!(),
-        Acted::Parked => unreachable!(),
-        Acted::Stale => unreachable!(),
+    let mut place = Some(handler);
+    let mut works = Works::none(alloc, Step::Hand(0));
+    match board.hand_into(alloc, 0, &mut place, &mut works) {
+        Came::Next => Ok(Some(works)),
+        Came::Over => Ok(None),
+        Came::Memory => Err(AllocError),
+        Came::Gone => unreachable!(),
+        Came::Parked => unreachable!(),
+        Came::Stale => unreachable!(),
     }
 }

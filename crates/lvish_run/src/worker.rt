@@ -11,7 +11,7 @@ use crate::gate::Gate;
 use crate::own_steps::{OwnSteps, Why};
 use crate::pause::Pause;
 use crate::piece::Piece;
-use lvish_board::{Acted, Asked, Board, Named, Step, Ticket, Works, stretch};
+use lvish_board::{Asked, Board, Came, Named, Step, Ticket, Works, stretch};
 use lvish_compound::Event;
 use lvish_deal::{Seat, Steal};
 use lvish_names::HandlerName;
@@ -19,17 +19,6 @@ use lvish_task::ScriptCode;
 use std::alloc::{AllocError, Global};
 use std::sync::atomic::{AtomicBool, Ordering};
 use std::sync::{Mutex, Wait};
-
-/// What came of a piece of work.
-#[derive(Drop)]
-enum AfterWork<J: Named<ScriptCode>> {
-    /// The worker goes on: with this, or with what it finds.
-    On(Option<Ticket<ScriptCode, J>>),
-    /// The board is over.
-    Over,
-    /// A growth was refused, or a push on its deque.
-    Memory,
-}
 
 /// Works until the board is over, another worker has left, or this one must leave.
 pub fn work<J: Named<ScriptCode>, R: Wait, G: Gate>(
@@ -70,53 +59,62 @@ fn turns<J: Named<ScriptCode>, R: Wait, G: Gate>(
     ensures { G.patient ≡ true → result ≢ Stopped }
 {
     let mut pause = Pause::new();
-    let mut own = None;
+    let mut works = Works::none(alloc, Step::Act(0));
     for _ in rt.forever() {
         if left.load(Ordering::SeqCst) {
             return Why::Others;
         }
-        match take_turn(rt, alloc, code, board, gate, seat, steps, &mut pause, own) {
-            Ok(next) => own = next,
-            Err(why) => return why,
+        let why = match works.own.take() {
+            Some(ticket) => {
+                run_on(
+                    rt, alloc, code, board, gate, seat, steps, &mut pause, ticket, &mut works,
+                )
+            }
+            None => find_work(rt, alloc, board, gate, seat, steps, &mut pause, &mut works),
+        };
+        if let Some(why) = why {
+            return why;
         }
     }
     unreachable!()
 }
 
-/// One turn: its task's next ticket, or what it finds, or an idle turn. It answers the task's next
-/// ticket, or why the worker leaves.
-#[inline(always)]
-fn take_turn<J: Named<ScriptCode>, R: Wait, G: Gate>(
+/// A turn of a worker whose task doesn't go on: it takes up a task, or does the other work that it
+/// finds, or is idle. It says why the worker leaves, if it does.
+fn find_work<J: Named<ScriptCode>, R: Wait, G: Gate>(
     rt: &R,
     alloc: Global,
-    code: &ScriptCode,
     board: &Mutex<Board<'_, ScriptCode, J>>,
     gate: &G,
     seat: &mut Seat<Piece<J>>,
     steps: &mut Vec<Step>,
     pause: &mut Pause,
-    own: Option<Ticket<ScriptCode, J>>,
-) -> Result<Option<Ticket<ScriptCode, J>>, Why>
-    requires { code.now ≡ J.program }
-    ensures { G.patient ≡ true → result ≢ Err Stopped }
+    works: &mut Works<ScriptCode, J>,
+) -> Option<Why>
+    ensures { G.patient ≡ true → result ≢ Some Stopped }
 {
-    let after = match own {
-        Some(ticket) => run_on(rt, alloc, code, board, gate, seat, steps, pause, ticket),
-        None => match find(seat) {
-            Some(piece) => {
-                pause.reset();
-                take_up(rt, alloc, code, board, gate, seat, steps, pause, piece)
-            }
-            None => return match idle(rt, board, gate, pause, seat.number()) {
-                Some(why) => Err(why),
-                None => Ok(None),
-            },
-        },
+    let Some(piece) = find(seat) else {
+        return idle(rt, board, gate, pause, seat.number());
     };
-    match after {
-        AfterWork::On(next) => Ok(next),
-        AfterWork::Over => Err(Why::Over),
-        AfterWork::Memory => Err(Why::Memory),
+    pause.reset();
+    match piece {
+        Piece::Stretch(ticket) => {
+            works.own = Some(ticket);
+            None
+        }
+        Piece::Act(asked) => {
+            act(
+                rt,
+                alloc,
+                board,
+                seat,
+                steps,
+                pause,
+                Box::into_inner(asked),
+                works,
+            )
+        }
+        Piece::Hand(handler) => hand(rt, alloc, board, seat, steps, pause, handler, works),
     }
 }
 
@@ -186,30 +184,6 @@ fn is_seen_over<J: Named<ScriptCode>>(board: &Mutex<Board<'_, ScriptCode, J>>) -
     }
 }
 
-/// Does one piece of work.
-#[inline(always)]
-fn take_up<J: Named<ScriptCode>, R: Wait, G: Gate>(
-    rt: &R,
-    alloc: Global,
-    code: &ScriptCode,
-    board: &Mutex<Board<'_, ScriptCode, J>>,
-    gate: &G,
-    seat: &mut Seat<Piece<J>>,
-    steps: &mut Vec<Step>,
-    pause: &mut Pause,
-    piece: Piece<J>,
-) -> AfterWork<J>
-    requires { code.now ≡ J.program }
-{
-    match piece {
-        Piece::Stretch(ticket) => {
-            run_on(rt, alloc, code, board, gate, seat, steps, pause, ticket)
-        }
-        Piece::Act(asked) => { act(rt, alloc, board, seat, steps, pause, Box::into_inner(asked)) }
-        Piece::Hand(handler) => hand(rt, alloc, board, seat, steps, pause, handler),
-    }
-}
-
 /// Runs a task's local statements, and takes what it then asks for to the board.
 #[inline(always)]
 fn run_on<J: Named<ScriptCode>, R: Wait, G: Gate>(
@@ -222,13 +196,15 @@ fn run_on<J: Named<ScriptCode>, R: Wait, G: Gate>(
     steps: &mut Vec<Step>,
     pause: &mut Pause,
     ticket: Ticket<ScriptCode, J>,
-) -> AfterWork<J>
+    works: &mut Works<ScriptCode, J>,
+) -> Option<Why>
     requires { code.now ≡ J.program }
+    ensures { result ≢ Some Stopped }
 {
     gate.enter(seat.number(), ticket.task());
     match stretch(alloc, code, ticket) {
-        Ok(asked) => act(rt, alloc, board, seat, steps, pause, asked),
-        Err(_ticket) => AfterWork::Memory,
+        Ok(asked) => act(rt, alloc, board, seat, steps, pause, asked, works),
+        Err(_ticket) => Some(Why::Memory),
     }
 }
 
@@ -242,16 +218,20 @@ fn act<J: Named<ScriptCode>, R: Wait>(
     steps: &mut Vec<Step>,
     pause: &mut Pause,
     asked: Asked<ScriptCode, J>,
-) -> AfterWork<J> {
+    works: &mut Works<ScriptCode, J>,
+) -> Option<Why>
+    ensures { result ≢ Some Stopped }
+{
     if steps.reserve(1).is_err() {
-        return AfterWork::Memory;
+        return Some(Why::Memory);
     }
+    // (what is left of it is dropped when the board is free again)
+    let mut place = Some(asked);
     let mut held = pause.take(rt, board);
-    let answer = held.act(alloc, seat.number(), asked);
+    let came = held.act_into(alloc, seat.number(), &mut place, works);
     let over = is_over(&held);
     drop(held);
-    note(steps, &answer);
-    go_by(alloc, seat, over, answer)
+    go_by(alloc, seat, steps, over, came, works)
 }
 
 /// Takes a handler to the board.
@@ -264,84 +244,94 @@ fn hand<J: Named<ScriptCode>, R: Wait>(
     steps: &mut Vec<Step>,
     pause: &mut Pause,
     handler: HandlerName<Event>,
-) -> AfterWork<J> {
+    works: &mut Works<ScriptCode, J>,
+) -> Option<Why>
+    ensures { result ≢ Some Stopped }
+{
     if steps.reserve(1).is_err() {
-        return AfterWork::Memory;
+        return Some(Why::Memory);
     }
+    let mut place = Some(handler);
     let mut held = pause.take(rt, board);
-    let answer = held.hand(alloc, seat.number(), handler);
+    let came = held.hand_into(alloc, seat.number(), &mut place, works);
     let over = is_over(&held);
     drop(held);
-    note(steps, &answer);
-    go_by(alloc, seat, over, answer)
+    go_by(alloc, seat, steps, over, came, works)
 }
 
-/// Adds the step that the board made to the worker's own list, if it made one.
-#[inline(always)]
-fn note<J: Named<ScriptCode>>(steps: &mut Vec<Step>, answer: &Acted<ScriptCode, J>)
-    requires room { vec_len steps.old < vec_capacity steps.old }
-{
-    if let Acted::Next(works) | Acted::Gone(works) = answer {
-        steps.push_reserved(works.step);
-    }
-}
-
-/// Goes on by what the board answered, and by whether it is over.
+/// Notes the step that the board made, if it made one, and goes on by its answer, and by whether it
+/// is over: the work beside the next ticket of its task goes on the deque.
 #[inline(always)]
 fn go_by<J: Named<ScriptCode>>(
     alloc: Global,
     seat: &mut Seat<Piece<J>>,
+    steps: &mut Vec<Step>,
     over: bool,
-    answer: Acted<ScriptCode, J>,
-) -> AfterWork<J> {
-    if over {
-        return AfterWork::Over;
+    came: Came,
+    works: &mut Works<ScriptCode, J>,
+) -> Option<Why>
+    requires room { vec_len steps.old < vec_capacity steps.old }
+    ensures { result ≢ Some Stopped }
+{
+    let stepped = matches!(came, Came::Next | Came::Gone);
+    if stepped {
+        steps.push_reserved(works.step);
     }
-    match answer {
-        Acted::Over => AfterWork::Over,
-        Acted::Stale | Acted::Parked => AfterWork::On(None),
-        Acted::Memory(_work) => AfterWork::Memory,
-        Acted::Next(works) | Acted::Gone(works) => go_on(alloc, seat, works),
+    if over || matches!(came, Came::Over) {
+        return Some(Why::Over);
     }
+    if matches!(came, Came::Memory) {
+        return Some(Why::Memory);
+    }
+    if stepped && leaves_more(works) && leave(alloc, seat, works).is_err() {
+        return Some(Why::Memory);
+    }
+    None
 }
 
-/// Goes on with the next ticket of its task, and leaves the other work on its deque.
+/// Whether a step left more than the next ticket of its task.
 #[inline(always)]
-fn go_on<J: Named<ScriptCode>>(
-    alloc: Global,
-    seat: &mut Seat<Piece<J>>,
-    works: Works<ScriptCode, J>,
-) -> AfterWork<J> {
-    let Works {
-        step: _,
-        own,
-        made,
-        woken,
-        hands,
-    } = works;
-    match leave(alloc, seat, made, woken, hands) {
-        Ok(()) => AfterWork::On(own),
-        Err(_refused) => AfterWork::Memory,
-    }
+fn leaves_more<J: Named<ScriptCode>>(works: &Works<ScriptCode, J>) -> bool {
+    works.made.is_some() || !works.woken.is_empty() || !works.hands.is_empty()
 }
 
-/// Leaves this work on the deque, in this order.
-#[inline(always)]
+/// Leaves the work beside the task's own on the deque, in this order.
+#[inline(never)]
 fn leave<J: Named<ScriptCode>>(
     alloc: Global,
     seat: &mut Seat<Piece<J>>,
-    made: Option<Ticket<ScriptCode, J>>,
-    woken: Vec<Asked<ScriptCode, J>>,
-    hands: Vec<HandlerName<Event>>,
+    works: &mut Works<ScriptCode, J>,
 ) -> Result<(), AllocError> {
-    if let Some(ticket) = made {
+    if let Some(ticket) = works.made.take() {
         push(seat, Piece::Stretch(ticket))?;
     }
-    for asked in woken {
-        push(seat, Piece::Act(Box::new(alloc, asked)?))?;
+    if !works.woken.is_empty() {
+        leave_woken(alloc, seat, &mut works.woken)?;
     }
-    for handler in hands {
+    leave_hands(seat, &mut works.hands)
+}
+
+/// Leaves the next handing of each of these handlers on the deque, in their order.
+fn leave_hands<J: Named<ScriptCode>>(
+    seat: &mut Seat<Piece<J>>,
+    hands: &mut Vec<HandlerName<Event>>,
+) -> Result<(), AllocError> {
+    hands.reverse();
+    while let Some(handler) = hands.pop() {
         push(seat, Piece::Hand(handler))?;
+    }
+    Ok(())
+}
+
+/// Leaves what these tasks ask for on the deque, in their order.
+fn leave_woken<J: Named<ScriptCode>>(
+    alloc: Global,
+    seat: &mut Seat<Piece<J>>,
+    woken: &mut Vec<Asked<ScriptCode, J>>,
+) -> Result<(), AllocError> {
+    woken.reverse();
+    while let Some(asked) = woken.pop() {
+        push(seat, Piece::Act(Box::new(alloc, asked)?))?;
     }
     Ok(())
 }

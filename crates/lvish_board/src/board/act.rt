@@ -1,17 +1,21 @@
 //! A task's step.
 
-ghost use Rattle.std.specs.Prelude.{◌≡◌, ◌≢◌, ◌++◌, ◌∷◌, ◌↔◌, ℕ, [], true, false, None, Some, IsSome, IsTrue, MatchOption};
+ghost use Rattle.std.specs.Prelude.{◌≡◌, ◌≢◌, ◌++◌, ◌∷◌, ◌↔◌, [], true, false, length, None, Some, IfOk, IfErr, IsSome, IsTrue, MatchOption};
 ghost use Rattle.lvish_calculus.specs.declared.label.Label.TheVariants.{Act};
 ghost use Rattle.lvish_board.specs.declared.work.Work.TheVariants.{Act as ActOn};
-ghost use Rattle.lvish_board.specs.Acts.{entry_of, is_step, is_gone, is_over, is_stale, is_parked, GivesBack, ComesOfAct, IsDone, HasOwn, ListsWork, KeepsAtMemory, NotesStep};
+ghost use Rattle.lvish_board.specs.Acts.{entry_of, is_step, is_gone, is_over, is_stale, is_parked, GivesBack, ComesOfAct, ComesOfNoAct, IsDone, HasOwn, ListsWork, KeepsAtMemory, NotesStep, with_work};
+ghost use Rattle.lvish_board.specs.Place.{TaskPlace};
 ghost use Rattle.lvish_board.specs.Woken.{IsParkedBeside};
 
 use super::Board;
 use crate::acted::Acted;
 use crate::asked::Asked;
+use crate::came::Came;
 use crate::named::Named;
+use crate::noted::Step;
 use crate::outcome::Outcome;
 use crate::work::Work;
+use crate::works::Works;
 use lvish_calculus::{Meaning, Program};
 use lvish_core::{CoreMeaning, TaskNumbers};
 use std::alloc::Global;
@@ -36,27 +40,87 @@ impl<'p, P: Program, J: Named<P>> Board<'p, P, J> {
         ensures parked { is_parked result ≡ true → (⟦<P as CoreMeaning>⟧.can_take self.old.core (Act asked.task) → ⊥) × IsParkedBeside self.old.parked asked self.new.parked }
         ensures memory { GivesBack (ActOn asked) result × KeepsAtMemory self.old self.new result }
     {
-        self.act_once(alloc, worker, asked)
+        let mut place = Some(asked);
+        let mut left = Works::none(alloc, Step::Act(0));
+        let came = self.act_into(alloc, worker, &mut place, &mut left);
+        Acted::of(came, as_work(place), left)
     }
 
-    /// What `act` does, with what it ensures in one clause, so that each answer is shown once.
-    fn act_once(&mut self, alloc: Global, worker: usize, asked: Asked<P, J>) -> Acted<P, J>
-        ensures { ComesOfAct P.Lat.Event.cmp (⟦<P as Meaning>⟧.machine J.program) (⟦<P as CoreMeaning>⟧.local_in self.old.core asked.task ≡ Some asked.from) (⟦<P as CoreMeaning>⟧.can_take self.old.core (Act asked.task)) worker asked self.old self.new result }
+    /// Does what [`act`](Board::act) does, with the work that a step leaves in `works`, in place of
+    /// what is there. What is left of the task stays in its place, so that a caller with a lock can
+    /// drop it once the board is free.
+    pub fn act_into(
+        &mut self,
+        alloc: Global,
+        worker: usize,
+        asked: &mut Option<Asked<P, J>>,
+        works: &mut Works<P, J>,
+    ) -> Came
+        requires there { IsSome asked.old }
+        // All that `act` ensures, of this answer and this work.
+        ensures comes { (a : TaskPlace P.Lat.Event P.Local) → asked.old ≡ Some a → ComesOfAct P.Lat.Event.cmp (⟦<P as Meaning>⟧.machine J.program) (⟦<P as CoreMeaning>⟧.local_in self.old.core a.task ≡ Some a.from) (⟦<P as CoreMeaning>⟧.can_take self.old.core (Act a.task)) worker a self.old self.new (with_work result (ActOn a) works.new) }
+        // Where memory was refused the task is in its place.
+        ensures back { result ≡ Came.Memory → asked.new ≡ asked.old }
     {
         if self.over.is_some() {
-            return Acted::Over;
+            return Came::Over;
         }
-        let Some(numbers) = self.current(&asked) else {
-            return Acted::Stale;
+        let Some(task) = asked.as_mut() else {
+            unreachable!()
         };
-        if !self.can_go_on(&asked) {
-            return self.park(alloc, asked);
-        }
+        let Some(numbers) = self.current(task) else {
+            return Came::Stale;
+        };
         if self.trace.len() as u64 >= self.budget {
-            self.over = Some(Outcome::Budget);
-            return Acted::Over;
+            return self.act_no_more(alloc, asked);
         }
-        self.make(alloc, worker, numbers, asked)
+        match self.make(alloc, worker, numbers, task, works) {
+            Came::Memory => self.not_made(alloc, asked),
+            came => came,
+        }
+    }
+
+    /// What comes of an act where the budget is used up: the task is parked where it is blocked, else
+    /// the board is over.
+    #[inline(never)]
+    fn act_no_more(&mut self, alloc: Global, place: &mut Option<Asked<P, J>>) -> Came
+        requires running { self.old.over ≡ None }
+        requires used { length self.old.trace ≡ J.budget }
+        requires there { IsSome place.old }
+        requires current { (a : TaskPlace P.Lat.Event P.Local) → place.old ≡ Some a → ⟦<P as CoreMeaning>⟧.local_in self.old.core a.task ≡ Some a.from }
+        ensures trace { self.new.trace ≡ self.old.trace }
+        ensures core { self.new.core ≡ self.old.core }
+        ensures came { (a : TaskPlace P.Lat.Event P.Local) → place.old ≡ Some a → ComesOfNoAct (⟦<P as CoreMeaning>⟧.can_take self.old.core (Act a.task)) a self.old self.new result }
+        ensures back { result ≡ Came.Memory → place.new ≡ place.old }
+    {
+        let Some(asked) = place.as_ref() else {
+            unreachable!()
+        };
+        if !self.can_go_on(asked) {
+            return self.park(alloc, place);
+        }
+        self.over = Some(Outcome::Budget);
+        Came::Over
+    }
+
+    /// What comes of an act whose step isn't made: the task is blocked, or there is no memory for it.
+    #[inline(never)]
+    fn not_made(&mut self, alloc: Global, place: &mut Option<Asked<P, J>>) -> Came
+        requires running { self.old.over ≡ None }
+        requires there { IsSome place.old }
+        requires current { (a : TaskPlace P.Lat.Event P.Local) → place.old ≡ Some a → ⟦<P as CoreMeaning>⟧.local_in self.old.core a.task ≡ Some a.from }
+        ensures trace { self.new.trace ≡ self.old.trace }
+        ensures core { self.new.core ≡ self.old.core }
+        ensures came { (a : TaskPlace P.Lat.Event P.Local) → place.old ≡ Some a → ComesOfNoAct (⟦<P as CoreMeaning>⟧.can_take self.old.core (Act a.task)) a self.old self.new result }
+        ensures back { result ≡ Came.Memory → place.new ≡ place.old }
+    {
+        let Some(asked) = place.as_ref() else {
+            unreachable!()
+        };
+        if self.can_go_on(asked) {
+            return Came::Memory;
+        }
+        self.park(alloc, place)
     }
 
     /// The task's numbers, where it is there in the local state in which it asks.
@@ -78,18 +142,59 @@ impl<'p, P: Program, J: Named<P>> Board<'p, P, J> {
     }
 
     /// Parks a blocked task.
-    fn park(&mut self, alloc: Global, asked: Asked<P, J>) -> Acted<P, J>
+    #[inline(never)]
+    fn park(&mut self, alloc: Global, place: &mut Option<Asked<P, J>>) -> Came
+        requires running { self.old.over ≡ None }
+        requires there { IsSome place.old }
+        requires current { (a : TaskPlace P.Lat.Event P.Local) → place.old ≡ Some a → ⟦<P as CoreMeaning>⟧.local_in self.old.core a.task ≡ Some a.from }
+        requires blocked { (a : TaskPlace P.Lat.Event P.Local) → place.old ≡ Some a → ⟦<P as CoreMeaning>⟧.can_take self.old.core (Act a.task) → ⊥ }
+        ensures trace { self.new.trace ≡ self.old.trace }
+        ensures core { self.new.core ≡ self.old.core }
+        ensures came { (a : TaskPlace P.Lat.Event P.Local) → place.old ≡ Some a → ComesOfNoAct (⟦<P as CoreMeaning>⟧.can_take self.old.core (Act a.task)) a self.old self.new result }
+        ensures back { result ≡ Came.Memory → place.new ≡ place.old }
+    {
+        let Some(asked) = place.take() else {
+            unreachable!()
+        };
+        match self.park_asked(alloc, asked) {
+            Ok(()) => Came::Parked,
+            Err(asked) => {
+                *place = Some(asked);
+                Came::Memory
+            }
+        }
+    }
+
+    /// Parks a blocked task that stands by itself.
+    ///
+    /// # Errors
+    ///
+    /// Where there is no room for it, the task; nothing has changed.
+    fn park_asked(&mut self, alloc: Global, asked: Asked<P, J>) -> Result<(), Asked<P, J>>
         requires running { self.old.over ≡ None }
         requires current { ⟦<P as CoreMeaning>⟧.local_in self.old.core asked.task ≡ Some asked.from }
         requires blocked { ⟦<P as CoreMeaning>⟧.can_take self.old.core (Act asked.task) → ⊥ }
-        ensures { (worker : ℕ) → ComesOfAct P.Lat.Event.cmp (⟦<P as Meaning>⟧.machine J.program) (⟦<P as CoreMeaning>⟧.local_in self.old.core asked.task ≡ Some asked.from) (⟦<P as CoreMeaning>⟧.can_take self.old.core (Act asked.task)) worker asked self.old self.new result }
+        ensures trace { self.new.trace ≡ self.old.trace }
+        ensures core { self.new.core ≡ self.old.core }
+        ensures ok { IfOk result (λ _. IsParkedBeside self.old.parked asked self.new.parked) }
+        ensures err { IfErr result (λ a. (a ≡ asked) × (self.new ≡ self.old)) }
     {
         match self.parked.park(alloc, asked) {
             Ok(()) => {
                 self.settle();
-                Acted::Parked
+                Ok(())
             }
-            Err(asked) => Acted::Memory(Work::Act(asked)),
+            Err(asked) => Err(asked),
         }
+    }
+}
+
+/// The work of a task, if there is one.
+fn as_work<P: Program, J: Named<P>>(asked: Option<Asked<P, J>>) -> Option<Work<P, J>>
+    ensures { (a : TaskPlace P.Lat.Event P.Local) → asked ≡ Some a → result ≡ Some (ActOn a) }
+{
+    match asked {
+        Some(asked) => Some(Work::Act(asked)),
+        None => None,
     }
 }

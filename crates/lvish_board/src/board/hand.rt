@@ -1,21 +1,24 @@
 //! A handler's step.
 
-ghost use Rattle.std.specs.Prelude.{◌≡◌, ◌<◌, ◌≤◌, ◌+◌, ◌++◌, ◌∷◌, ◌↔◌, [], true, false, length, None, IfOk, IfErr, IsSome, IsTrue, MatchOption, vec_capacity};
+ghost use Rattle.std.specs.Prelude.{◌≡◌, ◌<◌, ◌≤◌, ◌+◌, ◌++◌, ◌∷◌, ◌↔◌, [], true, false, length, None, Some, IfOk, IfErr, IsSome, IsTrue, MatchOption, vec_capacity};
 ghost use Rattle.lvish_calculus.specs.declared.label.Label.TheVariants.{Hand};
 ghost use Rattle.lvish_board.specs.declared.work.Work.TheVariants.{Hand as HandTo};
 ghost use Rattle.lvish_core.specs.declared.fault.Stepped.{Stepped};
 ghost use Rattle.lvish_core.specs.Handed.{IsHanded};
-ghost use Rattle.lvish_board.specs.Acts.{entry_of, is_step, is_gone, is_over, is_stale, is_parked, GivesBack, ComesOfHand, HasNoOwn, ListsWork, KeepsAtMemory, NotesStep};
+ghost use Rattle.lvish_board.specs.Acts.{entry_of, is_step, is_gone, is_over, is_stale, is_parked, GivesBack, ComesOfHand, ComesOfNoHanding, HasNoOwn, ListsWork, KeepsAtMemory, NotesStep, with_work};
+ghost use Rattle.lvish_names.specs.Names.{Handler};
 
 use super::Board;
 use super::make::has_all_variables;
 use crate::acted::Acted;
+use crate::came::Came;
 use crate::list::{OwnWork, leave, ticket_of};
 use crate::named::Named;
 use crate::noted::{Noted, Step};
 use crate::outcome::Outcome;
 use crate::room::Room;
 use crate::work::Work;
+use crate::works::Works;
 use lvish_calculus::{Meaning, Program};
 use lvish_core::laws::{hands_one_event, passes_at_its_spot, waiting_tasks};
 use lvish_core::{Core, CoreMeaning, Moved, StepFault};
@@ -47,33 +50,85 @@ impl<'p, P: Program, J: Named<P>> Board<'p, P, J> {
         ensures parked { is_parked result ≡ true → ((e : P.Lat.Event) → ⟦<P as CoreMeaning>⟧.is_next self.old.core handler e → ⊥) × (self.new ≡ self.old) }
         ensures memory { GivesBack (HandTo handler) result × KeepsAtMemory self.old self.new result }
     {
-        self.hand_once(alloc, worker, handler)
+        let mut place = Some(handler);
+        let mut left = Works::none(alloc, Step::Hand(0));
+        let came = self.hand_into(alloc, worker, &mut place, &mut left);
+        Acted::of(came, as_work(place), left)
     }
 
-    /// What `hand` does, with what it ensures in one clause, so that each answer is shown once.
-    fn hand_once(
+    /// Does what [`hand`](Board::hand) does, with the work that a step leaves in `works`, in place of
+    /// what is there.
+    pub fn hand_into(
         &mut self,
         alloc: Global,
         worker: usize,
-        handler: HandlerName<<P::Lat as Lattice>::Event>,
-    ) -> Acted<P, J>
-        ensures { ComesOfHand P.Lat.Event.cmp (⟦<P as Meaning>⟧.machine J.program) (⟦<P as CoreMeaning>⟧.is_held self.old.core handler) (⟦<P as CoreMeaning>⟧.is_next self.old.core handler) worker handler self.old self.new result }
+        handler: &mut Option<HandlerName<<P::Lat as Lattice>::Event>>,
+        works: &mut Works<P, J>,
+    ) -> Came
+        requires there { IsSome handler.old }
+        // All that `hand` ensures, of this answer and this work.
+        ensures comes { (h : Handler P.Lat.Event) → handler.old ≡ Some h → ComesOfHand P.Lat.Event.cmp (⟦<P as Meaning>⟧.machine J.program) (⟦<P as CoreMeaning>⟧.is_held self.old.core h) (⟦<P as CoreMeaning>⟧.is_next self.old.core h) worker h self.old self.new (with_work result (HandTo h) works.new) }
+        // Where memory was refused the handler is in its place.
+        ensures back { result ≡ Came.Memory → handler.new ≡ handler.old }
+    {
+        if self.over.is_some() {
+            return Came::Over;
+        }
+        if self.trace.len() as u64 >= self.budget {
+            return self.hand_no_more(handler);
+        }
+        match self.make_hand(alloc, worker, handler, works) {
+            Came::Memory => self.not_handed(handler),
+            came => came,
+        }
+    }
+
+    /// What comes of a handing where the budget is used up: the board is over where an event comes next
+    /// for the handler.
+    #[inline(never)]
+    fn hand_no_more(&mut self, place: &Option<HandlerName<<P::Lat as Lattice>::Event>>) -> Came
+        requires running { self.old.over ≡ None }
+        requires used { length self.old.trace ≡ J.budget }
+        requires there { IsSome place.now }
+        ensures stays { (self.new.trace ≡ self.old.trace) × (self.new.core ≡ self.old.core) × (self.new.parked ≡ self.old.parked) }
+        ensures came { (h : Handler P.Lat.Event) → place.now ≡ Some h → ComesOfNoHanding (⟦<P as CoreMeaning>⟧.is_held self.old.core h) (⟦<P as CoreMeaning>⟧.is_next self.old.core h) self.old self.new result }
     {
         hands_one_event::<P>();
-        if self.over.is_some() {
-            return Acted::Over;
-        }
-        let Some(_event) = self.next(&handler) else {
-            if self.holds(&handler) {
-                return Acted::Parked;
-            }
-            return Acted::Stale;
+        let Some(handler) = place.as_ref() else {
+            unreachable!()
         };
-        if self.trace.len() as u64 >= self.budget {
-            self.over = Some(Outcome::Budget);
-            return Acted::Over;
+        let Some(_event) = self.next(handler) else {
+            return self.idle(handler);
+        };
+        self.over = Some(Outcome::Budget);
+        Came::Over
+    }
+
+    /// What comes of a handing that isn't made: nothing comes next, or there is no memory.
+    #[inline(never)]
+    fn not_handed(&self, place: &Option<HandlerName<<P::Lat as Lattice>::Event>>) -> Came
+        requires there { IsSome place.now }
+        ensures { (h : Handler P.Lat.Event) → place.now ≡ Some h → ComesOfNoHanding (⟦<P as CoreMeaning>⟧.is_held self.now.core h) (⟦<P as CoreMeaning>⟧.is_next self.now.core h) self.now self.now result }
+    {
+        let Some(handler) = place.as_ref() else {
+            unreachable!()
+        };
+        match self.next(handler) {
+            Some(_event) => Came::Memory,
+            None => self.idle(handler),
         }
-        self.make_hand(alloc, worker, handler)
+    }
+
+    /// What comes of a handing where nothing comes next for the handler.
+    fn idle(&self, handler: &HandlerName<<P::Lat as Lattice>::Event>) -> Came
+        requires drained { (e : P.Lat.Event) → ⟦<P as CoreMeaning>⟧.is_next self.now.core handler.now e → ⊥ }
+        ensures { ComesOfNoHanding (⟦<P as CoreMeaning>⟧.is_held self.now.core handler.now) (⟦<P as CoreMeaning>⟧.is_next self.now.core handler.now) self.now self.now result }
+    {
+        if self.holds(handler) {
+            Came::Parked
+        } else {
+            Came::Stale
+        }
     }
 
     /// Whether there is such a handler.
@@ -93,22 +148,30 @@ impl<'p, P: Program, J: Named<P>> Board<'p, P, J> {
         self.core.next(handler)
     }
 
-    /// Makes the handing of what comes next.
+    /// Makes the handing of what comes next. Where it isn't made, nothing has changed.
+    #[inline(always)]
     fn make_hand(
         &mut self,
         alloc: Global,
         worker: usize,
-        handler: HandlerName<<P::Lat as Lattice>::Event>,
-    ) -> Acted<P, J>
+        handler: &mut Option<HandlerName<<P::Lat as Lattice>::Event>>,
+        works: &mut Works<P, J>,
+    ) -> Came
         requires running { self.old.over ≡ None }
         requires room { length self.old.trace < J.budget }
-        ensures { ComesOfHand P.Lat.Event.cmp (⟦<P as Meaning>⟧.machine J.program) (⟦<P as CoreMeaning>⟧.is_held self.old.core handler) (⟦<P as CoreMeaning>⟧.is_next self.old.core handler) worker handler self.old self.new result }
+        requires there { IsSome handler.old }
+        ensures comes { (h : Handler P.Lat.Event) → handler.old ≡ Some h → ComesOfHand P.Lat.Event.cmp (⟦<P as Meaning>⟧.machine J.program) (⟦<P as CoreMeaning>⟧.is_held self.old.core h) (⟦<P as CoreMeaning>⟧.is_next self.old.core h) worker h self.old self.new (with_work result (HandTo h) works.new) }
+        ensures kept { result ≡ Came.Memory → self.new ≡ self.old }
+        ensures back { result ≡ Came.Memory → handler.new ≡ handler.old }
     {
         hands_one_event::<P>();
         waiting_tasks::<P>();
         passes_at_its_spot::<P>();
         let step = Step::Hand(self.core.tasks());
         let parked = self.parked.len();
+        let Some(name) = handler.as_ref() else {
+            unreachable!()
+        };
         let Ok(moved) = hand_with_room(
             alloc,
             &mut self.core,
@@ -116,19 +179,32 @@ impl<'p, P: Program, J: Named<P>> Board<'p, P, J> {
             &mut self.room,
             parked,
             Noted { worker, step },
-            &handler,
+            name,
         ) else {
-            return Acted::Memory(Work::Hand(handler));
+            return Came::Memory;
         };
+        let added = handler.take();
         let left = OwnWork {
             step,
             own: None,
             made: ticket_of(moved.made),
-            added: Some(handler),
+            added,
         };
-        let works = leave(alloc, &self.core, &mut self.parked, left, &mut self.room, 0);
+        leave(&self.core, &mut self.parked, left, &mut self.room, 0, works);
         self.settle();
-        Acted::Next(works)
+        Came::Next
+    }
+}
+
+/// The work of a handler, if there is one.
+fn as_work<P: Program, J: Named<P>>(
+    handler: Option<HandlerName<<P::Lat as Lattice>::Event>>,
+) -> Option<Work<P, J>>
+    ensures { (h : Handler P.Lat.Event) → handler ≡ Some h → result ≡ Some (HandTo h) }
+{
+    match handler {
+        Some(handler) => Some(Work::Hand(handler)),
+        None => None,
     }
 }
 

@@ -3,18 +3,18 @@
 ghost use Rattle.std.specs.Prelude.{◌≡◌, ◌<◌, ◌≤◌, ◌+◌, ◌++◌, ◌∷◌, [], true, false, length, None, Some, IfOk, IfErr, MatchResult, option_and_then, vec_len, vec_capacity};
 ghost use Rattle.lvish_calculus.specs.declared.label.Label.TheVariants.{Act};
 ghost use Rattle.lvish_board.specs.Vocabulary.{ActStep};
-ghost use Rattle.lvish_board.specs.Acts.{ComesOfAct};
+ghost use Rattle.lvish_board.specs.Acts.{ComesOfAct, with_work};
+ghost use Rattle.lvish_board.specs.declared.work.Work.TheVariants.{Act as ActOn};
 ghost use Rattle.lvish_board.specs.Left.{IsStepOf, most_added};
 
 use super::Board;
-use crate::acted::Acted;
 use crate::asked::Asked;
+use crate::came::Came;
 use crate::list::{leave, left_by};
 use crate::named::Named;
 use crate::noted::{Noted, Step};
 use crate::outcome::Outcome;
 use crate::room::Room;
-use crate::work::Work;
 use crate::works::Works;
 use lvish_calculus::laws::lawful;
 use lvish_calculus::{ErrorKind, Meaning, Program};
@@ -24,19 +24,23 @@ use lvish_lattice::Lattice;
 use std::alloc::Global;
 
 impl<'p, P: Program, J: Named<P>> Board<'p, P, J> {
-    /// Makes the step of a task that can go on.
+    /// Makes the step of a task that stands where it asks, if it can go on. Where it isn't made, nothing
+    /// has changed.
+    #[inline(always)]
     pub(super) fn make(
         &mut self,
         alloc: Global,
         worker: usize,
         numbers: TaskNumbers,
-        asked: Asked<P, J>,
-    ) -> Acted<P, J>
+        asked: &mut Asked<P, J>,
+        works: &mut Works<P, J>,
+    ) -> Came
         requires running { self.old.over ≡ None }
         requires room { length self.old.trace < J.budget }
-        requires live { ⟦<P as CoreMeaning>⟧.is_live self.old.core asked.task asked.from numbers }
-        requires can { ⟦<P as CoreMeaning>⟧.can_take self.old.core (Act asked.task) }
-        ensures { ComesOfAct P.Lat.Event.cmp (⟦<P as Meaning>⟧.machine J.program) (⟦<P as CoreMeaning>⟧.local_in self.old.core asked.task ≡ Some asked.from) (⟦<P as CoreMeaning>⟧.can_take self.old.core (Act asked.task)) worker asked self.old self.new result }
+        requires live { ⟦<P as CoreMeaning>⟧.is_live self.old.core asked.old.task asked.old.from numbers }
+        ensures comes { ComesOfAct P.Lat.Event.cmp (⟦<P as Meaning>⟧.machine J.program) (⟦<P as CoreMeaning>⟧.local_in self.old.core asked.old.task ≡ Some asked.old.from) (⟦<P as CoreMeaning>⟧.can_take self.old.core (Act asked.old.task)) worker asked.old self.old self.new (with_work result (ActOn asked.old) works.new) }
+        ensures kept { result ≡ Came.Memory → self.new ≡ self.old }
+        ensures back { result ≡ Came.Memory → asked.new ≡ asked.old }
     {
         lawful::<P>();
         waiting_tasks::<P>();
@@ -51,44 +55,42 @@ impl<'p, P: Program, J: Named<P>> Board<'p, P, J> {
             parked,
             worker,
             numbers,
-            &asked,
+            asked,
         ) else {
-            return Acted::Memory(Work::Act(asked));
+            return Came::Memory;
         };
         match stepped {
             Stepped::Error(kind) => {
                 drop(moved);
                 self.over = Some(error_outcome(&self.core, kind, asked));
-                Acted::Gone(Works::none(alloc, step))
+                works.empty(step);
+                Came::Gone
             }
             Stepped::Done => {
                 let left = left_by(step, asked, moved);
                 let goes_on = left.own.is_some();
-                let works = leave(
-                    alloc,
+                leave(
                     &self.core,
                     &mut self.parked,
                     left,
                     &mut self.room,
                     logged,
+                    works,
                 );
                 self.settle();
-                next_or_gone(goes_on, works)
+                next_or_gone(goes_on)
             }
         }
     }
 }
 
-/// The answer to a step that left this work: whether its task goes on.
-fn next_or_gone<P: Program, J: Named<P>>(goes_on: bool, works: Works<P, J>) -> Acted<P, J>
-    ensures next { goes_on ≡ true → result ≡ Acted.Next works }
-    ensures gone { goes_on ≡ false → result ≡ Acted.Gone works }
+/// What came of a step, by whether its task goes on.
+#[inline(always)]
+fn next_or_gone(goes_on: bool) -> Came
+    ensures next { goes_on ≡ true → result ≡ Came.Next }
+    ensures gone { goes_on ≡ false → result ≡ Came.Gone }
 {
-    if goes_on {
-        Acted::Next(works)
-    } else {
-        Acted::Gone(works)
-    }
+    if goes_on { Came::Next } else { Came::Gone }
 }
 
 /// Makes the task's step and writes it down, with room for the work that it leaves. It answers the
@@ -109,7 +111,6 @@ fn step_with_room<P: Program, J: Named<P>>(
 ) -> Result<(usize, Stepped, Moved<<P::Lat as Lattice>::Event, P::Local>), StepFault>
     requires program { core.old.program ≡ J.program }
     requires live { ⟦<P as CoreMeaning>⟧.is_live core.old asked.now.task asked.now.from numbers }
-    requires can { ⟦<P as CoreMeaning>⟧.can_take core.old (Act asked.now.task) }
     ensures made { IfOk result (λ s. IsStepOf P.Lat.Event.cmp (⟦<P as Meaning>⟧.machine J.program) core.old asked.now core.new s.0 room.new.concerned.items s.1 s.2) }
     ensures written { IfOk result (λ _. trace.new.items ≡ trace.old.items ++ record { worker = worker; step = ActStep numbers.index } ∷ []) }
     ensures empty { IfOk result (λ _. (room.new.woken.items ≡ []) × (room.new.hands.items ≡ [])) }
@@ -141,7 +142,6 @@ fn step<P: Program, J: Named<P>>(
 ) -> Result<(Stepped, Moved<<P::Lat as Lattice>::Event, P::Local>), StepFault>
     requires program { core.old.program ≡ J.program }
     requires live { ⟦<P as CoreMeaning>⟧.is_live core.old asked.now.task asked.now.from numbers }
-    requires can { ⟦<P as CoreMeaning>⟧.can_take core.old (Act asked.now.task) }
     requires room { vec_len trace.old < vec_capacity trace.old }
     ensures stepped { MatchResult result (λ s. ⟦<P as CoreMeaning>⟧.is_step core.old (Act asked.now.task) core.new s.0) (λ _. core.new ≡ core.old) }
     ensures moved { IfOk result (λ s. ⟦<P as CoreMeaning>⟧.is_moved core.old (Act asked.now.task) s.1) }
@@ -154,17 +154,18 @@ fn step<P: Program, J: Named<P>>(
 }
 
 /// How a run is over whose last step, the task's, gave an error.
+#[inline(never)]
 fn error_outcome<P: Program, J: Named<P>>(
     core: &Core<'_, P>,
     kind: ErrorKind,
-    asked: Asked<P, J>,
+    asked: &mut Asked<P, J>,
 ) -> Outcome<<P::Lat as Lattice>::Event>
-    ensures { result ≡ Outcome.Error kind (option_and_then (λ f. f.variable) core.now.fault) asked.task }
+    ensures { result ≡ Outcome.Error kind (option_and_then (λ f. f.variable) core.now.fault) asked.old.task }
 {
     Outcome::Error {
         kind,
         variable: core.fault().and_then(|fault| fault.variable),
-        task: asked.into_task(),
+        task: asked.take_task(),
     }
 }
 

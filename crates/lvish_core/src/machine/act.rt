@@ -1,7 +1,7 @@
 //! A task's action, by its request.
 
 ghost use Rattle.std.specs.Prelude.{◌<◌};
-ghost use Rattle.lvish_core.specs.Acts.{IsActing, Acts};
+ghost use Rattle.lvish_core.specs.Acts.{IsAsked, ActsIfReady};
 ghost use Rattle.lvish_core.specs.Tasks.{IsAt};
 
 use super::Core;
@@ -15,7 +15,7 @@ use lvish_names::TaskName;
 use std::alloc::Global;
 
 impl<'p, P: Program> Core<'p, P> {
-    /// Makes the request of a task, which is ready.
+    /// Makes the request of a task, where it is ready.
     pub(super) fn act(
         &mut self,
         alloc: Global,
@@ -25,9 +25,9 @@ impl<'p, P: Program> Core<'p, P> {
         request: &Request<P::Lat, <P::Lat as Reads>::Read, P::Local>,
     ) -> Result<(Stepped, Moved<<P::Lat as Lattice>::Event, P::Local>), StepFault>
         requires room { self.old.steps < MOST_STEPS }
-        requires acting { IsActing (⟦<P as Meaning>⟧.machine self.old.program) self.old name.now at.now numbers.forks numbers.adds numbers.puts request.now }
+        requires asked { IsAsked (⟦<P as Meaning>⟧.machine self.old.program) self.old name.now at.now numbers.forks numbers.adds numbers.puts request.now }
         requires there { IsAt self.old.table.tasks numbers.index name.now }
-        ensures { Acts (⟦<P as Meaning>⟧.machine self.old.program) self.old name.now self.new result }
+        ensures { ActsIfReady (⟦<P as Meaning>⟧.machine self.old.program) self.old name.now request.now self.new result }
     {
         match request {
             Request::Put(variable, state) => {
@@ -38,7 +38,12 @@ impl<'p, P: Program> Core<'p, P> {
             Request::Add(pool, procedure) => {
                 self.add(alloc, name, at, numbers, *pool, *procedure)
             }
-            Request::Freeze(variable, _) => self.freeze(alloc, name, at, numbers, *variable),
+            Request::Freeze(variable, _) => {
+                if !self.is_ready(request) {
+                    return Err(StepFault::NotEnabled);
+                }
+                self.freeze(alloc, name, at, numbers, *variable)
+            }
             Request::Pause => self.go_on(alloc, name, at, numbers, Reply::Done),
             Request::End => self.end(name, at, numbers),
             Request::Fault(kind) => self.fail(name, *kind, None),

@@ -1,6 +1,6 @@
 //! A task's step.
 
-ghost use Rattle.std.specs.Prelude.{◌≡◌, MatchResult, IfOk, IfErr};
+ghost use Rattle.std.specs.Prelude.{◌≡◌, MatchResult, IfOk, IfErr, IsSome};
 ghost use Rattle.lvish_calculus.specs.declared.label.Label.TheVariants.{Act};
 
 use super::Core;
@@ -9,7 +9,7 @@ use crate::fault::{StepFault, Stepped};
 use crate::limits::MOST_STEPS;
 use crate::moved::Moved;
 use crate::stage::{Stage, TaskNumbers};
-use lvish_calculus::{Asks, Meaning, Program};
+use lvish_calculus::{Asks, Meaning, Program, Request};
 use lvish_lattice::{Lattice, Reads};
 use lvish_names::TaskName;
 use std::alloc::Global;
@@ -31,9 +31,6 @@ impl<'p, P: Program> Core<'p, P> {
         ensures stepped { MatchResult result (λ s. ⟦<P as CoreMeaning>⟧.is_step self.old (Act name.now) self.new s.0) (λ e. ⟦<P as CoreMeaning>⟧.is_refused self.old (Act name.now) e × (self.new ≡ self.old)) }
         ensures moved { IfOk result (λ s. ⟦<P as CoreMeaning>⟧.is_moved self.old (Act name.now) s.1) }
     {
-        if self.fault.is_some() {
-            return Err(StepFault::NotEnabled);
-        }
         let Some(
             (
                 index,
@@ -54,13 +51,10 @@ impl<'p, P: Program> Core<'p, P> {
             adds: *adds,
             puts: *puts,
         };
-        if !self.is_ready(&asks.request) {
-            return Err(StepFault::NotEnabled);
-        }
         self.step_live(alloc, name, numbers, asks)
     }
 
-    /// Makes the task's step, which can be made, with its numbers and its request already known.
+    /// Makes the task's step, with its numbers and its request already known.
     ///
     /// # Errors
     ///
@@ -73,15 +67,35 @@ impl<'p, P: Program> Core<'p, P> {
         asks: &Asks<P::Lat, <P::Lat as Reads>::Read, P::Local>,
     ) -> Result<(Stepped, Moved<<P::Lat as Lattice>::Event, P::Local>), StepFault>
         requires live { (local : P.Local) × ⟦<P as CoreMeaning>⟧.is_live self.old name.now local numbers }
-        requires can { ⟦<P as CoreMeaning>⟧.can_take self.old (Act name.now) }
         requires request { ⟦<P as CoreMeaning>⟧.is_its_request self.old name.now asks.now.request }
         requires at { ⟦<P as CoreMeaning>⟧.is_its_place self.old name.now asks.now.at }
         ensures stepped { MatchResult result (λ s. ⟦<P as CoreMeaning>⟧.is_step self.old (Act name.now) self.new s.0) (λ e. ⟦<P as CoreMeaning>⟧.is_refused self.old (Act name.now) e × (self.new ≡ self.old)) }
         ensures moved { IfOk result (λ s. ⟦<P as CoreMeaning>⟧.is_moved self.old (Act name.now) s.1) }
     {
+        if self.fault.is_some() {
+            return Err(StepFault::NotEnabled);
+        }
         if self.steps >= MOST_STEPS {
-            return Err(StepFault::Full);
+            return Err(self.fault_at_the_most(name, &asks.request));
         }
         self.act(alloc, name, &asks.at, numbers, &asks.request)
+    }
+
+    /// Why a task's step isn't made after the most steps: the task is blocked, or would be one too many.
+    fn fault_at_the_most(
+        &self,
+        name: &TaskName<<P::Lat as Lattice>::Event>,
+        request: &Request<P::Lat, <P::Lat as Reads>::Read, P::Local>,
+    ) -> StepFault
+        requires most { self.now.steps ≡ MOST_STEPS }
+        requires there { IsSome (⟦<P as CoreMeaning>⟧.local_in self.now name.now) }
+        requires request { ⟦<P as CoreMeaning>⟧.is_its_request self.now name.now request.now }
+        ensures { ⟦<P as CoreMeaning>⟧.is_refused self.now (Act name.now) result }
+    {
+        if self.can_act(name, request) {
+            StepFault::Full
+        } else {
+            StepFault::NotEnabled
+        }
     }
 }

@@ -2,7 +2,7 @@
 
 ghost use Rattle.std.specs.Prelude.{◌<◌};
 ghost use Rattle.lvish_calculus.specs.declared.request.Request.TheVariants.{Get};
-ghost use Rattle.lvish_core.specs.Acts.{IsActing, Acts};
+ghost use Rattle.lvish_core.specs.Acts.{IsAsked, ActsIfReady};
 ghost use Rattle.lvish_core.specs.Tasks.{IsAt};
 
 use super::Core;
@@ -16,7 +16,7 @@ use lvish_names::TaskName;
 use std::alloc::Global;
 
 impl<'p, P: Program> Core<'p, P> {
-    /// Gives the task the answer of its read, which has one.
+    /// Gives the task the answer of its read, where it has one.
     pub(super) fn get(
         &mut self,
         alloc: Global,
@@ -27,13 +27,13 @@ impl<'p, P: Program> Core<'p, P> {
         read: &<P::Lat as Reads>::Read,
     ) -> Result<(Stepped, Moved<<P::Lat as Lattice>::Event, P::Local>), StepFault>
         requires room { self.old.steps < MOST_STEPS }
-        requires acting { IsActing (⟦<P as Meaning>⟧.machine self.old.program) self.old name.now at.now numbers.forks numbers.adds numbers.puts (Get variable read.now) }
+        requires asked { IsAsked (⟦<P as Meaning>⟧.machine self.old.program) self.old name.now at.now numbers.forks numbers.adds numbers.puts (Get variable read.now) }
         requires there { IsAt self.old.table.tasks numbers.index name.now }
-        ensures { Acts (⟦<P as Meaning>⟧.machine self.old.program) self.old name.now self.new result }
+        ensures { ActsIfReady (⟦<P as Meaning>⟧.machine self.old.program) self.old name.now (Get variable read.now) self.new result }
     {
         match self.variables[variable].read(read) {
             Some(answer) => self.go_on(alloc, name, at, numbers, Reply::Answer(answer)),
-            None => unreachable!("the read has an answer"),
+            None => Err(StepFault::NotEnabled),
         }
     }
 }

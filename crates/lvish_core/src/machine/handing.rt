@@ -1,6 +1,7 @@
 //! A handler's step.
 
 ghost use Rattle.std.specs.Prelude.{◌≡◌, ◌<◌, IfOk, IfErr, MatchResult};
+ghost use Rattle.lvish_core.specs.Beside.{IsPostedAt};
 ghost use Rattle.lvish_core.specs.Handed.{IsHanded, IsNotHanded, IsHanding, Hands};
 
 use super::Core;
@@ -48,14 +49,18 @@ impl<'p, P: Program> Core<'p, P> {
         let Some(place) = self.places.get(name) else {
             return Err(StepFault::NotEnabled);
         };
+        let variable = &self.variables[place.variable];
         let beside = &self.handlers[place.variable];
-        let Some(event) = beside.next(&self.variables[place.variable], name) else {
+        let Some(at) = beside.find(name) else {
+            return Err(StepFault::NotEnabled);
+        };
+        let Some(event) = beside.next_at(variable, at) else {
             return Err(StepFault::NotEnabled);
         };
         if self.is_full() {
             return Err(StepFault::Full);
         }
-        self.hand(alloc, name, place, event)
+        self.hand(alloc, name, place, at, event)
     }
 
     /// Hands the event that comes next, and starts the task that handles it.
@@ -64,10 +69,12 @@ impl<'p, P: Program> Core<'p, P> {
         alloc: Global,
         name: &HandlerName<<P::Lat as Lattice>::Event>,
         place: HandlerPlace,
+        at: usize,
         event: <P::Lat as Lattice>::Event,
     ) -> Result<(Stepped, Moved<<P::Lat as Lattice>::Event, P::Local>), StepFault>
         requires room { self.old.steps < MOST_STEPS }
         requires handing { IsHanding (⟦<P as Meaning>⟧.machine self.old.program) self.old name.now place event }
+        requires at { IsPostedAt name.now place at self.old.table.handlers }
         ensures { Hands (⟦<P as Meaning>⟧.machine self.old.program) self.old name.now event self.new result }
     {
         lawful::<P>();
@@ -84,7 +91,7 @@ impl<'p, P: Program> Core<'p, P> {
             local: self.program.copy_local(alloc, &local)?,
         };
         self.tasks.insert(task, Stage::started(local))?;
-        hand_at(&mut self.handlers, &self.variables, name, place);
+        hand_at(&mut self.handlers, &self.variables, name, place, at);
         self.running += 1;
         self.steps += 1;
         self.touched = Some(Touched::Handed(place.variable));

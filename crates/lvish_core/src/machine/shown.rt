@@ -78,6 +78,18 @@ impl<'p, P: Program> Core<'p, P> {
         self.handlers[place.variable].next(&self.variables[place.variable], name)
     }
 
+    /// Whether an event comes next for the handler.
+    pub fn has_next(&self, name: &HandlerName<<P::Lat as Lattice>::Event>) -> bool
+        ensures { IsTrue result ↔ ((e : P.Lat.Event) × ⟦<P as CoreMeaning>⟧.is_next self.now name.now e) }
+    {
+        lawful::<P>();
+        handlers_are_held::<P>();
+        let Some(place) = self.places.get(name) else {
+            return false;
+        };
+        self.handlers[place.variable].has_next(&self.variables[place.variable], name)
+    }
+
     /// Whether there is a handler of this name.
     pub fn holds(&self, name: &HandlerName<<P::Lat as Lattice>::Event>) -> bool
         ensures { IsTrue result ↔ ⟦<P as CoreMeaning>⟧.is_held self.now name.now }

@@ -21,6 +21,6 @@ returns-clause-left g c =
       work = record {
         hands = c.list_hands.new.list.items;
         are = subst (λ hs. AreThose (λ h. HasNext M c.args.core.now h) hs c.list_hands.new.list.items) concerned c.list_hands.ensures;
-        is = ap (λ ps. tickets ++ acts ps ++ handings c.given-hands.result.items) c.given-woken.ensures ∙ ap (λ hs. tickets ++ acts c.wake.new.woken.items ++ handings hs) c.given-hands.ensures;
+        is = ap (λ ps. tickets ++ acts ps ++ handings c.give-2.new.list.items) c.give.ensures ∙ ap (λ hs. tickets ++ acts c.wake.new.woken.items ++ handings hs) c.give-2.ensures;
       };
     })

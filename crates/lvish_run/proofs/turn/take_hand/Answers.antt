@@ -1,13 +1,21 @@
-use Rattle.std.proofs.Common.{refl}
+use Rattle.std.proofs.Common.{refl, true≢false}
 use Rattle.lvish_run.proofs.Firsts.{handler_there}
 use Rattle.lvish_run.proofs.turn.take_hand.Goals as goal
 
+pub unreachable-requires : goal.unreachable-requires
+unreachable-requires g c = true≢false (c.in-Gone.ensures.comes c.args.handler refl).gone
+
 pub unreachable-requires-in-Parked : goal.unreachable-requires-in-Parked
-unreachable-requires-in-Parked g c = (c.in-Parked.ensures.parked refl).0 c.requires.next.0 c.requires.next.1
+unreachable-requires-in-Parked g c = ((c.in-Parked.ensures.comes c.args.handler refl).parked refl).0 c.requires.next.0 c.requires.next.1
 
 pub unreachable-requires-in-Stale : goal.unreachable-requires-in-Stale
 unreachable-requires-in-Stale g c =
-    (c.in-Stale.ensures.stale refl).0 (handler_there _ g.J.Named.program g.J.Named.budget c.args.board.now c.is_sound.ensures c.requires.running (c.hands_one_event.ensures.open g.J.Named.program) c.args.handler c.requires.next)
+    ((c.in-Stale.ensures.comes c.args.handler refl).stale refl).0 (handler_there _ g.J.Named.program g.J.Named.budget c.args.board.now c.is_sound.ensures c.requires.running (c.hands_one_event.ensures.open g.J.Named.program) c.args.handler c.requires.next)
 
 pub returns-in-Next : goal.returns-in-Next
-returns-in-Next g c = λ e next. record { entered = c.in-Next.ensures.step refl e next; listed = c.in-Next.ensures.list e next }
+returns-in-Next g c = λ e next.
+    let k = c.in-Next.ensures.comes c.args.handler refl in record { entered = k.step refl e next; listed = k.list e next }
+
+pub returns-in-Over : goal.returns-in-Over
+returns-in-Over g c =
+    let k = c.in-Over.ensures.comes c.args.handler refl in (record { trace = (k.stays refl).0; core = (k.stays refl).1 }, k.over refl)

@@ -1,16 +1,21 @@
+use Rattle.std.proofs.Common.{refl}
+use Rattle.lvish_board.specs.Vocabulary.{HandTo}
+use Rattle.lvish_board.proofs.Comes.{hand_whole}
 use Rattle.lvish_board.proofs.board.Board.hand.Goals as goal
 
 pub returns : goal.returns
-returns g c = record {
-  stays = c.hand_once.ensures.stays;
-  step = c.hand_once.ensures.step;
-  gone = c.hand_once.ensures.gone;
-  list = c.hand_once.ensures.list;
-  noted = c.hand_once.ensures.noted;
-  own = c.hand_once.ensures.own;
-  over = c.hand_once.ensures.over;
-  done = c.hand_once.ensures.done;
-  stale = c.hand_once.ensures.stale;
-  parked = c.hand_once.ensures.parked;
-  memory = c.hand_once.ensures.memory;
-}
+returns g c =
+    let same = c.of.ensures (HandTo c.args.handler) (λ e. c.as_work.ensures c.args.handler (c.hand_into-came.ensures.back e)) in
+    let k = hand_whole _ _ _ same (c.hand_into-came.ensures.comes c.args.handler refl) in record {
+      stays = k.stays;
+      step = k.step;
+      gone = k.gone;
+      list = k.list;
+      noted = k.noted;
+      own = k.own;
+      over = k.over;
+      done = k.done;
+      stale = k.stale;
+      parked = k.parked;
+      memory = k.memory;
+    }

@@ -11,7 +11,7 @@ use Rattle.lvish_board.specs.Noted.{entries_of, label_at}
 use Rattle.lvish_board.specs.Standing.{labels_of}
 use Rattle.lvish_board.proofs.Acting.{act_tickets, error_done, error_kept, error_listed, is_done, not_done}
 use Rattle.lvish_board.proofs.Blocked.{IsMade, is_listed, kept_made, still_current}
-use Rattle.lvish_board.proofs.Comes.{act_gone, act_left}
+use Rattle.lvish_board.proofs.Comes.{act_gone, act_left, left_kept}
 use Rattle.lvish_board.proofs.Concerned.{act_made, few_added}
 use Rattle.lvish_board.proofs.Handing.{seen_core, seen_parked}
 use Rattle.lvish_board.proofs.Noting.{acts_there, all_noted, written}
@@ -19,63 +19,63 @@ use Rattle.lvish_board.proofs.board.Board.make.Goals.{In-Error, After-left_by-le
 use Rattle.lvish_board.proofs.board.Board.make.Goals as goal
 
 -- a step that gave an error
-failed : (g : _) (c : In-Error g) → IsStep (machine_of g.P.Lat.PartialEq.eq g.P.Lat.Event.PartialEq.eq g.P.Lat.Event.Ord.cmp g.P.Lat.Lattice.least g.P.Lat.Lattice.joined g.P.Lat.Lattice.events_of g.P.Lat.Reads.answer_of (g.P.Program.functions g.J.Named.program)) c.self.inside.core (Act c.args.asked.task) c.step_with_room.new.core (ErrorStep c.in-Error.kind)
+failed : (g : _) (c : In-Error g) → IsStep (machine_of g.P.Lat.PartialEq.eq g.P.Lat.Event.PartialEq.eq g.P.Lat.Event.Ord.cmp g.P.Lat.Lattice.least g.P.Lat.Lattice.joined g.P.Lat.Lattice.events_of g.P.Lat.Reads.answer_of (g.P.Program.functions g.J.Named.program)) c.self.inside.core (Act c.args.asked.now.task) c.step_with_room.new.core (ErrorStep c.in-Error.kind)
 failed g c =
     let M = machine_of g.P.Lat.PartialEq.eq g.P.Lat.Event.PartialEq.eq g.P.Lat.Event.Ord.cmp g.P.Lat.Lattice.least g.P.Lat.Lattice.joined g.P.Lat.Lattice.events_of g.P.Lat.Reads.answer_of (g.P.Program.functions g.J.Named.program) in
-    subst (λ r. IsStep M c.self.inside.core (Act c.args.asked.task) c.step_with_room.new.core r) c.in-Error.is c.in-Ok.ensures.made.step
+    subst (λ r. IsStep M c.self.inside.core (Act c.args.asked.now.task) c.step_with_room.new.core r) c.in-Error.is c.in-Ok.ensures.made.step
 
 pub invariant_of-self-in-Error : goal.invariant_of-self-in-Error
 invariant_of-self-in-Error g c =
     let step = failed g (goal.at.invariant_of-self-in-Error g c).In-Error in
     let live = (rw (← c.self.view_is) at c.requires.live).1 in
-    let there = step.indices c.args.numbers.index c.args.asked.task live in
-    let noted = all_noted (task_names c.self.inside.core.table.tasks) (task_names c.step_with_room.new.core.table.tasks) step.indices c.self.inside.trace.items c.step_with_room.new.trace.items c.args.worker (ActStep c.args.numbers.index) c.self.invariant.1 c.in-Ok.ensures.written (c.args.asked.task, there) in
-    let longer = written (task_names c.self.inside.core.table.tasks) (task_names c.step_with_room.new.core.table.tasks) step.indices c.self.inside.trace.items c.step_with_room.new.trace.items c.args.worker (ActStep c.args.numbers.index) c.self.invariant.1 c.in-Ok.ensures.written (Act c.args.asked.task) (acts_there (task_names c.step_with_room.new.core.table.tasks) c.args.numbers.index c.args.asked.task there) in
+    let there = step.indices c.args.numbers.index c.args.asked.now.task live in
+    let noted = all_noted (task_names c.self.inside.core.table.tasks) (task_names c.step_with_room.new.core.table.tasks) step.indices c.self.inside.trace.items c.step_with_room.new.trace.items c.args.worker (ActStep c.args.numbers.index) c.self.invariant.1 c.in-Ok.ensures.written (c.args.asked.now.task, there) in
+    let longer = written (task_names c.self.inside.core.table.tasks) (task_names c.step_with_room.new.core.table.tasks) step.indices c.self.inside.trace.items c.step_with_room.new.trace.items c.args.worker (ActStep c.args.numbers.index) c.self.invariant.1 c.in-Ok.ensures.written (Act c.args.asked.now.task) (acts_there (task_names c.step_with_room.new.core.table.tasks) c.args.numbers.index c.args.asked.now.task there) in
     (c.self.invariant.0, noted, error_kept _ _ _ _ _ step _ _ _ _ _ _ c.args.worker _ c.self.invariant.2 (rw (← c.self.view_is) at c.requires.room) longer c.error_outcome.ensures)
 
-pub returns-in-Error : goal.returns-in-Error
-returns-in-Error g c =
-    let step = failed g (goal.at.returns-in-Error g c).In-Error in
+pub returns-in-Error-clause-comes : goal.returns-in-Error-clause-comes
+returns-in-Error-clause-comes g c =
+    let step = failed g (goal.at.returns-in-Error-clause-comes g c).In-Error in
     let live = (rw (← c.self.view_is) at c.requires.live).1 in
-    let there = acts_there (task_names c.step_with_room.new.core.table.tasks) c.args.numbers.index c.args.asked.task (step.indices c.args.numbers.index c.args.asked.task live) in
-    let longer = written (task_names c.self.inside.core.table.tasks) (task_names c.step_with_room.new.core.table.tasks) step.indices c.self.inside.trace.items c.step_with_room.new.trace.items c.args.worker (ActStep c.args.numbers.index) c.self.invariant.1 c.in-Ok.ensures.written (Act c.args.asked.task) there
-    ∙ ap (λ b. b.trace ++ entry_of c.args.worker (Act c.args.asked.task) ∷ []) c.self.view_is in
-    act_gone _ c.requires.running longer (error_done _ _ _ _ _ step) (error_listed _ _ _ _ _ step _ c.args.self.now _ (seen_core c.self.view_is) refl (sym (seen_parked c.self.view_is)) _ c.none.ensures.list)
-    (ap (label_at _) c.none.ensures.step ∙ there) c.none.ensures.own
+    let there = acts_there (task_names c.step_with_room.new.core.table.tasks) c.args.numbers.index c.args.asked.now.task (step.indices c.args.numbers.index c.args.asked.now.task live) in
+    let longer = written (task_names c.self.inside.core.table.tasks) (task_names c.step_with_room.new.core.table.tasks) step.indices c.self.inside.trace.items c.step_with_room.new.trace.items c.args.worker (ActStep c.args.numbers.index) c.self.invariant.1 c.in-Ok.ensures.written (Act c.args.asked.now.task) there
+    ∙ ap (λ b. b.trace ++ entry_of c.args.worker (Act c.args.asked.now.task) ∷ []) c.self.view_is in
+    act_gone _ c.requires.running longer (error_done _ _ _ _ _ step) (error_listed _ _ _ _ _ step _ c.args.self.now _ (seen_core c.self.view_is) refl (sym (seen_parked c.self.view_is)) _ c.empty.ensures.list)
+    (ap (label_at _) c.empty.ensures.step ∙ there) c.empty.ensures.own
 
 -- a step that gave none, and how many handlers it added at most
-made : (g : _) (c : After-left_by-left g) → IsMade (machine_of g.P.Lat.PartialEq.eq g.P.Lat.Event.PartialEq.eq g.P.Lat.Event.Ord.cmp g.P.Lat.Lattice.least g.P.Lat.Lattice.joined g.P.Lat.Lattice.events_of g.P.Lat.Reads.answer_of (g.P.Program.functions g.J.Named.program)) g.P.Lat.Event.Ord.cmp c.self.inside.core (Act c.args.asked.task) c.step_with_room.new.core c.in-Ok.logged c.step_with_room.new.room.concerned.items c.left_by-left.result.added c.in-Ok.moved
-    × (length (option_list c.left_by-left.result.added) ≤ most_added ((g.P.Program.functions g.J.Named.program).request c.args.asked.from))
+made : (g : _) (c : After-left_by-left g) → IsMade (machine_of g.P.Lat.PartialEq.eq g.P.Lat.Event.PartialEq.eq g.P.Lat.Event.Ord.cmp g.P.Lat.Lattice.least g.P.Lat.Lattice.joined g.P.Lat.Lattice.events_of g.P.Lat.Reads.answer_of (g.P.Program.functions g.J.Named.program)) g.P.Lat.Event.Ord.cmp c.self.inside.core (Act c.args.asked.now.task) c.step_with_room.new.core c.in-Ok.logged c.step_with_room.new.room.concerned.items c.left_by-left.result.added c.in-Ok.moved
+    × (length (option_list c.left_by-left.result.added) ≤ most_added ((g.P.Program.functions g.J.Named.program).request c.args.asked.now.from))
 made g c =
     let M = machine_of g.P.Lat.PartialEq.eq g.P.Lat.Event.PartialEq.eq g.P.Lat.Event.Ord.cmp g.P.Lat.Lattice.least g.P.Lat.Lattice.joined g.P.Lat.Lattice.events_of g.P.Lat.Reads.answer_of (g.P.Program.functions g.J.Named.program) in
     let k = c.in-Ok.ensures.made in
-    let step = subst (λ r. IsStep M c.self.inside.core (Act c.args.asked.task) c.step_with_room.new.core r) c.in-Done.is k.step in
+    let step = subst (λ r. IsStep M c.self.inside.core (Act c.args.asked.now.task) c.step_with_room.new.core r) c.in-Done.is k.step in
     let ok = c.lawful.ensures g.J.Named.program in
     let at = ap local_of (rw (← c.self.view_is) at c.requires.live).0 in (
       act_made _ _ ok _ _ _ _ _ _ step at k.concerned k.long (labels_of (entries_of (task_names c.self.inside.core.table.tasks) c.self.inside.trace.items)) c.self.invariant.2.leads _ k.told _ c.left_by-left.ensures.added,
       few_added _ _ ok _ _ _ _ _ _ step at k.concerned k.long c.left_by-left.result.added (c.left_by-left.ensures.added ∙ ap (λ m. m.added) k.told),
     )
 
-pub leave-works-requires-clause-program : goal.leave-works-requires-clause-program
-leave-works-requires-clause-program g c = (made g (goal.at.leave-works-requires-clause-program g c).After-left_by-left).0.step.program ∙ c.self.invariant.2.program_is
+pub leave-requires-clause-program : goal.leave-requires-clause-program
+leave-requires-clause-program g c = (made g (goal.at.leave-requires-clause-program g c).After-left_by-left).0.step.program ∙ c.self.invariant.2.program_is
 
-pub leave-works-requires-clause-logged : goal.leave-works-requires-clause-logged
-leave-works-requires-clause-logged g c = (made g (goal.at.leave-works-requires-clause-logged g c).After-left_by-left).0.is_logged
+pub leave-requires-clause-logged : goal.leave-requires-clause-logged
+leave-requires-clause-logged g c = (made g (goal.at.leave-requires-clause-logged g c).After-left_by-left).0.is_logged
 
-pub leave-works-requires-clause-current : goal.leave-works-requires-clause-current
-leave-works-requires-clause-current g c = λ p i. still_current (c.waiting_tasks.ensures.until_touched g.J.Named.program) (made g (goal.at.leave-works-requires-clause-current g c).After-left_by-left).0 p (c.self.invariant.2.blocked p i)
+pub leave-requires-clause-current : goal.leave-requires-clause-current
+leave-requires-clause-current g c = λ p i. still_current (c.waiting_tasks.ensures.until_touched g.J.Named.program) (made g (goal.at.leave-requires-clause-current g c).After-left_by-left).0 p (c.self.invariant.2.blocked p i)
 
-pub leave-works-requires-clause-empty : goal.leave-works-requires-clause-empty
-leave-works-requires-clause-empty g c = c.in-Ok.ensures.empty
+pub leave-requires-clause-empty : goal.leave-requires-clause-empty
+leave-requires-clause-empty g c = c.in-Ok.ensures.empty
 
-pub leave-works-requires-clause-woken_room : goal.leave-works-requires-clause-woken_room
-leave-works-requires-clause-woken_room g c = subst (λ n. n ≤ vec_capacity c.step_with_room.new.room.woken) c.len-parked.ensures c.in-Ok.ensures.woken_room
+pub leave-requires-clause-woken_room : goal.leave-requires-clause-woken_room
+leave-requires-clause-woken_room g c = subst (λ n. n ≤ vec_capacity c.step_with_room.new.room.woken) c.len-parked.ensures c.in-Ok.ensures.woken_room
 
-pub leave-works-requires-clause-concerned_room : goal.leave-works-requires-clause-concerned_room
-leave-works-requires-clause-concerned_room g c = omega (arith, c.in-Ok.ensures.concerned_room, (made g (goal.at.leave-works-requires-clause-concerned_room g c).After-left_by-left).1)
+pub leave-requires-clause-concerned_room : goal.leave-requires-clause-concerned_room
+leave-requires-clause-concerned_room g c = omega (arith, c.in-Ok.ensures.concerned_room, (made g (goal.at.leave-requires-clause-concerned_room g c).After-left_by-left).1)
 
-pub leave-works-requires-clause-hands_room : goal.leave-works-requires-clause-hands_room
-leave-works-requires-clause-hands_room g c = omega (arith, c.in-Ok.ensures.hands_room, (made g (goal.at.leave-works-requires-clause-hands_room g c).After-left_by-left).1)
+pub leave-requires-clause-hands_room : goal.leave-requires-clause-hands_room
+leave-requires-clause-hands_room g c = omega (arith, c.in-Ok.ensures.hands_room, (made g (goal.at.leave-requires-clause-hands_room g c).After-left_by-left).1)
 
 pub invariant_of-self-in-Done : goal.invariant_of-self-in-Done
 invariant_of-self-in-Done g c =
@@ -83,24 +83,30 @@ invariant_of-self-in-Done g c =
     let k = (made g (goal.at.invariant_of-self-in-Done g c).After-left_by-left).0 in
     let going = ap (λ b. b.over) c.self.view_is ∙ c.requires.running in
     let live = (rw (← c.self.view_is) at c.requires.live).1 in
-    let there = k.step.indices c.args.numbers.index c.args.asked.task live in
-    let noted = all_noted (task_names c.self.inside.core.table.tasks) (task_names c.step_with_room.new.core.table.tasks) k.step.indices c.self.inside.trace.items c.step_with_room.new.trace.items c.args.worker (ActStep c.args.numbers.index) c.self.invariant.1 c.in-Ok.ensures.written (c.args.asked.task, there) in
-    let longer = written (task_names c.self.inside.core.table.tasks) (task_names c.step_with_room.new.core.table.tasks) k.step.indices c.self.inside.trace.items c.step_with_room.new.trace.items c.args.worker (ActStep c.args.numbers.index) c.self.invariant.1 c.in-Ok.ensures.written (Act c.args.asked.task) (acts_there (task_names c.step_with_room.new.core.table.tasks) c.args.numbers.index c.args.asked.task there) in
-    (c.self.invariant.0, noted, kept_made (c.waiting_tasks.ensures.until_touched g.J.Named.program) k (c.passes_at_its_spot.ensures g.J.Named.program) sound.blocked c.leave-works.ensures.left _ _ _ _ _ c.args.worker sound going (rw (← c.self.view_is) at c.requires.room) longer (c.leave-works.ensures.once sound.once))
+    let there = k.step.indices c.args.numbers.index c.args.asked.now.task live in
+    let noted = all_noted (task_names c.self.inside.core.table.tasks) (task_names c.step_with_room.new.core.table.tasks) k.step.indices c.self.inside.trace.items c.step_with_room.new.trace.items c.args.worker (ActStep c.args.numbers.index) c.self.invariant.1 c.in-Ok.ensures.written (c.args.asked.now.task, there) in
+    let longer = written (task_names c.self.inside.core.table.tasks) (task_names c.step_with_room.new.core.table.tasks) k.step.indices c.self.inside.trace.items c.step_with_room.new.trace.items c.args.worker (ActStep c.args.numbers.index) c.self.invariant.1 c.in-Ok.ensures.written (Act c.args.asked.now.task) (acts_there (task_names c.step_with_room.new.core.table.tasks) c.args.numbers.index c.args.asked.now.task there) in
+    (c.self.invariant.0, noted, kept_made (c.waiting_tasks.ensures.until_touched g.J.Named.program) k (c.passes_at_its_spot.ensures g.J.Named.program) sound.blocked c.leave.ensures.left _ _ _ _ _ c.args.worker sound going (rw (← c.self.view_is) at c.requires.room) longer (c.leave.ensures.once sound.once))
 
-pub returns-in-Done : goal.returns-in-Done
-returns-in-Done g c =
+pub returns-in-Done-clause-comes : goal.returns-in-Done-clause-comes
+returns-in-Done-clause-comes g c =
     let ok = c.lawful.ensures g.J.Named.program in
-    let k = (made g (goal.at.returns-in-Done g c).After-left_by-left).0 in
+    let k = (made g (goal.at.returns-in-Done-clause-comes g c).After-left_by-left).0 in
     let M = machine_of g.P.Lat.PartialEq.eq g.P.Lat.Event.PartialEq.eq g.P.Lat.Event.Ord.cmp g.P.Lat.Lattice.least g.P.Lat.Lattice.joined g.P.Lat.Lattice.events_of g.P.Lat.Reads.answer_of (g.P.Program.functions g.J.Named.program) in
     let live = (rw (← c.self.view_is) at c.requires.live).1 in
-    let there = acts_there (task_names c.step_with_room.new.core.table.tasks) c.args.numbers.index c.args.asked.task (k.step.indices c.args.numbers.index c.args.asked.task live) in
-    let longer = c.settle.ensures.trace ∙ written (task_names c.self.inside.core.table.tasks) (task_names c.step_with_room.new.core.table.tasks) k.step.indices c.self.inside.trace.items c.step_with_room.new.trace.items c.args.worker (ActStep c.args.numbers.index) c.self.invariant.1 c.in-Ok.ensures.written (Act c.args.asked.task) there
-    ∙ ap (λ b. b.trace ++ entry_of c.args.worker (Act c.args.asked.task) ∷ []) c.self.view_is in
+    let there = acts_there (task_names c.step_with_room.new.core.table.tasks) c.args.numbers.index c.args.asked.now.task (k.step.indices c.args.numbers.index c.args.asked.now.task live) in
+    let longer = c.settle.ensures.trace ∙ written (task_names c.self.inside.core.table.tasks) (task_names c.step_with_room.new.core.table.tasks) k.step.indices c.self.inside.trace.items c.step_with_room.new.trace.items c.args.worker (ActStep c.args.numbers.index) c.self.invariant.1 c.in-Ok.ensures.written (Act c.args.asked.now.task) there
+    ∙ ap (λ b. b.trace ++ entry_of c.args.worker (Act c.args.asked.now.task) ∷ []) c.self.view_is in
     let own = ap is_some (sym c.left_by-left.ensures.own) ∙ sym c.is_some-goes_on.ensures in
-    act_left c.is_some-goes_on.result c.leave-works.result _ c.next_or_gone.ensures.next c.next_or_gone.ensures.gone c.requires.running longer
-    (λ goes done. not_done ok k (own ∙ goes) (subst (λ z. IsDone M z c.args.asked.task) c.settle.ensures.core done))
-    (λ ends. subst (λ z. IsDone M z c.args.asked.task) (sym c.settle.ensures.core) (is_done ok k (own ∙ ends)))
-    (is_listed (c.waiting_tasks.ensures.until_touched g.J.Named.program) k (c.passes_at_its_spot.ensures g.J.Named.program) c.self.invariant.2.blocked c.leave-works.ensures.left (act_tickets c.args.asked.task c.in-Ok.moved c.left_by-left.result.own c.left_by-left.result.made c.left_by-left.ensures.own c.left_by-left.ensures.made) c.args.self.now c.settle.new.self (seen_core c.self.view_is) (seen_parked c.self.view_is) c.settle.ensures.core c.settle.ensures.parked)
-    (ap (λ z. label_at (task_names z.table.tasks) c.leave-works.result.step) c.settle.ensures.core ∙ ap (label_at _) (c.leave-works.ensures.step ∙ c.left_by-left.ensures.step) ∙ there)
-    (ap is_some c.leave-works.ensures.own ∙ sym c.is_some-goes_on.ensures)
+    act_left c.is_some-goes_on.result c.leave.new.works c.next_or_gone.result c.next_or_gone.ensures.next c.next_or_gone.ensures.gone c.requires.running longer
+    (λ goes done. not_done ok k (own ∙ goes) (subst (λ z. IsDone M z c.args.asked.now.task) c.settle.ensures.core done))
+    (λ ends. subst (λ z. IsDone M z c.args.asked.now.task) (sym c.settle.ensures.core) (is_done ok k (own ∙ ends)))
+    (is_listed (c.waiting_tasks.ensures.until_touched g.J.Named.program) k (c.passes_at_its_spot.ensures g.J.Named.program) c.self.invariant.2.blocked c.leave.ensures.left (act_tickets c.args.asked.now.task c.in-Ok.moved c.left_by-left.result.own c.left_by-left.result.made c.left_by-left.ensures.own c.left_by-left.ensures.made) c.args.self.now c.settle.new.self (seen_core c.self.view_is) (seen_parked c.self.view_is) c.settle.ensures.core c.settle.ensures.parked)
+    (ap (λ z. label_at (task_names z.table.tasks) c.leave.new.works.step) c.settle.ensures.core ∙ ap (label_at _) (c.leave.ensures.step ∙ c.left_by-left.ensures.step) ∙ there)
+    (ap is_some c.leave.ensures.own ∙ sym c.is_some-goes_on.ensures)
+
+pub returns-in-Done-clause-back : goal.returns-in-Done-clause-back
+returns-in-Done-clause-back g c = left_kept c.is_some-goes_on.result c.next_or_gone.result c.next_or_gone.ensures.next c.next_or_gone.ensures.gone
+
+pub returns-in-Done-clause-kept : goal.returns-in-Done-clause-kept
+returns-in-Done-clause-kept g c = left_kept c.is_some-goes_on.result c.next_or_gone.result c.next_or_gone.ensures.next c.next_or_gone.ensures.gone

@@ -1,36 +1,43 @@
-use Rattle.std.proofs.Common.{◌≡◌, ◌++◌, ◌∷◌, [], Some, sym, ap, subst, ◌∙◌}
+use Rattle.std.proofs.Common.{rules, ◌≡◌, ◌++◌, ◌∷◌, [], Some, length, sym, ap, subst, ◌∙◌, arith}
 use Rattle.lvish_calculus.specs.Program.{machine_of}
 use Rattle.lvish_names.specs.Names.{handed}
 use Rattle.lvish_board.specs.Vocabulary.{Hand, HandStep}
 use Rattle.lvish_core.specs.Core.{IsNext}
 use Rattle.lvish_core.specs.Tasks.{task_names, IsAt}
 use Rattle.lvish_board.specs.Acts.{entry_of}
+use Rattle.lvish_board.specs.Listed.{option_list}
 use Rattle.lvish_board.specs.Noted.{entries_of, label_at}
 use Rattle.lvish_board.specs.Standing.{labels_of}
 use Rattle.lvish_board.proofs.Blocked.{IsMade, is_listed, kept_made, still_current}
-use Rattle.lvish_board.proofs.Comes.{hand_next}
+use Rattle.lvish_board.proofs.Comes.{for_this, hand_memory, hand_next}
 use Rattle.lvish_board.proofs.Handing.{hand_made, hand_tickets, handed_event, handed_well, seen_core, seen_parked}
 use Rattle.lvish_board.proofs.Noting.{all_noted, hands_there, written}
 use Rattle.lvish_board.proofs.board.Board.make_hand.Goals.{After-ticket_of}
 use Rattle.lvish_board.proofs.board.Board.make_hand.Goals as goal
 
+-- the handler is taken out of its place
+taken : (g : _) (c : After-ticket_of g) → c.take-added.result ≡ Some c.in-Some.name.now
+taken g c = c.take-added.ensures.value ∙ sym c.in-Some.ensures.value
+
 -- the handing
-made : (g : _) (c : After-ticket_of g) → IsMade (machine_of g.P.Lat.PartialEq.eq g.P.Lat.Event.PartialEq.eq g.P.Lat.Event.Ord.cmp g.P.Lat.Lattice.least g.P.Lat.Lattice.joined g.P.Lat.Lattice.events_of g.P.Lat.Reads.answer_of (g.P.Program.functions g.J.Named.program)) g.P.Lat.Event.Ord.cmp c.self.inside.core (Hand c.args.handler c.in-Ok.ensures.made.1.event) c.hand_with_room.new.core 0 c.hand_with_room.new.room.concerned.items (Some c.args.handler) c.in-Ok.moved
+made : (g : _) (c : After-ticket_of g) → IsMade (machine_of g.P.Lat.PartialEq.eq g.P.Lat.Event.PartialEq.eq g.P.Lat.Event.Ord.cmp g.P.Lat.Lattice.least g.P.Lat.Lattice.joined g.P.Lat.Lattice.events_of g.P.Lat.Reads.answer_of (g.P.Program.functions g.J.Named.program)) g.P.Lat.Event.Ord.cmp c.self.inside.core (Hand c.in-Some.name.now c.in-Ok.ensures.made.1.event) c.hand_with_room.new.core 0 c.hand_with_room.new.room.concerned.items c.take-added.result c.in-Ok.moved
 made g c =
+    let M = machine_of g.P.Lat.PartialEq.eq g.P.Lat.Event.PartialEq.eq g.P.Lat.Event.Ord.cmp g.P.Lat.Lattice.least g.P.Lat.Lattice.joined g.P.Lat.Lattice.events_of g.P.Lat.Reads.answer_of (g.P.Program.functions g.J.Named.program) in
     let was = c.in-Ok.ensures.made.1 in
-    hand_made _ _ _ _ _ (handed_well _ _ _ _ _ _ was) _ (labels_of (entries_of (task_names c.self.inside.core.table.tasks) c.self.inside.trace.items)) c.self.invariant.2.leads _ was.moving.change c.in-Ok.ensures.long 0 _
+    subst (λ o. IsMade M g.P.Lat.Event.Ord.cmp c.self.inside.core (Hand c.in-Some.name.now c.in-Ok.ensures.made.1.event) c.hand_with_room.new.core 0 c.hand_with_room.new.room.concerned.items o c.in-Ok.moved) (sym (taken g c))
+    (hand_made _ _ _ _ _ (handed_well _ _ _ _ _ _ was) _ (labels_of (entries_of (task_names c.self.inside.core.table.tasks) c.self.inside.trace.items)) c.self.invariant.2.leads _ was.moving.change c.in-Ok.ensures.long 0 _)
 
 -- the task that it starts stands where the step says
-started : (g : _) (c : After-ticket_of g) → IsAt c.hand_with_room.new.core.table.tasks c.tasks.result (handed c.args.handler.adder c.args.handler.number c.in-Ok.ensures.made.1.event)
+started : (g : _) (c : After-ticket_of g) → IsAt c.hand_with_room.new.core.table.tasks c.tasks.result (handed c.in-Some.name.now.adder c.in-Some.name.now.number c.in-Ok.ensures.made.1.event)
 started g c =
     let was = c.in-Ok.ensures.made.1 in
-    subst (λ i. IsAt c.hand_with_room.new.core.table.tasks i (handed c.args.handler.adder c.args.handler.number was.event)) (sym c.tasks.ensures) was.started
+    subst (λ i. IsAt c.hand_with_room.new.core.table.tasks i (handed c.in-Some.name.now.adder c.in-Some.name.now.number was.event)) (sym c.tasks.ensures) was.started
 
-pub leave-works-requires-clause-program : goal.leave-works-requires-clause-program
-leave-works-requires-clause-program g c = (made g (goal.at.leave-works-requires-clause-program g c).After-ticket_of).step.program ∙ c.self.invariant.2.program_is
+pub leave-requires-clause-program : goal.leave-requires-clause-program
+leave-requires-clause-program g c = (made g (goal.at.leave-requires-clause-program g c).After-ticket_of).step.program ∙ c.self.invariant.2.program_is
 
-pub leave-works-requires-clause-current : goal.leave-works-requires-clause-current
-leave-works-requires-clause-current g c = λ p i. still_current (c.waiting_tasks.ensures.until_touched g.J.Named.program) (made g (goal.at.leave-works-requires-clause-current g c).After-ticket_of) p (c.self.invariant.2.blocked p i)
+pub leave-requires-clause-current : goal.leave-requires-clause-current
+leave-requires-clause-current g c = λ p i. still_current (c.waiting_tasks.ensures.until_touched g.J.Named.program) (made g (goal.at.leave-requires-clause-current g c).After-ticket_of) p (c.self.invariant.2.blocked p i)
 
 pub invariant_of-self-2 : goal.invariant_of-self-2
 invariant_of-self-2 g c =
@@ -39,20 +46,33 @@ invariant_of-self-2 g c =
     let there = started g (goal.at.invariant_of-self-2 g c).After-ticket_of in
     let event = c.in-Ok.ensures.made.1.event in
     let going = ap (λ b. b.over) c.self.view_is ∙ c.requires.running in
-    let noted = all_noted (task_names c.self.inside.core.table.tasks) (task_names c.hand_with_room.new.core.table.tasks) k.step.indices c.self.inside.trace.items c.hand_with_room.new.trace.items c.args.worker (HandStep c.tasks.result) c.self.invariant.1 c.in-Ok.ensures.written (c.args.handler, event, there) in
-    let longer = written (task_names c.self.inside.core.table.tasks) (task_names c.hand_with_room.new.core.table.tasks) k.step.indices c.self.inside.trace.items c.hand_with_room.new.trace.items c.args.worker (HandStep c.tasks.result) c.self.invariant.1 c.in-Ok.ensures.written (Hand c.args.handler event) (hands_there (task_names c.hand_with_room.new.core.table.tasks) c.tasks.result c.args.handler event there) in
-    (c.self.invariant.0, noted, kept_made (c.waiting_tasks.ensures.until_touched g.J.Named.program) k (c.passes_at_its_spot.ensures g.J.Named.program) sound.blocked c.leave-works.ensures.left _ _ _ _ _ c.args.worker sound going (rw (← c.self.view_is) at c.requires.room) longer (c.leave-works.ensures.once sound.once))
+    let noted = all_noted (task_names c.self.inside.core.table.tasks) (task_names c.hand_with_room.new.core.table.tasks) k.step.indices c.self.inside.trace.items c.hand_with_room.new.trace.items c.args.worker (HandStep c.tasks.result) c.self.invariant.1 c.in-Ok.ensures.written (c.in-Some.name.now, event, there) in
+    let longer = written (task_names c.self.inside.core.table.tasks) (task_names c.hand_with_room.new.core.table.tasks) k.step.indices c.self.inside.trace.items c.hand_with_room.new.trace.items c.args.worker (HandStep c.tasks.result) c.self.invariant.1 c.in-Ok.ensures.written (Hand c.in-Some.name.now event) (hands_there (task_names c.hand_with_room.new.core.table.tasks) c.tasks.result c.in-Some.name.now event there) in
+    (c.self.invariant.0, noted, kept_made (c.waiting_tasks.ensures.until_touched g.J.Named.program) k (c.passes_at_its_spot.ensures g.J.Named.program) sound.blocked c.leave.ensures.left _ _ _ _ _ c.args.worker sound going (rw (← c.self.view_is) at c.requires.room) longer (c.leave.ensures.once sound.once))
 
-pub returns : goal.returns
-returns g c =
-    let k = made g (goal.at.returns g c).After-ticket_of in
-    let there = hands_there (task_names c.hand_with_room.new.core.table.tasks) c.tasks.result c.args.handler c.in-Ok.ensures.made.1.event (started g (goal.at.returns g c).After-ticket_of) in
+pub returns-in_default-hand_with_room-clause-comes : goal.returns-in_default-hand_with_room-clause-comes
+returns-in_default-hand_with_room-clause-comes g c = for_this _ _ _ c.in-Some.ensures.value (hand_memory c.requires.running (search rules))
+
+pub leave-requires-clause-concerned_room : goal.leave-requires-clause-concerned_room
+leave-requires-clause-concerned_room g c =
+    let one = ap (λ o. length (option_list o)) (c.take-added.ensures.value ∙ sym c.in-Some.ensures.value) in
+    omega (arith, one, ap length c.in-Ok.ensures.empty.1, c.in-Ok.ensures.concerned_room)
+
+pub leave-requires-clause-hands_room : goal.leave-requires-clause-hands_room
+leave-requires-clause-hands_room g c =
+    let one = ap (λ o. length (option_list o)) (c.take-added.ensures.value ∙ sym c.in-Some.ensures.value) in
+    omega (arith, one, ap length c.in-Ok.ensures.empty.1, c.in-Ok.ensures.hands_room)
+
+pub returns-clause-comes : goal.returns-clause-comes
+returns-clause-comes g c =
+    let k = made g (goal.at.returns-clause-comes g c).After-ticket_of in
+    let there = hands_there (task_names c.hand_with_room.new.core.table.tasks) c.tasks.result c.in-Some.name.now c.in-Ok.ensures.made.1.event (started g (goal.at.returns-clause-comes g c).After-ticket_of) in
     let was = c.in-Ok.ensures.made.1 in
-    let one : (e : g.row.P-Lat-Event.Denot) → IsNext g.P.Lat.Event.PartialEq.eq c.args.self.now.core.table c.args.handler e → was.event ≡ e = λ e comes.
+    let one : (e : g.row.P-Lat-Event.Denot) → IsNext g.P.Lat.Event.PartialEq.eq c.args.self.now.core.table c.in-Some.name.now e → was.event ≡ e = λ e comes.
     handed_event _ _ _ _ _ _ was (c.hands_one_event.ensures.one g.J.Named.program) _ c.self.invariant.2.leads e (rw (← c.self.view_is) at comes) in
-    let longer = c.settle.ensures.trace ∙ written (task_names c.self.inside.core.table.tasks) (task_names c.hand_with_room.new.core.table.tasks) k.step.indices c.self.inside.trace.items c.hand_with_room.new.trace.items c.args.worker (HandStep c.tasks.result) c.self.invariant.1 c.in-Ok.ensures.written (Hand c.args.handler was.event) there
-    ∙ ap (λ b. b.trace ++ entry_of c.args.worker (Hand c.args.handler was.event) ∷ []) c.self.view_is in
-    hand_next c.leave-works.result was.event one c.requires.running longer
-    (is_listed (c.waiting_tasks.ensures.until_touched g.J.Named.program) k (c.passes_at_its_spot.ensures g.J.Named.program) c.self.invariant.2.blocked c.leave-works.ensures.left (hand_tickets c.args.handler was.event c.in-Ok.moved c.ticket_of.result c.ticket_of.ensures) c.args.self.now c.settle.new.self (seen_core c.self.view_is) (seen_parked c.self.view_is) c.settle.ensures.core c.settle.ensures.parked)
-    (ap (λ z. label_at (task_names z.table.tasks) c.leave-works.result.step) c.settle.ensures.core ∙ ap (label_at _) c.leave-works.ensures.step ∙ there)
-    c.leave-works.ensures.own
+    let longer = c.settle.ensures.trace ∙ written (task_names c.self.inside.core.table.tasks) (task_names c.hand_with_room.new.core.table.tasks) k.step.indices c.self.inside.trace.items c.hand_with_room.new.trace.items c.args.worker (HandStep c.tasks.result) c.self.invariant.1 c.in-Ok.ensures.written (Hand c.in-Some.name.now was.event) there
+    ∙ ap (λ b. b.trace ++ entry_of c.args.worker (Hand c.in-Some.name.now was.event) ∷ []) c.self.view_is in
+    for_this _ _ _ c.in-Some.ensures.value (hand_next c.leave.new.works was.event one c.requires.running longer
+    (is_listed (c.waiting_tasks.ensures.until_touched g.J.Named.program) k (c.passes_at_its_spot.ensures g.J.Named.program) c.self.invariant.2.blocked c.leave.ensures.left (hand_tickets c.in-Some.name.now was.event c.in-Ok.moved c.ticket_of.result c.ticket_of.ensures) c.args.self.now c.settle.new.self (seen_core c.self.view_is) (seen_parked c.self.view_is) c.settle.ensures.core c.settle.ensures.parked)
+    (ap (λ z. label_at (task_names z.table.tasks) c.leave.new.works.step) c.settle.ensures.core ∙ ap (label_at _) c.leave.ensures.step ∙ there)
+    c.leave.ensures.own)

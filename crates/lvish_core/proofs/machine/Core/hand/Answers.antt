@@ -2,10 +2,13 @@ use Rattle.lvish_core.proofs.Handing.{can_hand, handing, not_there}
 use Rattle.lvish_core.proofs.Written.{handed_written}
 use Rattle.lvish_core.proofs.machine.Core.hand.Goals as goal
 
-pub hand_at-requires : goal.hand_at-requires
-hand_at-requires g c =
+pub hand_at-requires-clause-fits : goal.hand_at-requires-clause-fits
+hand_at-requires-clause-fits g c =
     rw (c.deref.ensures.value, c.deref_mut.ensures.value)
     (can_hand (c.lawful.ensures c.self.inside.program.now) c.self.invariant (g.met.P.Program.lawful c.self.inside.program.now).known (rw (← c.self.view_is) at c.requires.handing) (c.running_counts.ensures.few c.self.inside.program.now) (rw (← c.self.view_is) at c.requires.room))
+
+pub hand_at-requires-clause-there : goal.hand_at-requires-clause-there
+hand_at-requires-clause-there g c = rw c.deref_mut.ensures.value (rw (← c.self.view_is) at c.requires.at)
 
 pub invariant_of-self-2 : goal.invariant_of-self-2
 invariant_of-self-2 g c =

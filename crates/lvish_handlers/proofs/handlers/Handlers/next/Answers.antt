@@ -1,24 +1,11 @@
-use Rattle.std.proofs.Common.{◌≡◌, Some, None, sym, subst}
-use Rattle.lvish_handlers.specs.Handlers.{HandlersView, next_of}
-use Rattle.lvish_handlers.proofs.Changes.{next_free, next_some, next_none}
+use Rattle.std.proofs.Common.{sym, refl}
 use Rattle.lvish_handlers.proofs.handlers.Handlers.next.Goals as goal
 
+pub next_at-requires : goal.next_at-requires
+next_at-requires g c = (c.args.name.now, c.in-Some.ensures.found)
+
 pub returns-in-Some : goal.returns-in-Some
-returns-in-Some g c =
-    let place = rw c.deref.ensures.value at c.in-Ok.ensures.found in
-    let found = rw c.log.ensures.log at c.in-Some.ensures.lookup.3 in
-    let next = next_some g.L.Event.Ord.cmp g.met.L.Event.Plain.identical g.met.L.Event.Ord.matches_eq g.met.L.Event.Ord.total g.met.L.Event.Eq.laws.refl c.args.variable.now.log c.self.inside.held.items c.args.name.now c.in-Ok.at c.self.invariant.by_name place c.index.result.now c.index.ensures c.in-Some.entry.now found.0 (found.1 _) in
-    subst (λ (v : HandlersView _). Some c.in-Some.entry.now.event ≡ next_of g.L.Event.PartialEq.eq c.args.variable.now.log v.held c.args.name.now) c.self.view_is (sym next)
+returns-in-Some g c = c.next_at.ensures c.args.name.now c.in-Some.ensures.found
 
 pub returns-in-None : goal.returns-in-None
-returns-in-None g c =
-    let place = rw c.deref.ensures.value at c.in-Ok.ensures.found in
-    let past = rw c.log.ensures.log at c.in-None.ensures.lookup.3 in
-    let next = next_none g.L.Event.Ord.cmp g.met.L.Event.Plain.identical g.met.L.Event.Ord.matches_eq g.met.L.Event.Ord.total g.met.L.Event.Eq.laws.refl c.args.variable.now.log c.self.inside.held.items c.args.name.now c.in-Ok.at c.self.invariant.by_name place c.index.result.now c.index.ensures past in
-    subst (λ (v : HandlersView _). None ≡ next_of g.L.Event.PartialEq.eq c.args.variable.now.log v.held c.args.name.now) c.self.view_is (sym next)
-
-pub returns-in-Err : goal.returns-in-Err
-returns-in-Err g c =
-    let gap = rw c.deref.ensures.value at c.in-Err.ensures.gap in
-    let next = next_free g.L.Event.Ord.cmp g.met.L.Event.Plain.identical g.met.L.Event.Ord.matches_eq g.met.L.Event.Ord.total c.args.variable.now.log c.self.inside.held.items c.args.name.now c.in-Err.field-0 gap in
-    subst (λ (v : HandlersView _). None ≡ next_of g.L.Event.PartialEq.eq c.args.variable.now.log v.held c.args.name.now) c.self.view_is (sym next)
+returns-in-None g c = sym (c.in-None.ensures.none refl c.args.variable.now.log)

@@ -1,6 +1,6 @@
 use Rattle.std.proofs.Common.{rules}
 use Rattle.lvish_board.proofs.Steps.{kept_parked}
-use Rattle.lvish_board.proofs.board.Board.park.Goals as goal
+use Rattle.lvish_board.proofs.board.Board.park_asked.Goals as goal
 
 pub invariant_of-self : goal.invariant_of-self
 invariant_of-self g c =
