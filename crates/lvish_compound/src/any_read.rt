@@ -117,6 +117,8 @@ impl Test {
     }
 
     /// The answer at a key.
+    // Apart, so that reads of other places save no registers for its search.
+    #[inline(never)]
     fn in_entry(&self, key: i64, state: &Any) -> Option<i64>
         ensures { result ≡ cell_answer self.now (at (map_in state.now) key) }
     {

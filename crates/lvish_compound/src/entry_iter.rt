@@ -3,6 +3,7 @@ ghost use Rattle.std.specs.Iterator.{at_most};
 ghost use Rattle.std.specs.Map.Iter.{TakesFirst, deref_pair};
 ghost use Rattle.lvish_compound.specs.Stored.{few};
 
+use lvish_lattice::Ranked;
 use std::collections::btree_map;
 use std::marker::Model;
 
@@ -10,7 +11,7 @@ use std::marker::Model;
 #[derive(Drop)]
 pub(crate) enum Rest<'a, K, L> {
     Few(Option<(&'a K, &'a L)>),
-    Tree(btree_map::Iter<'a, K, L>),
+    Tree(btree_map::Iter<'a, Ranked<K>, L>),
 }
 
 /// The entries of a map in the order of their keys.
@@ -39,7 +40,7 @@ impl<'a, K, L> EntryIter<'a, K, L> {
     }
 
     /// The entries of a tree.
-    pub(crate) fn of_tree(entries: btree_map::Iter<'a, K, L>) -> EntryIter<'a, K, L>
+    pub(crate) fn of_tree(entries: btree_map::Iter<'a, Ranked<K>, L>) -> EntryIter<'a, K, L>
         ensures { result ≡ entries.entry }
     {
         EntryIter {
@@ -58,7 +59,10 @@ impl<'a, K, L> Iterator for EntryIter<'a, K, L> {
     fn next(&mut self) -> Option<(&'a K, &'a L)> {
         match &mut self.rest {
             Rest::Few(held) => held.take(),
-            Rest::Tree(entries) => entries.next(),
+            Rest::Tree(entries) => match entries.next() {
+                Some((key, part)) => Some((key.get(), part)),
+                None => None,
+            },
         }
     }
 }

@@ -4,7 +4,7 @@ ghost use Rattle.std.specs.BTreeMap.{insert_entry};
 ghost use Rattle.std.specs.List.Sorted.{IsStrictlySortedBy};
 ghost use Rattle.lvish_compound.specs.Keyed.{key, add, at};
 
-use lvish_lattice::{Lattice, Plain};
+use lvish_lattice::{Lattice, Plain, Ranked};
 use std::alloc::{AllocError, Global};
 use std::collections::BTreeMap;
 use std::collections::btree_map::{Entry, Iter};
@@ -13,7 +13,7 @@ use std::marker::Model;
 /// Entries in a tree, seen as their list in the order of the keys.
 #[derive(Debug)]
 pub(crate) struct Tree<K: Ord, L> {
-    parts: BTreeMap<K, L>,
+    parts: BTreeMap<Ranked<K>, L>,
 }
 
 // Written out, so that it is proved once, and not at each exit of a function that owns one.
@@ -41,7 +41,7 @@ impl<K: Ord, L> Tree<K, L> {
     }
 
     /// The entries in the order of their keys.
-    pub(crate) fn iter(&self) -> Iter<'_, K, L>
+    pub(crate) fn iter(&self) -> Iter<'_, Ranked<K>, L>
         ensures same { result ≡ self.now }
         ensures ascending { IsStrictlySortedBy K.cmp (map key self.now) }
     {
@@ -55,7 +55,10 @@ impl<K: Ord, L> Tree<K, L> {
         if self.parts.len() != 1 {
             return None;
         }
-        self.parts.first_key_value()
+        match self.parts.first_key_value() {
+            Some((key, part)) => Some((key.get(), part)),
+            None => None,
+        }
     }
 
     /// Puts an entry in its place.
@@ -66,7 +69,7 @@ impl<K: Ord, L> Tree<K, L> {
         ensures inserted { IfOk result (λ _. self.new ≡ insert_entry K.cmp self.old key part) }
         ensures refused { IfErr result (λ _. self.new ≡ self.old) }
     {
-        self.parts.insert(key, part)?;
+        self.parts.insert(Ranked::new(key), part)?;
         Ok(())
     }
 
@@ -93,7 +96,7 @@ impl<K: Plain, L: Lattice> Tree<K, L> {
     pub(crate) fn get(&self, of: K) -> Option<&L>
         ensures { unwrap_or (option_copied result) L.least ≡ at K.cmp L.least L.joined self.now of }
     {
-        self.parts.get(&of)
+        self.parts.get(&Ranked::new(of))
     }
 
     /// Puts a copy of the part in its place, and answers true.
@@ -111,7 +114,7 @@ impl<K: Plain, L: Lattice> Tree<K, L> {
     {
         let mut entries = Tree::new(alloc);
         for (key, part) in self.iter() {
-            entries.put_copy(alloc, *key, part)?;
+            entries.put_copy(alloc, *key.get(), part)?;
         }
         Ok(entries)
     }
@@ -123,7 +126,7 @@ impl<K: Plain, L: Lattice> Tree<K, L> {
         ensures added { IfOk result (λ b. (b ≡ is_some (add K.cmp L.least L.joined of part.now self.old)) × (self.new ≡ unwrap_or (add K.cmp L.least L.joined of part.now self.old) self.old)) }
         ensures refused { IfErr result (λ _. self.new ≡ self.old) }
     {
-        let place = self.parts.entry(of)?;
+        let place = self.parts.entry(Ranked::new(of))?;
         let room = match place {
             Entry::Occupied(held) => return held.into_mut().merge(alloc, part),
             Entry::Vacant(room) => room,

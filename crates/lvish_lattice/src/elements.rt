@@ -6,6 +6,7 @@ ghost use Rattle.std.specs.List.Sorted.{IsStrictlySortedBy};
 ghost use Rattle.lvish_lattice.specs.Elements.{few, elements};
 
 use crate::lattice::Plain;
+use crate::ranked::Ranked;
 use crate::row::Row;
 use crate::set_iter::SetIter;
 use std::alloc::{AllocError, Global};
@@ -22,7 +23,7 @@ pub(crate) enum Stored<V: Ord> {
     Nothing,
     One(V),
     Row(Row<V>),
-    Tree(Box<BTreeSet<V>>),
+    Tree(Box<BTreeSet<Ranked<V>>>),
 }
 
 // Written out, so that it is proved once, and not at each exit of a function that owns one.
@@ -60,16 +61,16 @@ impl<V: Ord> Model for Elements<V> {
 }
 
 /// Puts the value in its place in the tree.
-fn put_in_tree<V: Plain>(tree: &mut BTreeSet<V>, x: V) -> Result<(), AllocError>
+fn put_in_tree<V: Plain>(tree: &mut BTreeSet<Ranked<V>>, x: V) -> Result<(), AllocError>
     ensures put { IfOk result (λ _. tree.new.keys ≡ sorted_merge V.cmp true (x ∷ []) tree.old.keys) }
     ensures refused { IfErr result (λ _. tree.new ≡ tree.old) }
 {
-    tree.insert(x)?;
+    tree.insert(Ranked::new(x))?;
     Ok(())
 }
 
 /// A tree of two elements.
-fn tree_of_two<V: Plain>(alloc: Global, x: V, y: V) -> Result<BTreeSet<V>, AllocError>
+fn tree_of_two<V: Plain>(alloc: Global, x: V, y: V) -> Result<BTreeSet<Ranked<V>>, AllocError>
     ensures { IfOk result (λ t. t.keys ≡ sorted_merge V.cmp true (x ∷ []) (y ∷ [])) }
 {
     let mut tree = BTreeSet::new(alloc);
@@ -79,11 +80,16 @@ fn tree_of_two<V: Plain>(alloc: Global, x: V, y: V) -> Result<BTreeSet<V>, Alloc
 }
 
 /// A tree of the elements of a row.
-fn tree_of_row<V: Plain>(alloc: Global, row: &Row<V>) -> Result<BTreeSet<V>, AllocError>
+fn tree_of_row<V: Plain>(alloc: Global, row: &Row<V>) -> Result<BTreeSet<Ranked<V>>, AllocError>
     ensures made { IfOk result (λ t. IsFromIterResult V.cmp row.now t) }
     ensures ascending { IsStrictlySortedBy V.cmp row.now }
 {
-    row.as_slice().iter().copied().collect::<BTreeSet<V>>(alloc)
+    let ranked = row.as_slice().iter().map(
+        |x| -> Ranked<V>
+            ensures { result ≡ x.now }
+        { Ranked::new(*x) },
+    );
+    ranked.collect::<BTreeSet<Ranked<V>>>(alloc)
 }
 
 /// A row with an element that doesn't come behind the others.
@@ -110,11 +116,14 @@ fn grown<V: Plain>(alloc: Global, y: V, x: V) -> Result<Stored<V>, AllocError>
 }
 
 /// A tree of the same elements.
-fn tree_copy<V: Plain>(alloc: Global, tree: &BTreeSet<V>) -> Result<BTreeSet<V>, AllocError>
+fn tree_copy<V: Plain>(
+    alloc: Global,
+    tree: &BTreeSet<Ranked<V>>,
+) -> Result<BTreeSet<Ranked<V>>, AllocError>
     ensures made { IfOk result (λ t. IsFromIterResult V.cmp tree.now.keys t) }
     ensures ascending { IsStrictlySortedBy V.cmp tree.now.keys }
 {
-    tree.iter().copied().collect::<BTreeSet<V>>(alloc)
+    tree.iter().copied().collect::<BTreeSet<Ranked<V>>>(alloc)
 }
 
 impl<V: Plain> Elements<V> {
@@ -188,7 +197,7 @@ impl<V: Plain> Elements<V> {
             Stored::Nothing => false,
             Stored::One(y) => x == *y,
             Stored::Row(row) => row.has(x),
-            Stored::Tree(tree) => tree.contains(&x),
+            Stored::Tree(tree) => tree.contains(&Ranked::new(x)),
         }
     }
 

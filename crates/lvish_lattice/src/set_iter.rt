@@ -5,6 +5,7 @@ ghost use Rattle.std.specs.Slice.Iter.{iter_rest};
 ghost use Rattle.std.specs.Map.Iter.{TakesFirst, deref};
 ghost use Rattle.lvish_lattice.specs.Elements.{few};
 
+use crate::ranked::Ranked;
 use std::collections::btree_set;
 use std::marker::Model;
 use std::slice;
@@ -14,7 +15,7 @@ use std::slice;
 pub(crate) enum Rest<'a, V> {
     Few(Option<&'a V>),
     Row(slice::Iter<'a, V>),
-    Tree(btree_set::Iter<'a, V>),
+    Tree(btree_set::Iter<'a, Ranked<V>>),
 }
 
 /// The elements of a set in ascending order.
@@ -52,7 +53,7 @@ impl<'a, V> SetIter<'a, V> {
     }
 
     /// The elements of a tree.
-    pub(crate) fn of_tree(keys: btree_set::Iter<'a, V>) -> SetIter<'a, V>
+    pub(crate) fn of_tree(keys: btree_set::Iter<'a, Ranked<V>>) -> SetIter<'a, V>
         ensures { result ≡ keys.entry }
     {
         SetIter {
@@ -72,7 +73,10 @@ impl<'a, V> Iterator for SetIter<'a, V> {
         match &mut self.rest {
             Rest::Few(held) => held.take(),
             Rest::Row(items) => items.next(),
-            Rest::Tree(keys) => keys.next(),
+            Rest::Tree(keys) => match keys.next() {
+                Some(key) => Some(key.get()),
+                None => None,
+            },
         }
     }
 }

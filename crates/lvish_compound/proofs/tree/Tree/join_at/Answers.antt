@@ -8,26 +8,29 @@ use Rattle.lvish_compound.proofs.tree.Tree.join_at.Goals as goal
 pub returns-in-Occupied-clause-added : goal.returns-in-Occupied-clause-added
 returns-in-Occupied-clause-added g c =
     let w = c.merge.new.self in
+    let place = rw c.new.ensures at c.in_ok-place.ensures in
     rw (← c.self.view_is) (put_written g.K.Ord.cmp g.L.Lattice.least g.L.Lattice.joined g.met.K.Ord.total c.args.of c.args.part.now c.into_mut.result.now w c.self.inside.parts.entries
-    (map_with_value c.in_ok-place.place w).entries _ c.merge.result c.in_ok-place.ensures.ordered
-    (sym c.in_ok-place.ensures.value ∙ ap entry_value c.in-Occupied.is ∙ c.into_mut.ensures.value)
-    (c.in_ok-place.ensures.update.1 w) (search rules) c.merge.ensures.merged)
+    (map_with_value c.in_ok-place.place w).entries _ c.merge.result place.ordered
+    (sym place.value ∙ ap entry_value c.in-Occupied.is ∙ c.into_mut.ensures.value)
+    (place.update.1 w) (search rules) c.merge.ensures.merged)
 
 pub returns-in-Occupied-clause-refused : goal.returns-in-Occupied-clause-refused
 returns-in-Occupied-clause-refused g c =
     let w = c.merge.new.self in
+    let place = rw c.new.ensures at c.in_ok-place.ensures in
     rw (← c.self.view_is) (kept_written g.K.Ord.cmp g.L.Lattice.least g.L.Lattice.joined g.met.K.Ord.total c.args.of c.args.part.now c.into_mut.result.now w c.self.inside.parts.entries
-    (map_with_value c.in_ok-place.place w).entries _ c.merge.result c.in_ok-place.ensures.ordered
-    (sym c.in_ok-place.ensures.value ∙ ap entry_value c.in-Occupied.is ∙ c.into_mut.ensures.value)
-    (c.in_ok-place.ensures.update.1 w) (search rules) c.merge.ensures.refused)
+    (map_with_value c.in_ok-place.place w).entries _ c.merge.result place.ordered
+    (sym place.value ∙ ap entry_value c.in-Occupied.is ∙ c.into_mut.ensures.value)
+    (place.update.1 w) (search rules) c.merge.ensures.refused)
 
 pub returns-clause-added : goal.returns-clause-added
 returns-clause-added g c =
     let m = c.self.inside.parts in
     let k = c.args.of in
     let w = c.in_ok-or_try_insert_with.field-0.now in
+    let place = rw c.new.ensures at c.in_ok-place.ensures in
     let none : lookup (is_at (g.K.Ord.cmp k)) m.entries ≡ None =
-    subst (λ e. MatchEntry e (ContainsKey g.K.Ord.cmp m k × (get_key g.K.Ord.cmp m k ≡ Some (entry_key e))) (lookup (is_at (g.K.Ord.cmp k)) m.entries ≡ None)) c.in-Vacant.is c.in_ok-place.ensures.found in
-    let is = made_for_none _ _ w (sym (ap entry_value c.in-Vacant.is) ∙ c.in_ok-place.ensures.value ∙ none) c.in_ok-or_try_insert_with.ensures.value in
+    subst (λ e. MatchEntry e (ContainsKey g.K.Ord.cmp m k × (get_key g.K.Ord.cmp m k ≡ Some (entry_key e))) (lookup (is_at (g.K.Ord.cmp k)) m.entries ≡ None)) c.in-Vacant.is place.found in
+    let is = made_for_none _ _ w (sym (ap entry_value c.in-Vacant.is) ∙ place.value ∙ none) c.in_ok-or_try_insert_with.ensures.value in
     rw (← c.self.view_is) (new_written g.K.Ord.cmp g.L.Lattice.least g.L.Lattice.joined k c.args.part.now w m.entries (map_with_value c.in_ok-place.place w).entries _ none
-    (c.in_ok-place.ensures.update.1 w) (search (rules, is)) (search rules))
+    (place.update.1 w) (search (rules, is)) (search rules))
