@@ -1,37 +1,45 @@
-ghost use Rattle.std.specs.Prelude.{◌≡◌, IfOk, IfErr};
+ghost use Rattle.std.specs.Prelude.{◌≡◌, IfOk, IfErr, MatchResult};
+ghost use Rattle.lvish_calculus.specs.declared.label.Label.TheVariants.{Act};
 
 use crate::named::Named;
 use crate::ticket::Ticket;
-use lvish_calculus::{Asks, Program};
+use lvish_calculus::{Asks, Meaning, Program, Request};
+use lvish_core::{Core, CoreMeaning, Moved, StepFault, Stepped, TaskNumbers};
 use lvish_lattice::{Lattice, Reads};
 use lvish_names::TaskName;
-use std::alloc::Global;
+use std::alloc::{AllocError, Global};
 use std::marker::Model;
 use std::mem;
 
 /// A task at a local state, with what it asks for there.
 pub struct Asked<P: Program, J: Named<P>> {
     ticket: Ticket<P, J>,
-    asks: Asks<P::Lat, <P::Lat as Reads>::Read, P::Local>,
+    request: Request<P::Lat, <P::Lat as Reads>::Read, P::Local>,
+    // the local state in which it asks, in which a step goes on; `None` after a step that was refused
+    at: Option<P::Local>,
 }
 
 // Written out, so that it is proved once, and not at each exit of a function that owns one.
 impl<P: Program, J: Named<P>> Drop for Asked<P, J> {
     #[inline(always)]
     fn drop(self) {
-        let Asked { ticket: _, asks: _ } = self;
+        let Asked {
+            ticket: _,
+            request: _,
+            at: _,
+        } = self;
     }
 }
 
 impl<P: Program, J: Named<P>> Model for Asked<P, J> {
-    ghost use Rattle.std.specs.Prelude.{◌≡◌};
+    ghost use Rattle.std.specs.Prelude.{◌≡◌, IfSome};
     ghost use Rattle.lvish_board.specs.Place.{TaskPlace};
 
     ghost Value = { TaskPlace P.Lat.Event P.Local };
 
     ghost view = { λ a. a.ticket };
 
-    ghost invariant = { λ a. (a.asks.request ≡ (P.functions J.program).request a.ticket.from) × (a.asks.at ≡ (P.functions J.program).at a.ticket.from) };
+    ghost invariant = { λ a. (a.request ≡ (P.functions J.program).request a.ticket.from) × IfSome a.at (λ l. l ≡ (P.functions J.program).at a.ticket.from) };
 }
 
 impl<P: Program, J: Named<P>> Asked<P, J> {
@@ -43,7 +51,12 @@ impl<P: Program, J: Named<P>> Asked<P, J> {
         requires at { asks.at ≡ (P.functions J.program).at ticket.from }
         ensures { result ≡ ticket }
     {
-        Asked { ticket, asks }
+        let Asks { request, at } = asks;
+        Asked {
+            ticket,
+            request,
+            at: Some(at),
+        }
     }
 
     /// The task's name.
@@ -61,11 +74,55 @@ impl<P: Program, J: Named<P>> Asked<P, J> {
     }
 
     /// What it asks for.
-    pub(crate) fn asks(&self) -> &Asks<P::Lat, <P::Lat as Reads>::Read, P::Local>
-        ensures request { result.now.request ≡ (P.functions J.program).request self.now.from }
-        ensures at { result.now.at ≡ (P.functions J.program).at self.now.from }
+    pub(crate) fn request(&self) -> &Request<P::Lat, <P::Lat as Reads>::Read, P::Local>
+        ensures { result.now ≡ (P.functions J.program).request self.now.from }
     {
-        &self.asks
+        &self.request
+    }
+
+    /// Makes the task's step on the core, where it stands with these numbers.
+    ///
+    /// # Errors
+    ///
+    /// As the core's; nothing has changed.
+    #[inline(always)]
+    pub(crate) fn step(
+        &mut self,
+        alloc: Global,
+        core: &mut Core<'_, P>,
+        numbers: TaskNumbers,
+    ) -> Result<(Stepped, Moved<<P::Lat as Lattice>::Event, P::Local>), StepFault>
+        requires program { core.old.program ≡ J.program }
+        requires live { ⟦<P as CoreMeaning>⟧.is_live core.old self.old.task self.old.from numbers }
+        ensures stepped { MatchResult result (λ s. ⟦<P as CoreMeaning>⟧.is_step core.old (Act self.old.task) core.new s.0) (λ _. core.new ≡ core.old) }
+        ensures moved { IfOk result (λ s. ⟦<P as CoreMeaning>⟧.is_moved core.old (Act self.old.task) s.1) }
+        ensures same { self.new ≡ self.old }
+    {
+        let at = match self.at.take() {
+            Some(at) => at,
+            None => place_of(alloc, core.program(), &self.ticket.from)?,
+        };
+        self.at = Some(at);
+        core.step_live(
+            alloc,
+            &self.ticket.task,
+            numbers,
+            &self.request,
+            &mut self.at,
+        )
+    }
+
+    /// The local state in which it asked, which is of no more use than its memory.
+    #[inline(always)]
+    pub fn into_from(self) -> P::Local
+        ensures { result ≡ self.from }
+    {
+        let Asked {
+            ticket,
+            request: _,
+            at: _,
+        } = self;
+        ticket.into_from()
     }
 
     /// Takes out the task's name, and leaves another.
@@ -75,6 +132,20 @@ impl<P: Program, J: Named<P>> Asked<P, J> {
     {
         mem::replace(&mut self.ticket.task, TaskName::main())
     }
+}
+
+/// The local state in which a task asks, once more. It isn't inlined, since only a step that was
+/// refused needs it.
+///
+/// # Errors
+///
+/// Where there is no room for it.
+#[inline(never)]
+fn place_of<P: Program>(alloc: Global, program: &P, from: &P::Local) -> Result<P::Local, AllocError>
+    ensures { IfOk result (λ l. l ≡ (P.functions program.now).at from.now) }
+{
+    let Asks { request: _, at } = program.ask(alloc, from)?;
+    Ok(at)
 }
 
 /// Runs the task's local statements, up to what it asks for.
@@ -91,7 +162,27 @@ pub fn stretch<P: Program, J: Named<P>>(
     ensures ok { IfOk result (λ a. a ≡ ticket) }
     ensures err { IfErr result (λ t. t ≡ ticket) }
 {
-    match program.ask(alloc, &ticket.from) {
+    stretch_with(alloc, program, ticket, None)
+}
+
+/// Does what [`stretch`] does. What it makes may lie in the memory of `spare`, a local state that
+/// nobody needs any more.
+///
+/// # Errors
+///
+/// Where there is no room for it, the ticket.
+#[inline(always)]
+pub fn stretch_with<P: Program, J: Named<P>>(
+    alloc: Global,
+    program: &P,
+    ticket: Ticket<P, J>,
+    spare: Option<P::Local>,
+) -> Result<Asked<P, J>, Ticket<P, J>>
+    requires program { program.now ≡ J.program }
+    ensures ok { IfOk result (λ a. a ≡ ticket) }
+    ensures err { IfErr result (λ t. t ≡ ticket) }
+{
+    match program.ask_with(alloc, &ticket.from, spare) {
         Ok(asks) => Ok(Asked::new(ticket, asks)),
         Err(_refused) => Err(ticket),
     }

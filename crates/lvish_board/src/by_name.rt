@@ -112,7 +112,7 @@ impl<P: Program, J: Named<P>> ByName<P, J> {
         let Some(asked) = self.asked.get(name) else {
             return true;
         };
-        if !core.can_act(name, &asked.asks().request) {
+        if !core.can_act(name, asked.request()) {
             return false;
         }
         if let Some(asked) = self.asked.remove(name) {

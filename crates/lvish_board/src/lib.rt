@@ -37,7 +37,7 @@ mod work;
 mod works;
 
 pub use acted::Acted;
-pub use asked::{Asked, stretch};
+pub use asked::{Asked, stretch, stretch_with};
 pub use board::Board;
 pub use came::Came;
 pub use named::Named;

@@ -97,7 +97,7 @@ impl<P: Program, J: Named<P>> Parked<P, J> {
         let Ok(name) = asked.task().copy() else {
             return Err(asked);
         };
-        match &asked.asks().request {
+        match asked.request() {
             Request::Get(variable, read) => {
                 let key = (*variable, <P::Lat as Reads>::watch(read));
                 let Ok(()) = self.gets.push(alloc, key, name) else {

@@ -82,7 +82,7 @@ impl<P: Program, J: Named<P>> Room<P, J> {
         ensures concerned_room { IfOk result (λ _. length self.new.concerned.items + most_added ((P.functions core.now.program).request asked.now.from) ≤ vec_capacity self.new.concerned) }
         ensures hands_room { IfOk result (λ _. length self.new.concerned.items + most_added ((P.functions core.now.program).request asked.now.from) ≤ vec_capacity self.new.hands) }
     {
-        match &asked.asks().request {
+        match asked.request() {
             Request::Put(variable, _) => {
                 let handlers = core.handlers(*variable);
                 self.reserve(parked, handlers.len())?;

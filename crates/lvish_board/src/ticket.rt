@@ -52,6 +52,19 @@ impl<P: Program, J: Named<P>> Ticket<P, J> {
         &self.task
     }
 
+    /// The local state.
+    #[inline(always)]
+    pub(crate) fn into_from(self) -> P::Local
+        ensures { result ≡ self.from }
+    {
+        let Ticket {
+            task: _,
+            from,
+            of: _,
+        } = self;
+        from
+    }
+
     /// An equal ticket.
     ///
     /// # Errors

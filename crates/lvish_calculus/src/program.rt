@@ -60,15 +60,31 @@ pub trait Program {
         ensures request { IfOk result (λ a. a.request ≡ (functions self.now).request local.now) }
         ensures at { IfOk result (λ a. a.at ≡ (functions self.now).at local.now) };
 
-    /// The local state after the request that `at` makes, and its reply.
+    /// What [`ask`](Program::ask) answers. It may lie in the memory of `spare`, a local state that
+    /// nobody needs any more.
+    fn ask_with(
+        &self,
+        alloc: Global,
+        local: &Self::Local,
+        spare: Option<Self::Local>,
+    ) -> Result<Asks<Self::Lat, <Self::Lat as Reads>::Read, Self::Local>, AllocError>
+        ensures request { IfOk result (λ a. a.request ≡ (functions self.now).request local.now) }
+        ensures at { IfOk result (λ a. a.at ≡ (functions self.now).at local.now) }
+    {
+        drop(spare);
+        self.ask(alloc, local)
+    }
+
+    /// The local state after the request that `at` makes, and its reply. It may lie in the memory of
+    /// `at`.
     fn resume(
         &self,
         alloc: Global,
-        at: &Self::Local,
+        at: Self::Local,
         reply: Reply<Self::Lat, <Self::Lat as Reads>::Answer>,
     ) -> Result<Self::Local, AllocError>
-        requires { IsReplyTo ((functions self.now).request at.now) reply }
-        ensures { IfOk result (λ l. l ≡ (functions self.now).resume at.now reply) };
+        requires { IsReplyTo ((functions self.now).request at) reply }
+        ensures { IfOk result (λ l. l ≡ (functions self.now).resume at reply) };
 
     ghost identical: { IsIdentity Self.Local.eq };
 

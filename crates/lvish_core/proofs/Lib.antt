@@ -1,3 +1,4 @@
+pub mod Crossing
 pub mod Maps
 pub mod Indices
 pub mod Ordered

@@ -15,16 +15,16 @@ use std::alloc::{AllocError, Global};
 pub(crate) fn resumed<P: Program>(
     program: &P,
     alloc: Global,
-    at: &P::Local,
+    at: P::Local,
     reply: Reply<P::Lat, <P::Lat as Reads>::Answer>,
     numbers: TaskNumbers,
 ) -> Result<(Stage<P::Local>, P::Local), AllocError>
     // A task asks there, and the reply fits what it asks: two clauses, since the proof of a call takes
     // 20 seconds longer at a single one.
-    requires asks { (l : P.Local) × (at.now ≡ (P.functions program.now).at l) }
-    requires fits { IsReplyTo ((P.functions program.now).request at.now) reply }
-    ensures stage { IfOk result (λ r. standing r.0 ≡ Live ((P.functions program.now).resume at.now reply) numbers.forks numbers.adds numbers.puts) }
-    ensures own { IfOk result (λ r. r.1 ≡ (P.functions program.now).resume at.now reply) }
+    requires asks { (l : P.Local) × (at ≡ (P.functions program.now).at l) }
+    requires fits { IsReplyTo ((P.functions program.now).request at) reply }
+    ensures stage { IfOk result (λ r. standing r.0 ≡ Live ((P.functions program.now).resume at reply) numbers.forks numbers.adds numbers.puts) }
+    ensures own { IfOk result (λ r. r.1 ≡ (P.functions program.now).resume at reply) }
 {
     let local = program.resume(alloc, at, reply)?;
     let own = program.copy_local(alloc, &local)?;

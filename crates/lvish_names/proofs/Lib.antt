@@ -1,2 +1,5 @@
+pub mod Crossing
+mod Links
 pub mod NameLaws
-mod Prefixes
+mod Paths
+mod Summaries

@@ -1,7 +1,6 @@
 -- What follows from the definitions of names.
-use Rattle.std.proofs.Common.{◌≡◌, ◌⊎◌, ◌↔◌, inl, inr, suc, ◌<◌, Bool, true, false, List, reverse, length, nat_le, refl, sym, ◌∙◌, ap, subst}
+use Rattle.std.proofs.Common.{◌≡◌, ◌⊎◌, ◌↔◌, inl, inr, suc, ◌<◌, Bool, true, false, length, nat_le, refl, sym, ◌∙◌, ap, subst}
 use Rattle.std.proofs.lemmas.Bool.{and_parts, cases_Bool, both_ways, false_from_ne_true, false≢true, eqb-true, leb-false, lt-leb}
-use Rattle.std.proofs.lemmas.List.{length-reverse}
 use Rattle.std.proofs.lemmas.Map.Lookups.{CmpEqualImpliesEq}
 use Rattle.std.specs.declared.cmp.Ordering.{Ordering}
 use Rattle.std.specs.declared.cmp.Ordering.TheVariants.{Equal}
@@ -9,7 +8,6 @@ use Rattle.std.specs.Ordering.{eq_by_cmp, is_eq}
 use Rattle.std.specs.Cmp.{IsTotalOrder}
 use Rattle.std.proofs.lemmas.Cmp.{tied_itself}
 use Rattle.lvish_lattice.specs.Lattice.{IsIdentity}
-use Rattle.lvish_names.specs.declared.name_part.NamePart.{NamePart}
 use Rattle.lvish_names.specs.Names.{Name, Handler, main, forked, handed, part_count, is_deep, same_name, same_handler}
 use Rattle.lvish_names.specs.NameOrder.{name_cmp, handler_cmp}
 pub use Rattle.lvish_names.specs.laws.OrderLaws.{same_name-refl, same_handler-refl}
@@ -27,21 +25,12 @@ parts-length (handed t j e) = ap suc (parts-length t)
 pub is_deep-length : {E : Type 0} (t : Name E) → is_deep t ≡ nat_le MOST_PARTS (length t)
 is_deep-length t = ap (λ n. nat_le MOST_PARTS n) (parts-length t)
 
-pub is_deep-from_parts : {E : Type 0} (xs : List (NamePart E)) → is_deep (reverse xs) ≡ nat_le MOST_PARTS (length xs)
-is_deep-from_parts xs = is_deep-length (reverse xs) ∙ ap (λ n. nat_le MOST_PARTS n) (length-reverse xs)
-
 -- a name that isn't deep has room for one more part
 pub lt-from_not_deep : {E : Type 0} (t : Name E) → is_deep t ≡ false → length t < MOST_PARTS
 lt-from_not_deep t h = leb-false MOST_PARTS (length t) (sym (is_deep-length t) ∙ h)
 
-pub few-from_not_deep : {E : Type 0} (xs : List (NamePart E)) (t : Name E) → reverse xs ≡ t → is_deep t ≡ false → length xs < MOST_PARTS
-few-from_not_deep xs t e h = subst (λ n. n < MOST_PARTS) (sym (ap length e) ∙ length-reverse xs) (lt-from_not_deep t h)
-
 pub not_deep-from_lt : {E : Type 0} (t : Name E) → length t < MOST_PARTS → is_deep t ≡ false
 not_deep-from_lt t h = is_deep-length t ∙ lt-leb MOST_PARTS (length t) h
-
-pub not_deep-from_parts : {E : Type 0} (xs : List (NamePart E)) → length xs < MOST_PARTS → is_deep (reverse xs) ≡ false
-not_deep-from_parts xs h = is_deep-from_parts xs ∙ lt-leb MOST_PARTS (length xs) h
 
 -- ---- `==` holds of one name alone
 

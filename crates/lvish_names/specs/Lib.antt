@@ -1,5 +1,6 @@
 pub mod Names
 pub mod Path
+pub mod Summaries
 pub mod NameOrder
 pub mod NameHash
 pub mod NameText

@@ -1,12 +1,18 @@
--- The parts that a name takes of a shared path.
-use Rattle.std.specs.Prelude.{ℕ, List, [], length, take, Option, Some, None}
-use Rattle.lvish_names.specs.declared.name_part.NamePart.{NamePart}
+-- The parts of a name, link by link.
+use Rattle.std.specs.Prelude.{[], ◌∷◌, Option, Some, None}
+use Rattle.lvish_names.specs.declared.path.Link.{Link, Link', Held-Link-before, None', Some'}
+use Rattle.lvish_names.specs.Names.{Name}
 
-abbrev pub path_length : {E : Type 0} → Option (List (NamePart E)) → ℕ
-path_length None = 0
-path_length (Some path) = length path
+abbrev mutual
+  -- the parts that a link ends, the last one first
+  pub link_parts : {E : Type 0} → Link E → Name E
+  link_parts (Link' last before summary) = last ∷ held_parts before
 
--- the first parts, from main on
-abbrev pub first_parts : {E : Type 0} → Option (List (NamePart E)) → ℕ → List (NamePart E)
-first_parts None depth = []
-first_parts (Some path) depth = take depth path
+  pub held_parts : {E : Type 0} → Held-Link-before E → Name E
+  held_parts None' = []
+  held_parts (Some' p link) = link_parts link
+
+-- the parts of a path, which main has none of
+abbrev pub path_parts : {E : Type 0} → Option (Link E) → Name E
+path_parts None = []
+path_parts (Some link) = link_parts link

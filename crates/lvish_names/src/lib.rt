@@ -17,6 +17,9 @@ mod laws;
 mod limits;
 mod name_fault;
 mod name_part;
+mod parts;
+mod path;
+mod summary;
 mod task_name;
 
 pub use handler_name::HandlerName;
@@ -24,4 +27,5 @@ pub use laws::{handler_names_identical, task_names_identical};
 pub use limits::MOST_PARTS;
 pub use name_fault::NameFault;
 pub use name_part::NamePart;
+pub use parts::Parts;
 pub use task_name::TaskName;

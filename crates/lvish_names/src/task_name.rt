@@ -1,52 +1,56 @@
-ghost use Rattle.std.specs.Prelude.{◌≡◌, ◌∷◌, ◌≤◌, ◌↔◌, Some, IfOk, IsErrOf, IsTrue, IsFalse, length, reverse, take};
+ghost use Rattle.std.specs.Prelude.{◌≡◌, ◌∷◌, ◌≤◌, ◌↔◌, Some, IfOk, IsErrOf, IsTrue, IsFalse, length};
+ghost use Rattle.std.specs.Option.{option_copied};
+ghost use Rattle.std.specs.Fmt.{WritesOnOk};
+ghost use Rattle.lvish_names.specs.Path.{path_parts};
 ghost use Rattle.std.specs.String.{string_bytes};
 ghost use Rattle.lvish_names.specs.Names.{main, forked, handed, is_deep, handler_of, same_name};
 ghost use Rattle.lvish_names.specs.NameText.{name_text};
 ghost use Rattle.lvish_names.specs.NameOrder.{name_cmp};
-ghost use Rattle.lvish_names.specs.NameHash.{name_input};
-ghost use Rattle.std.specs.List.{fold};
+ghost use Rattle.lvish_names.specs.Summaries.{IsPathSummed, summary_of};
 
 use crate::handler_name::HandlerName;
 use crate::limits::MOST_PARTS;
 use crate::name_fault::NameFault;
 use crate::name_part::NamePart;
+use crate::parts::Parts;
+use crate::path::{Link, are_same, before, feed, link_of, order, share};
+use crate::summary::Summary;
 use lvish_lattice::{Numbered, Plain};
 use std::alloc::{AllocError, Global};
 use std::cmp::Ordering;
 use std::fmt;
 use std::hash::{Hash, Hasher};
 use std::marker::Model;
-use std::sync::ArcSlice;
+use std::sync::Arc;
 
 /// A task's name: the path from `main` to the task, of at most `MOST_PARTS` parts.
 ///
-/// Copies share it.
+/// A name is its last link, which copies and the names that go on from there share.
 #[derive(Debug)]
 pub struct TaskName<E> {
-    path: Option<ArcSlice<NamePart<E>>>,
-    // how many parts of the path are the name's, from `main` on
-    depth: usize,
+    path: Option<Arc<Link<E>>>,
 }
 
 // Written out, so that it is proved once, and not at each exit of a function that owns one.
 impl<E: Drop> Drop for TaskName<E> {
     fn drop(self) {
-        let TaskName { path: _, depth: _ } = self;
+        let TaskName { path: _ } = self;
     }
 }
 
 impl<E> Model for TaskName<E> {
-    ghost use Rattle.std.specs.Prelude.{◌≤◌, option_map, reverse};
-    ghost use Rattle.std.specs.Arc.{arc_slice_items};
+    ghost use Rattle.std.specs.Prelude.{◌≡◌, ◌≤◌, option_map, length};
+    ghost use Rattle.std.specs.Arc.{arc_value};
     ghost use Rattle.lvish_names.specs.declared.limits.TheConstants.{MOST_PARTS};
     ghost use Rattle.lvish_names.specs.Names.{Name};
-    ghost use Rattle.lvish_names.specs.Path.{first_parts, path_length};
+    ghost use Rattle.lvish_names.specs.Path.{path_parts};
+    ghost use Rattle.lvish_names.specs.Summaries.{IsPathSummed};
 
     ghost Value = { Name E };
 
-    ghost view = { λ n. reverse (first_parts (option_map arc_slice_items n.path) n.depth) };
+    ghost view = { λ n. path_parts (option_map arc_value n.path) };
 
-    ghost invariant = { λ n. (n.depth ≤ path_length (option_map arc_slice_items n.path)) × (n.depth ≤ MOST_PARTS) };
+    ghost invariant = { λ n. IsPathSummed (option_map arc_value n.path) × (length (path_parts (option_map arc_value n.path)) ≤ MOST_PARTS) };
 }
 
 impl<E> TaskName<E> {
@@ -54,21 +58,35 @@ impl<E> TaskName<E> {
     pub fn main() -> Self
         ensures { result ≡ main }
     {
-        TaskName {
-            path: None,
-            depth: 0,
+        TaskName { path: None }
+    }
+
+    /// The last link of its path.
+    fn link(&self) -> Option<&Link<E>>
+        ensures parts { path_parts (option_copied result) ≡ self.now }
+        ensures summed { IsPathSummed (option_copied result) }
+        ensures few { length (path_parts (option_copied result)) ≤ MOST_PARTS }
+    {
+        link_of(&self.path)
+    }
+
+    /// What its last link says of it.
+    #[inline(always)]
+    fn summary(&self) -> Summary
+        ensures of { result ≡ summary_of self.now }
+        ensures few { result.depth ≤ MOST_PARTS }
+    {
+        match self.link() {
+            Some(link) => link.summary,
+            None => Summary::main(),
         }
     }
 
-    /// The parts after `main`, in order from `main`.
-    pub fn parts(&self) -> &[NamePart<E>]
-        ensures parts { result.now ≡ reverse self.now }
-        ensures few { length result.now ≤ MOST_PARTS }
+    /// The parts after `main`, the last one first.
+    pub fn parts(&self) -> Parts<'_, E>
+        ensures { result ≡ self.now }
     {
-        match &self.path {
-            Some(path) => &path.as_slice()[..self.depth],
-            None => &[],
-        }
+        Parts { link: self.link() }
     }
 
     /// How many parts the name has after `main`, at most `MOST_PARTS`.
@@ -76,7 +94,7 @@ impl<E> TaskName<E> {
         ensures length { result ≡ length self.now }
         ensures few { result ≤ MOST_PARTS }
     {
-        self.parts().len()
+        self.summary().depth as usize
     }
 
     /// Whether the name has `MOST_PARTS` parts, so that none may be added.
@@ -128,13 +146,16 @@ impl<E: Plain> TaskName<E> {
     pub fn pool_of(&self) -> Result<Option<HandlerName<E>>, AllocError>
         ensures { IfOk result (λ h. h ≡ handler_of self.now) }
     {
-        let mut parts = self.parts();
-        while let Some((last, before)) = parts.split_last() {
-            if let NamePart::Hand(number, _) = last {
-                let adder = self.up_to(before.len())?;
-                return Ok(Some(HandlerName::of(adder, *number)));
+        if !self.summary().has_event {
+            return Ok(None);
+        }
+        let mut path = self.link();
+        while let Some(link) = path {
+            if let NamePart::Hand(number, _) = link.last {
+                let path = share(&link.before)?;
+                return Ok(Some(HandlerName::of(TaskName { path }, number)));
             }
-            parts = before;
+            path = link_of(&link.before);
         }
         Ok(None)
     }
@@ -147,37 +168,23 @@ impl<E: Plain> TaskName<E> {
     pub fn copy(&self) -> Result<TaskName<E>, AllocError>
         ensures { IfOk result (λ t. t ≡ self.now) }
     {
-        self.up_to(self.len())
-    }
-
-    /// The name of the task to which the first `depth` parts of this name lead.
-    ///
-    /// # Errors
-    ///
-    /// Where more names share the path than can be counted.
-    fn up_to(&self, depth: usize) -> Result<TaskName<E>, AllocError>
-        requires { depth ≤ length self.now }
-        ensures { IfOk result (λ t. t ≡ reverse (take depth (reverse self.now))) }
-    {
-        let path = match &self.path {
-            Some(path) => Some(path.clone()?),
-            None => None,
-        };
-        Ok(TaskName { path, depth })
+        let path = share(&self.path)?;
+        Ok(TaskName { path })
     }
 
     fn followed_by(&self, alloc: Global, part: NamePart<E>) -> Result<TaskName<E>, AllocError>
         requires { IsFalse (is_deep self.now) }
         ensures { IfOk result (λ t. t ≡ part ∷ self.now) }
     {
-        let mut parts = Vec::with_capacity(alloc, self.depth + 1)?;
-        parts.extend_from_slice(self.parts())?;
-        parts.push(part)?;
-        let depth = parts.len();
-        Ok(TaskName {
-            path: Some(ArcSlice::from_vec(parts)?),
-            depth,
-        })
+        let before = share(&self.path)?;
+        let summary = self.summary().followed_by(&part);
+        let link = Link {
+            last: part,
+            before,
+            summary,
+        };
+        let path = Some(Arc::new(alloc, link)?);
+        Ok(TaskName { path })
     }
 }
 
@@ -189,7 +196,7 @@ impl<E: PartialEq> PartialEq for TaskName<E> {
     ghost laws = { name_per E.laws };
 
     fn eq(&self, other: &TaskName<E>) -> bool {
-        self.parts() == other.parts()
+        are_same(self.link(), other.link())
     }
 }
 
@@ -227,7 +234,19 @@ impl<E: Ord> Ord for TaskName<E> {
     ghost matches_eq = { name_ties E.cmp E.matches_eq };
 
     fn cmp(&self, other: &TaskName<E>) -> Ordering {
-        self.parts().cmp(other.parts())
+        let (own, others) = (self.link(), other.link());
+        let (depth, others_depth) = (self.len(), other.len());
+        match depth.cmp(&others_depth) {
+            Ordering::Equal => order(own, others, Ordering::Equal),
+            Ordering::Less => {
+                let beside = before(others, others_depth - depth);
+                order(own, beside, Ordering::Less)
+            }
+            Ordering::Greater => {
+                let beside = before(own, depth - others_depth);
+                order(beside, others, Ordering::Greater)
+            }
+        }
     }
 }
 
@@ -239,17 +258,12 @@ impl<E: Eq + Hash> Hash for TaskName<E> {
     ghost respects_eq = { names_alike E.hash_input E.respects_eq };
 
     fn hash<H: Hasher>(&self, state: &mut H) {
-        feed(self.parts(), state);
-    }
-}
-
-/// Feeds each part to the hasher, the last one first.
-fn feed<E: Eq + Hash, H: Hasher>(parts: &[NamePart<E>], state: &mut H)
-    ensures { state.new ≡ fold H.write state.old (name_input E.hash_input (reverse parts.now)) }
-{
-    if let Some((last, before)) = parts.split_last() {
-        last.hash(state);
-        feed(before, state);
+        let summary = self.summary();
+        if summary.has_event {
+            feed(self.link(), state);
+        } else {
+            state.write_u32(summary.code);
+        }
     }
 }
 
@@ -270,10 +284,23 @@ impl<E: Numbered> fmt::Display for TaskName<E> {
     ghost output = { λ t. Some (name_text E.key_of E.number_of t) };
 
     fn fmt<W: fmt::Write>(&self, f: &mut fmt::Formatter<W>) -> fmt::Result {
-        write!(f, "main")?;
-        for part in self.parts() {
-            write!(f, "/{part}")?;
+        print(self.link(), f)
+    }
+}
+
+/// Prints `main`, and the parts of a path.
+fn print<E: Numbered, W: fmt::Write>(
+    path: Option<&Link<E>>,
+    f: &mut fmt::Formatter<W>,
+) -> fmt::Result
+    ensures { WritesOnOk W.write_str_gives f.old result (name_text E.key_of E.number_of (path_parts (option_copied path.entry))) f.new }
+{
+    match path {
+        None => write!(f, "main"),
+        Some(link) => {
+            print(link_of(&link.before), f)?;
+            let part = &link.last;
+            write!(f, "/{part}")
         }
-        Ok(())
     }
 }

@@ -1,3 +1,4 @@
+pub mod Crossing
 mod Placed
 mod Upcoming
 mod Beside
@@ -9,6 +10,7 @@ mod Walks
 mod Reports
 mod Accounts
 mod Texts
+mod Digits
 pub mod Braces
 mod Counted
 mod Parts

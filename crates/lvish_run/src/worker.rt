@@ -11,11 +11,11 @@ use crate::gate::Gate;
 use crate::own_steps::{OwnSteps, Why};
 use crate::pause::Pause;
 use crate::piece::Piece;
-use lvish_board::{Asked, Board, Came, Named, Step, Ticket, Works, stretch};
+use lvish_board::{Asked, Board, Came, Named, Step, Ticket, Works, stretch_with};
 use lvish_compound::Event;
 use lvish_deal::{Seat, Steal};
 use lvish_names::HandlerName;
-use lvish_task::ScriptCode;
+use lvish_task::{Local, ScriptCode};
 use std::alloc::{AllocError, Global};
 use std::sync::atomic::{AtomicBool, Ordering};
 use std::sync::{Mutex, Wait};
@@ -60,6 +60,8 @@ fn turns<J: Named<ScriptCode>, R: Wait, G: Gate>(
 {
     let mut pause = Pause::new();
     let mut works = Works::none(alloc, Step::Act(0));
+    // a local state that nobody needs any more: the next stretch writes in its memory
+    let mut spare: Option<Local> = None;
     for _ in rt.forever() {
         if left.load(Ordering::SeqCst) {
             return Why::Others;
@@ -68,9 +70,14 @@ fn turns<J: Named<ScriptCode>, R: Wait, G: Gate>(
             Some(ticket) => {
                 run_on(
                     rt, alloc, code, board, gate, seat, steps, &mut pause, ticket, &mut works,
+                    &mut spare,
                 )
             }
-            None => find_work(rt, alloc, board, gate, seat, steps, &mut pause, &mut works),
+            None => {
+                find_work(
+                    rt, alloc, board, gate, seat, steps, &mut pause, &mut works, &mut spare,
+                )
+            }
         };
         if let Some(why) = why {
             return why;
@@ -90,6 +97,7 @@ fn find_work<J: Named<ScriptCode>, R: Wait, G: Gate>(
     steps: &mut Vec<Step>,
     pause: &mut Pause,
     works: &mut Works<ScriptCode, J>,
+    spare: &mut Option<Local>,
 ) -> Option<Why>
     ensures { G.patient ≡ true → result ≢ Some Stopped }
 {
@@ -112,6 +120,7 @@ fn find_work<J: Named<ScriptCode>, R: Wait, G: Gate>(
                 pause,
                 Box::into_inner(asked),
                 works,
+                spare,
             )
         }
         Piece::Hand(handler) => hand(rt, alloc, board, seat, steps, pause, handler, works),
@@ -197,13 +206,14 @@ fn run_on<J: Named<ScriptCode>, R: Wait, G: Gate>(
     pause: &mut Pause,
     ticket: Ticket<ScriptCode, J>,
     works: &mut Works<ScriptCode, J>,
+    spare: &mut Option<Local>,
 ) -> Option<Why>
     requires { code.now ≡ J.program }
     ensures { result ≢ Some Stopped }
 {
     gate.enter(seat.number(), ticket.task());
-    match stretch(alloc, code, ticket) {
-        Ok(asked) => act(rt, alloc, board, seat, steps, pause, asked, works),
+    match stretch_with(alloc, code, ticket, spare.take()) {
+        Ok(asked) => act(rt, alloc, board, seat, steps, pause, asked, works, spare),
         Err(_ticket) => Some(Why::Memory),
     }
 }
@@ -219,18 +229,22 @@ fn act<J: Named<ScriptCode>, R: Wait>(
     pause: &mut Pause,
     asked: Asked<ScriptCode, J>,
     works: &mut Works<ScriptCode, J>,
+    spare: &mut Option<Local>,
 ) -> Option<Why>
     ensures { result ≢ Some Stopped }
 {
     if steps.reserve(1).is_err() {
         return Some(Why::Memory);
     }
-    // (what is left of it is dropped when the board is free again)
     let mut place = Some(asked);
     let mut held = pause.take(rt, board);
     let came = held.act_into(alloc, seat.number(), &mut place, works);
     let over = is_over(&held);
     drop(held);
+    // (what is left of the task is dropped, or kept as spare memory, when the board is free again)
+    if let Some(asked) = place {
+        *spare = Some(asked.into_from());
+    }
     go_by(alloc, seat, steps, over, came, works)
 }
 

@@ -1,6 +1,7 @@
 -- A list that is filled up with one number.
-use Rattle.std.proofs.Common.{◌≡◌, ◌≤◌, ◌-◌, ◌+◌, ◌++◌, inl, inr, ℕ, ℤ, List, [], ◌∷◌, length, replicate, take, refl, ap, ◌∙◌, arith, append_assoc}
-use Rattle.std.proofs.lemmas.List.{length-append, replicate_more, take_all}
+use Rattle.std.proofs.Common.{◌≡◌, ◌≤◌, ◌-◌, ◌+◌, ◌++◌, inl, inr, ℕ, ℤ, List, [], ◌∷◌, length, replicate, take, drop, refl, sym, ap, ◌∙◌, arith}
+use Rattle.std.proofs.lemmas.List.{length-append, take_all, take-replicate, drop-replicate, drop-drop}
+use Rattle.std.proofs.Math.Seq.{take-add}
 use Rattle.std.specs.List.{AllClonesOf, AppendsClonesOf}
 
 -- clones of a number are that number
@@ -21,15 +22,18 @@ filled xs new n x few long h =
     let rest : length ys ≡ n - length xs = omega (arith, both, long, few) in
     is ∙ ap (λ zs. xs ++ zs) (same_each x ys h.2 ∙ ap (λ k. replicate k x) rest)
 
--- with one number more
-pub filled_more : (xs ys new : List ℤ) (x y : ℤ) → ys ≡ xs ++ replicate (length ys - length xs) x → y ≡ x → new ≡ ys ++ y ∷ [] → new ≡ xs ++ replicate (length new - length xs) x
-filled_more xs ys new x y so_far same more =
-    let k : ℕ = length ys - length xs in
-    let long : length ys ≡ length xs + length (replicate k x) = ap length so_far ∙ length-append xs (replicate k x) in
-    let count : length new ≡ length ys + 1 = ap length more ∙ length-append ys (y ∷ []) in
-    let next : k + 1 ≡ length new - length xs = omega (arith, long, count) in
-    more ∙ ap (λ l. l ++ y ∷ []) so_far ∙ append_assoc xs (replicate k x) (y ∷ []) ∙ ap (λ l. xs ++ l) (ap (λ z. replicate k x ++ z ∷ []) same ∙ replicate_more k x ∙ ap (λ n. replicate n x) next)
+-- cut further on, a list that ends in one number has more of them
+pub filled_up : (xs : List ℤ) (k n m : ℕ) (x : ℤ) → k ≤ n → n ≤ m → drop k xs ≡ replicate (m - k) x → take n xs ≡ take k xs ++ replicate (n - k) x
+filled_up xs k n m x less most zeros =
+    let j : ℕ = n - k in
+    let e : n ≡ k + j = omega (arith, less) in
+    let within : j ≤ m - k = omega (arith, most) in
+    ap (λ i. take i xs) e ∙ take-add k j xs ∙ ap (λ ys. take k xs ++ take j ys) zeros ∙ ap (λ ys. take k xs ++ ys) (take-replicate j (m - k) x within)
 
--- with all of them
-pub filled_all : (xs ys : List ℤ) (n : ℕ) (x : ℤ) → ys ≡ xs ++ replicate (length ys - length xs) x → n ≤ length ys → length ys ≤ n → ys ≡ xs ++ replicate (n - length xs) x
-filled_all xs ys n x so_far least most = let same : length ys ≡ n = omega (arith, least, most) in so_far ∙ ap (λ m. xs ++ replicate (m - length xs) x) same
+-- and fewer of them behind
+pub fewer_behind : (xs : List ℤ) (k n m : ℕ) (x : ℤ) → k ≤ n → drop k xs ≡ replicate (m - k) x → drop n xs ≡ replicate (m - n) x
+fewer_behind xs k n m x less zeros =
+    let j : ℕ = n - k in
+    let e : n ≡ k + j = omega (arith, less) in
+    let count : m - k - j ≡ m - n = omega (arith, less) in
+    ap (λ i. drop i xs) e ∙ sym (drop-drop j k xs) ∙ ap (drop j) zeros ∙ drop-replicate j (m - k) x ∙ ap (λ i. replicate i x) count

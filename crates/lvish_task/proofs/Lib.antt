@@ -10,3 +10,4 @@ mod Strides
 mod Pairs
 mod Left
 mod ByNumbers
+mod AtOnce

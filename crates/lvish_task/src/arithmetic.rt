@@ -8,20 +8,28 @@ use lvish_syntax::Operator;
 fn add(left: i64, right: i64) -> Result<i64, ErrorKind>
     ensures { result ≡ fitting (left +ℤ right) }
 {
-    match left.checked_add(right) {
-        Some(sum) => Ok(sum),
-        None => Err(ErrorKind::Overflow),
+    if right >= 0 {
+        if left <= i64::MAX - right {
+            return Ok(left + right);
+        }
+    } else if left >= i64::MIN - right {
+        return Ok(left + right);
     }
+    Err(ErrorKind::Overflow)
 }
 
 #[inline(always)]
 fn subtract(left: i64, right: i64) -> Result<i64, ErrorKind>
     ensures { result ≡ fitting (left -ℤ right) }
 {
-    match left.checked_sub(right) {
-        Some(difference) => Ok(difference),
-        None => Err(ErrorKind::Overflow),
+    if right >= 0 {
+        if left >= i64::MIN + right {
+            return Ok(left - right);
+        }
+    } else if left <= i64::MAX + right {
+        return Ok(left - right);
     }
+    Err(ErrorKind::Overflow)
 }
 
 #[inline(always)]
@@ -85,6 +93,7 @@ fn compares(operator: Operator) -> bool
 }
 
 /// A sum, a difference or a product.
+#[inline(always)]
 fn accumulate(operator: Operator, left: i64, right: i64) -> Result<i64, ErrorKind>
     requires { accumulates operator ≡ true }
     ensures { result ≡ combined operator left right }
@@ -97,6 +106,7 @@ fn accumulate(operator: Operator, left: i64, right: i64) -> Result<i64, ErrorKin
 }
 
 /// 1 where the comparison holds, and 0 where it doesn't.
+#[inline(always)]
 fn compare(operator: Operator, left: i64, right: i64) -> i64
     requires { compares operator ≡ true }
     ensures { combined operator left right ≡ Ok result }
@@ -109,6 +119,7 @@ fn compare(operator: Operator, left: i64, right: i64) -> i64
 }
 
 /// A quotient or a remainder.
+#[inline(always)]
 fn part(operator: Operator, left: i64, right: i64) -> Result<i64, ErrorKind>
     requires accumulates { accumulates operator ≡ false }
     requires compares { compares operator ≡ false }

@@ -3,7 +3,8 @@ ghost use Rattle.lvish_task.specs.Run.{operand_value, expression_value, target_p
 ghost use Rattle.lvish_task.specs.Meaning.{kind_meant};
 
 use crate::arithmetic::combine;
-use crate::in_place::{IN_PLACE, InPlace};
+use crate::in_place::InPlace;
+use crate::limits::IN_PLACE;
 use crate::values::Values;
 use lvish_calculus::ErrorKind;
 use lvish_code::{Expression, Operand, Side, Target, Wanted};

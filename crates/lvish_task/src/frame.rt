@@ -1,4 +1,4 @@
-ghost use Rattle.std.specs.Prelude.{◌≡◌, IfOk};
+ghost use Rattle.std.specs.Prelude.{◌≡◌, IfOk, OnOk};
 
 use crate::remaining::Remaining;
 use crate::values::Values;
@@ -30,6 +30,22 @@ impl Drop for Frame {
 }
 
 impl Frame {
+    /// Becomes equal to the other, in its own memory.
+    ///
+    /// # Errors
+    ///
+    /// Where there is no room for it. Then some of its parts may be the other's.
+    #[inline(always)]
+    pub fn copy_from(&mut self, alloc: Global, other: &Frame) -> Result<(), AllocError>
+        ensures { OnOk result (self.new ≡ other.now) }
+    {
+        self.place = other.place;
+        self.procedure = other.procedure;
+        self.each = other.each;
+        self.values.copy_from(alloc, &other.values)?;
+        self.events.copy_from(&other.events)
+    }
+
     /// An equal frame.
     #[inline(always)]
     pub fn copy(&self, alloc: Global) -> Result<Frame, AllocError>

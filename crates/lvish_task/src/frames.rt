@@ -153,6 +153,32 @@ impl Frames {
         Ok(top)
     }
 
+    /// Becomes equal to the other, with which it shares the frames.
+    ///
+    /// # Errors
+    ///
+    /// Where more share them than can be counted.
+    #[inline(always)]
+    pub fn copy_from(&mut self, other: &Frames) -> Result<(), AllocError>
+        ensures { OnOk result (self.new ≡ other.now) }
+    {
+        match (&self.items, &other.items) {
+            (None, None) => Ok(()),
+            _ => self.share(other),
+        }
+    }
+
+    /// The same, whether there are frames or none.
+    ///
+    /// It isn't inlined, since most requests are made in the outermost frame.
+    #[inline(never)]
+    fn share(&mut self, other: &Frames) -> Result<(), AllocError>
+        ensures { OnOk result (self.new ≡ other.now) }
+    {
+        *self = other.copy()?;
+        Ok(())
+    }
+
     /// The same frames, which both share.
     #[inline(always)]
     pub fn copy(&self) -> Result<Frames, AllocError>

@@ -3,12 +3,10 @@ ghost use Rattle.std.specs.List.{slice_set};
 ghost use Rattle.lvish_task.specs.Jumps.{AllLand};
 ghost use Rattle.lvish_task.specs.Stride.{KeepsAsking};
 
+use crate::limits::IN_PLACE;
 use crate::stride::{Progress, strides};
 use lvish_code::Instruction;
 use std::marker::Model;
-
-/// As many numbers as most procedures have locals.
-pub const IN_PLACE: usize = 6;
 
 /// A few numbers in order, with no memory of their own.
 #[derive(Debug)]
@@ -29,13 +27,14 @@ impl Drop for InPlace {
 }
 
 impl Model for InPlace {
-    ghost use Rattle.std.specs.Prelude.{List, ℤ, ◌≤◌, take};
+    ghost use Rattle.std.specs.Prelude.{List, ℤ, pos, ◌≡◌, ◌≤◌, ◌-◌, take, drop, replicate};
+    ghost use Rattle.lvish_task.specs.declared.limits.TheConstants.{IN_PLACE};
 
     ghost Value = { List ℤ };
 
     ghost view = { λ p. take p.count p.numbers };
 
-    ghost invariant = { λ p. p.count ≤ 6 };
+    ghost invariant = { λ p. (p.count ≤ IN_PLACE) × (drop p.count p.numbers ≡ replicate (IN_PLACE - p.count) (pos 0)) };
 }
 
 /// Gives a local a value; nothing where there is no such local.
@@ -82,11 +81,20 @@ impl InPlace {
         }
     }
 
+    /// Becomes equal to the other.
+    #[inline(always)]
+    pub fn copy_from(&mut self, other: &InPlace)
+        ensures { self.new ≡ other.now }
+    {
+        self.count = other.count;
+        self.numbers = other.numbers;
+    }
+
     /// How many there are.
     #[inline(always)]
     pub fn len(&self) -> usize
         ensures count { result ≡ length self.now }
-        ensures few { result ≤ 6 }
+        ensures few { result ≤ IN_PLACE }
     {
         self.count
     }
@@ -102,7 +110,7 @@ impl InPlace {
     /// One more number behind the others, where there is room for it.
     #[inline(always)]
     pub fn push(&mut self, number: i64)
-        requires { length self.old < 6 }
+        requires { length self.old < IN_PLACE }
         ensures { self.new ≡ self.old ++ number ∷ [] }
     {
         self.numbers[self.count] = number;
@@ -111,15 +119,13 @@ impl InPlace {
 
     /// These numbers, and zeros after them, `count` in all.
     #[inline(always)]
-    pub fn filled(mut self, count: usize) -> InPlace
+    pub fn filled(self, count: usize) -> InPlace
         requires more { length self ≤ count }
-        requires few { count ≤ 6 }
+        requires few { count ≤ IN_PLACE }
         ensures { result ≡ self ++ replicate (count - length self) (pos 0) }
     {
-        while self.len() < count {
-            self.push(0);
-        }
-        self
+        let InPlace { count: _, numbers } = self;
+        InPlace { count, numbers }
     }
 
     /// Gives a local a value; nothing where there is no such local.

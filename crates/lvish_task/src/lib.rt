@@ -2,6 +2,7 @@
 #![tactic(auto)]
 
 mod arithmetic;
+mod at_once;
 mod equal;
 mod evaluate;
 mod fits;

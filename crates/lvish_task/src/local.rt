@@ -1,4 +1,7 @@
-ghost use Rattle.std.specs.Prelude.{◌≡◌, IfOk};
+ghost use Rattle.std.specs.Prelude.{◌≡◌, IfOk, IfSome};
+ghost use Rattle.std.specs.Borrow.{LendsIf, sem};
+ghost use Rattle.lvish_task.specs.contracts.local.Local.{the_row};
+ghost use Rattle.lvish_task.specs.contracts.stack.Stack.{the_row as stack_row};
 
 use crate::stack::Stack;
 use std::alloc::{AllocError, Global};
@@ -64,6 +67,45 @@ impl Local {
         ensures { result.now ≡ self.now }
     {
         &self.stack
+    }
+
+    /// What it holds, to be changed, where no other local state shares it.
+    #[inline(always)]
+    pub(crate) fn stack_mut(&mut self) -> Option<&mut Stack>
+        ensures* writes_back { sem 𝓛 (LendsIf the_row stack_row self.entry result (λ s. s) self.old) }
+        ensures value { IfSome result (λ s. s.now ≡ self.old) }
+    {
+        Arc::get_mut(&mut self.stack)
+    }
+
+    /// An equal local state, which no other shares: in the memory of `spare`, where no other shares
+    /// that.
+    ///
+    /// # Errors
+    ///
+    /// Where there is no room for it.
+    #[inline(always)]
+    pub(crate) fn copy_into(&self, alloc: Global, spare: Option<Local>) -> Result<Local, AllocError>
+        ensures { IfOk result (λ l. l ≡ self.now) }
+    {
+        if let Some(mut spare) = spare {
+            if let Some(stack) = spare.stack_mut() {
+                stack.copy_from(alloc, self.stack())?;
+                return Ok(spare);
+            }
+        }
+        self.copy_anew(alloc)
+    }
+
+    /// An equal local state, which no other shares, in memory of its own.
+    ///
+    /// It isn't inlined, since a step mostly leaves a local state behind, whose memory the next one
+    /// takes.
+    #[inline(never)]
+    fn copy_anew(&self, alloc: Global) -> Result<Local, AllocError>
+        ensures { IfOk result (λ l. l ≡ self.now) }
+    {
+        Local::new(alloc, self.stack().copy(alloc)?)
     }
 
     /// The same local state, which both share.

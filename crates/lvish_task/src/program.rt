@@ -49,11 +49,23 @@ impl Program for ScriptCode {
     }
 
     fn ask(&self, alloc: Global, local: &Local) -> Result<Asks<Any, AnyRead, Local>, AllocError> {
-        self.asked(alloc, local)
+        self.asked(alloc, local, None)
     }
 
-    fn resume(&self, alloc: Global, at: &Local, reply: Reply<Any, i64>) -> Result<Local, AllocError>
-        ensures { IfOk result (λ l. l ≡ (functions self.now).resume at.now reply) }
+    fn ask_with(
+        &self,
+        alloc: Global,
+        local: &Local,
+        spare: Option<Local>,
+    ) -> Result<Asks<Any, AnyRead, Local>, AllocError>
+        ensures request { IfOk result (λ a. a.request ≡ (functions self.now).request local.now) }
+        ensures at { IfOk result (λ a. a.at ≡ (functions self.now).at local.now) }
+    {
+        self.asked(alloc, local, spare)
+    }
+
+    fn resume(&self, alloc: Global, at: Local, reply: Reply<Any, i64>) -> Result<Local, AllocError>
+        ensures { IfOk result (λ l. l ≡ (functions self.now).resume at reply) }
     {
         self.resumed(alloc, at, reply)
     }

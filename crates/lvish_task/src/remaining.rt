@@ -1,4 +1,4 @@
-ghost use Rattle.std.specs.Prelude.{◌≡◌, IfOk, [], ◌∷◌, ◌==◌, length, slice_get, List, MatchOption};
+ghost use Rattle.std.specs.Prelude.{◌≡◌, IfOk, OnOk, [], ◌∷◌, ◌==◌, length, slice_get, List, MatchOption};
 ghost use Rattle.std.specs.Cmp.Lexicographic.{pointwise};
 ghost use Rattle.lvish_compound.specs.declared.event.Event.{Event};
 ghost use Rattle.lvish_task.specs.Remaining.{events_in, shared_events};
@@ -231,6 +231,32 @@ impl Remaining {
         let first = self.first()?;
         self.next += 1;
         Some(first)
+    }
+
+    /// Becomes equal to the other, with which it shares the events.
+    ///
+    /// # Errors
+    ///
+    /// Where more share them than can be counted.
+    #[inline(always)]
+    pub fn copy_from(&mut self, other: &Remaining) -> Result<(), AllocError>
+        ensures { OnOk result (self.new ≡ other.now) }
+    {
+        match (&self.all, &other.all) {
+            (None, None) => Ok(()),
+            _ => self.share(other),
+        }
+    }
+
+    /// The same, whether there are events or none.
+    ///
+    /// It isn't inlined, since most frames have none.
+    #[inline(never)]
+    fn share(&mut self, other: &Remaining) -> Result<(), AllocError>
+        ensures { OnOk result (self.new ≡ other.now) }
+    {
+        *self = other.copy()?;
+        Ok(())
     }
 
     /// The same events, which both share.

@@ -1,7 +1,9 @@
-ghost use Rattle.std.specs.Prelude.{◌≡◌, ◌<◌, ◌+◌, ◌^◌, IfOk, OnOk};
+ghost use Rattle.std.specs.Prelude.{◌≡◌, ◌<◌, ◌+◌, ◌^◌, true, IfOk, OnOk};
 ghost use Rattle.lvish_calculus.specs.declared.request.Request.TheVariants.{End};
-ghost use Rattle.lvish_task.specs.Run.{AsksBy, answered, asked, resumed, resumed_top, run};
+ghost use Rattle.lvish_task.specs.Run.{AsksBy, answered, asked, resumed, resumed_top, run, stack_fits};
 
+use crate::at_once::{read_at_once, state_at_once};
+use crate::evaluate::value_of;
 use crate::frame::Frame;
 use crate::limits::TURNS;
 use crate::local::Local;
@@ -54,11 +56,14 @@ fn ended(at: Local) -> Result<Asks<Any, AnyRead, Local>, AllocError>
 }
 
 impl ScriptCode {
-    /// The next request, and the local state in which it is made.
+    /// The next request, and the local state in which it is made: in the memory of `spare`, where no
+    /// other local state shares that.
+    #[inline(always)]
     pub(crate) fn asked(
         &self,
         alloc: Global,
         local: &Local,
+        spare: Option<Local>,
     ) -> Result<Asks<Any, AnyRead, Local>, AllocError>
         ensures request { IfOk result (λ a. a.request ≡ (asked self.now.flat local.now).request) }
         ensures at { IfOk result (λ a. a.at ≡ (asked self.now.flat local.now).at) }
@@ -66,14 +71,30 @@ impl ScriptCode {
         if !self.fits(local) {
             return ended(local.copy()?);
         }
-        let stack = local.stack();
-        if let Some(instruction) = self.here(stack) {
-            return self.asked_by(alloc, local.copy()?, instruction);
+        let mut at = local.copy_into(alloc, spare)?;
+        self.stride_within(&mut at);
+        self.asked_at(alloc, at)
+    }
+
+    /// Takes local statements, as [`stride`](ScriptCode::stride) does, where no other local state
+    /// shares this one. What the task asks for next stays the same, whether any are taken or none.
+    #[inline(always)]
+    fn stride_within(&self, at: &mut Local)
+        ensures { run self.now.flat at.new.left at.new.top at.new.below ≡ run self.now.flat at.old.left at.old.top at.old.below }
+    {
+        if let Some(stack) = at.stack_mut() {
+            self.stride(stack);
         }
-        let mut at = stack.copy(alloc)?;
-        self.stride(&mut at);
-        match self.here(&at) {
-            Some(instruction) => self.asked_by(alloc, Local::new(alloc, at)?, instruction),
+    }
+
+    /// What a task asks from this local state on, which may be its own answer.
+    #[inline(always)]
+    fn asked_at(&self, alloc: Global, at: Local) -> Result<Asks<Any, AnyRead, Local>, AllocError>
+        ensures request { IfOk result (λ a. a.request ≡ (run self.now.flat at.left at.top at.below).request) }
+        ensures at { IfOk result (λ a. a.at ≡ (run self.now.flat at.left at.top at.below).at) }
+    {
+        match self.here(at.stack()) {
+            Some(instruction) => self.asked_by(alloc, at, instruction),
             None => self.asked_further(alloc, at),
         }
     }
@@ -92,7 +113,25 @@ impl ScriptCode {
     {
         match instruction {
             Instruction::Ask(action) => {
-                let request = self.request(alloc, at.stack().top.values.as_slice(), action)?;
+                let values = at.stack().top.values.as_slice();
+                match action {
+                    Action::Put(variable, target, operand) => {
+                        let n = value_of(values, *operand);
+                        if let Some(state) = state_at_once(alloc, values, *target, n) {
+                            let request = Request::Put(*variable, state);
+                            return Ok(Asks { request, at });
+                        }
+                    }
+                    Action::Get(_, variable, target, wanted) => {
+                        if let Some(read) = read_at_once(values, *target, wanted) {
+                            let request = Request::Get(*variable, read);
+                            return Ok(Asks { request, at });
+                        }
+                    }
+                    _ => {}
+                }
+                let mut request = Request::End;
+                self.ask_for(alloc, values, action, &mut request)?;
                 Ok(Asks { request, at })
             }
             _ => ended(at),
@@ -106,28 +145,72 @@ impl ScriptCode {
     fn asked_further(
         &self,
         alloc: Global,
-        mut at: Stack,
+        mut at: Local,
     ) -> Result<Asks<Any, AnyRead, Local>, AllocError>
         ensures request { IfOk result (λ a. a.request ≡ (run self.now.flat at.left at.top at.below).request) }
         ensures at { IfOk result (λ a. a.at ≡ (run self.now.flat at.left at.top at.below).at) }
     {
-        let request = self.run(alloc, &mut at)?;
-        let at = Local::new(alloc, at)?;
+        match at.stack_mut() {
+            Some(stack) => {
+                let request = self.run(alloc, stack)?;
+                Ok(Asks { request, at })
+            }
+            None => self.asked_beside(alloc, &at),
+        }
+    }
+
+    /// The same, of a local state that others share, which stays as it is.
+    fn asked_beside(
+        &self,
+        alloc: Global,
+        at: &Local,
+    ) -> Result<Asks<Any, AnyRead, Local>, AllocError>
+        ensures request { IfOk result (λ a. a.request ≡ (run self.now.flat at.now.left at.now.top at.now.below).request) }
+        ensures at { IfOk result (λ a. a.at ≡ (run self.now.flat at.now.left at.now.top at.now.below).at) }
+    {
+        let mut stack = at.stack().copy(alloc)?;
+        let request = self.run(alloc, &mut stack)?;
+        let at = Local::new(alloc, stack)?;
         Ok(Asks { request, at })
     }
 
-    /// The local state after the reply to the request that `at` makes.
+    /// The local state after the reply to the request that `at` makes: in the memory of `at`, where
+    /// no other local state shares that.
     pub(crate) fn resumed(
+        &self,
+        alloc: Global,
+        mut at: Local,
+        reply: Reply<Any, i64>,
+    ) -> Result<Local, AllocError>
+        ensures { IfOk result (λ l. l ≡ resumed self.now.flat at reply) }
+    {
+        if !self.fits(&at) {
+            return Ok(at);
+        }
+        match at.stack_mut() {
+            Some(stack) => {
+                let left = stack.left;
+                self.go_on(alloc, &mut stack.top, left, reply)?;
+                stack.left = TURNS;
+                Ok(at)
+            }
+            None => self.resumed_beside(alloc, &at, reply),
+        }
+    }
+
+    /// The same, of a local state that others share, which stays as it is.
+    ///
+    /// It isn't inlined, since a step has the local state in which it is made to itself.
+    #[inline(never)]
+    fn resumed_beside(
         &self,
         alloc: Global,
         at: &Local,
         reply: Reply<Any, i64>,
     ) -> Result<Local, AllocError>
+        requires { stack_fits self.now.flat at.now ≡ true }
         ensures { IfOk result (λ l. l ≡ resumed self.now.flat at.now reply) }
     {
-        if !self.fits(at) {
-            return at.copy();
-        }
         let stack = at.stack();
         let mut next = stack.copy(alloc)?;
         self.go_on(alloc, &mut next.top, stack.left, reply)?;

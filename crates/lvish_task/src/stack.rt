@@ -1,4 +1,4 @@
-ghost use Rattle.std.specs.Prelude.{◌≡◌, IfOk};
+ghost use Rattle.std.specs.Prelude.{◌≡◌, IfOk, OnOk};
 
 use crate::frame::Frame;
 use crate::frames::Frames;
@@ -29,6 +29,20 @@ impl Drop for Stack {
 }
 
 impl Stack {
+    /// Becomes equal to the other, in its own memory.
+    ///
+    /// # Errors
+    ///
+    /// Where there is no room for it. Then some of its parts may be the other's.
+    #[inline(always)]
+    pub fn copy_from(&mut self, alloc: Global, other: &Stack) -> Result<(), AllocError>
+        ensures { OnOk result (self.new ≡ other.now) }
+    {
+        self.left = other.left;
+        self.top.copy_from(alloc, &other.top)?;
+        self.below.copy_from(&other.below)
+    }
+
     /// An equal stack.
     #[inline(always)]
     pub fn copy(&self, alloc: Global) -> Result<Stack, AllocError>

@@ -57,7 +57,9 @@ impl ScriptCode {
         let place = local.top.place;
         match instruction {
             Instruction::Ask(action) => {
-                Ok(Some(self.request(alloc, local.top.values.as_slice(), action)?))
+                let mut request = Request::End;
+                self.ask_for(alloc, local.top.values.as_slice(), action, &mut request)?;
+                Ok(Some(request))
             }
             Instruction::Let(x, expression) => Ok(local.assign(*x, expression)),
             Instruction::Call(procedure, operands) => {

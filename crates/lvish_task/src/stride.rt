@@ -86,6 +86,7 @@ fn is_test(instruction: &Instruction) -> bool
 }
 
 /// A test.
+#[inline(always)]
 fn take_test(values: &[i64], test: &Instruction, from: Progress) -> Progress
     requires left { 0 < from.left }
     requires room { HasPlaces from.place test.now }
@@ -117,6 +118,7 @@ fn take_test(values: &[i64], test: &Instruction, from: Progress) -> Progress
 }
 
 /// Passes a jump. `None` where none stands there.
+#[inline(always)]
 fn pass(instruction: &Instruction, from: Progress) -> Option<Progress>
     requires { HasPlaces from.place instruction.now }
     ensures { result ≡ jump_taken from instruction.now }
@@ -142,13 +144,13 @@ fn take(instructions: &[Instruction], values: &mut [i64], from: Progress) -> Opt
         (λ to. taken from values.old (slice_get instructions.now from.place) ≡ Some (to, values.new)) }
 {
     let instruction = next(instructions, from.place)?;
+    if let Instruction::Let(x, expression) = instruction {
+        return take_let(values, *x, expression, from);
+    }
     if is_test(instruction) {
         return Some(take_test(values, instruction, from));
     }
-    match instruction {
-        Instruction::Let(x, expression) => take_let(values, *x, expression, from),
-        _ => pass(instruction, from),
-    }
+    pass(instruction, from)
 }
 
 /// Takes local statements of a frame, as far as they are `let`s that succeed, tests and jumps.

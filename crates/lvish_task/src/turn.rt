@@ -37,6 +37,7 @@ impl Stack {
 
 impl ScriptCode {
     /// The frame of a procedure that begins on the arguments, if there is one that takes them.
+    #[inline(always)]
     fn callee(
         &self,
         alloc: Global,
@@ -59,6 +60,7 @@ impl ScriptCode {
 
     /// A task that begins in a procedure on the arguments; a local state that doesn't fit, if there
     /// is no procedure that takes them.
+    #[inline(always)]
     pub(crate) fn begin(
         &self,
         alloc: Global,
@@ -88,7 +90,40 @@ impl ScriptCode {
         )
     }
 
+    /// The task that begins in a procedure on the values of operands.
+    ///
+    /// It isn't inlined, so that other requests don't pay for its values.
+    #[inline(never)]
+    fn forked(
+        &self,
+        alloc: Global,
+        values: &[i64],
+        procedure: usize,
+        operands: &[Operand],
+    ) -> Result<Local, AllocError>
+        ensures { IfOk result (λ l. l ≡ started self.now.flat procedure (map (operand_value values.now) operands.now)) }
+    {
+        let arguments = values_of(alloc, values, operands)?;
+        self.begin(alloc, procedure, arguments)
+    }
+
+    /// What an action asks for, in place.
+    #[inline(never)]
+    pub(crate) fn ask_for(
+        &self,
+        alloc: Global,
+        values: &[i64],
+        action: &Action,
+        into: &mut Ask,
+    ) -> Result<(), AllocError>
+        ensures { OnOk result (Asks into.new ≡ action_turn self.now.flat values.now action.now) }
+    {
+        *into = self.request(alloc, values, action)?;
+        Ok(())
+    }
+
     /// What an action asks for.
+    #[inline(always)]
     pub(crate) fn request(
         &self,
         alloc: Global,
@@ -113,8 +148,7 @@ impl ScriptCode {
                 }
             }
             Action::Fork(procedure, operands) => {
-                let arguments = values_of(alloc, values, operands.as_slice())?;
-                Request::Fork(self.begin(alloc, *procedure, arguments)?)
+                Request::Fork(self.forked(alloc, values, *procedure, operands.as_slice())?)
             }
             Action::Handle(pool, procedure) => Request::Add(*pool, *procedure),
             Action::Freeze(_, variable, pools, _) => {

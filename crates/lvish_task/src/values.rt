@@ -1,11 +1,12 @@
-ghost use Rattle.std.specs.Prelude.{◌≡◌, IfOk, ◌++◌, replicate, length, pos, ◌-◌, ◌≤◌};
+ghost use Rattle.std.specs.Prelude.{◌≡◌, IfOk, OnOk, ◌++◌, replicate, length, pos, ◌-◌, ◌≤◌};
 ghost use Rattle.std.specs.List.{slice_set};
 ghost use Rattle.lvish_task.specs.Jumps.{AllLand};
 ghost use Rattle.lvish_task.specs.Stride.{KeepsAsking};
 ghost use Rattle.lvish_task.specs.Numbers.{numbers_in};
 
 use crate::equal::are_equal;
-use crate::in_place::{IN_PLACE, InPlace, give};
+use crate::in_place::{InPlace, give};
+use crate::limits::IN_PLACE;
 use crate::stride::{Progress, strides};
 use lvish_code::Instruction;
 use std::alloc::{AllocError, Global};
@@ -99,6 +100,7 @@ fn spread(alloc: Global, numbers: &[i64], count: usize) -> Result<Vec<i64>, Allo
 
 impl Numbers {
     /// These numbers, and zeros after them, `count` in all.
+    #[inline(always)]
     fn filled(self, alloc: Global, count: usize) -> Result<Numbers, AllocError>
         requires { length (numbers_in self) ≤ count }
         ensures { IfOk result (λ n. numbers_in n ≡ numbers_in self ++ replicate (count - length (numbers_in self)) (pos 0)) }
@@ -108,6 +110,8 @@ impl Numbers {
                 if count <= IN_PLACE {
                     return Ok(Numbers::Few(few.filled(count)));
                 }
+                // Moved here, so that the other way has them in no memory that a call could see.
+                let few = few;
                 Ok(Numbers::Many(spread(alloc, few.as_slice(), count)?))
             }
             Numbers::Many(mut numbers) => {
@@ -133,6 +137,41 @@ impl Numbers {
 }
 
 impl Values {
+    /// Becomes equal to the other: without memory, where both hold few numbers.
+    ///
+    /// # Errors
+    ///
+    /// Where there is no room for it.
+    #[inline(always)]
+    pub fn copy_from(&mut self, alloc: Global, other: &Values) -> Result<(), AllocError>
+        ensures { OnOk result (self.new ≡ other.now) }
+    {
+        match (&mut self.numbers, &other.numbers) {
+            (Numbers::Few(own), Numbers::Few(few)) => {
+                own.copy_from(few);
+                Ok(())
+            }
+            _ => self.copy_from_many(alloc, other),
+        }
+    }
+
+    /// Becomes equal to the other, in its own memory where that is as large.
+    ///
+    /// It isn't inlined, so that a few numbers don't pay for it.
+    #[inline(never)]
+    fn copy_from_many(&mut self, alloc: Global, other: &Values) -> Result<(), AllocError>
+        ensures { OnOk result (self.new ≡ other.now) }
+    {
+        let numbers = other.as_slice();
+        match &mut self.numbers {
+            Numbers::Many(own) if own.len() == numbers.len() => {
+                own.as_mut_slice().copy_from_slice(numbers);
+            }
+            _ => self.numbers = other.numbers.copy(alloc)?,
+        }
+        Ok(())
+    }
+
     /// These few values.
     #[inline(always)]
     pub fn few(values: InPlace) -> Values
@@ -153,6 +192,7 @@ impl Values {
     }
 
     /// These values, and zeros after them, `count` in all.
+    #[inline(always)]
     pub fn filled(self, alloc: Global, count: usize) -> Result<Values, AllocError>
         requires { length self ≤ count }
         ensures { IfOk result (λ v. v ≡ self ++ replicate (count - length self) (pos 0)) }

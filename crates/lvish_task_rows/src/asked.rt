@@ -1,12 +1,13 @@
 //! What a task asks for, one request after the other.
 
-use crate::calls::{asks_of, fits, resumed};
+use crate::calls::{asks_with, fits, resumed};
 use crate::request::request_text;
 use lvish_calculus::{Asks, Reply, Request};
 use lvish_compound::{Any, AnyRead};
 use lvish_lattice::Lattice;
 use lvish_task::{Local, ScriptCode};
 use std::alloc::{AllocError, Global};
+use std::mem;
 
 /// The replies that a task gets: the answer of each get, and the state of each freeze.
 pub struct Replies {
@@ -30,6 +31,8 @@ struct RunningTask {
     /// What it asked for so far.
     text: String,
     local: Local,
+    /// The local state before this one, whose memory is free.
+    spare: Option<Local>,
 }
 
 /// What a task asks for up to its end or fault.
@@ -42,6 +45,7 @@ pub fn asked(
     let mut task = RunningTask {
         text: String::new(alloc),
         local: start,
+        spare: None,
     };
     for _ in 0..80 {
         if !task.goes_on(alloc, code, replies)? {
@@ -63,22 +67,23 @@ impl RunningTask {
             self.push("a local state that doesn't fit")?;
             return Ok(false);
         }
-        let asks = asks_of(alloc, code, &self.local)?;
+        let asks = asks_with(alloc, code, &self.local, self.spare.take())?;
         self.push_request(alloc, &asks.request)?;
-        self.goes_on_after(alloc, code, &asks, replies)
+        self.goes_on_after(alloc, code, asks, replies)
     }
 
     fn goes_on_after(
         &mut self,
         alloc: Global,
         code: &ScriptCode,
-        asks: &Asks<Any, AnyRead, Local>,
+        asks: Asks<Any, AnyRead, Local>,
         replies: &Replies,
     ) -> Result<bool, AllocError> {
         if is_last(&asks.request) {
             return Ok(false);
         }
-        self.local = replied(alloc, code, asks, replies)?;
+        let next = replied(alloc, code, asks, replies)?;
+        self.spare = Some(mem::replace(&mut self.local, next));
         Ok(true)
     }
 
@@ -102,11 +107,12 @@ impl RunningTask {
 fn replied(
     alloc: Global,
     code: &ScriptCode,
-    asks: &Asks<Any, AnyRead, Local>,
+    asks: Asks<Any, AnyRead, Local>,
     replies: &Replies,
 ) -> Result<Local, AllocError> {
-    let reply = reply_to(alloc, &asks.request, replies)?;
-    resumed(alloc, code, &asks.at, reply)
+    let Asks { request, at } = asks;
+    let reply = reply_to(alloc, &request, replies)?;
+    resumed(alloc, code, at, reply)
 }
 
 fn reply_to(

@@ -29,6 +29,16 @@ pub fn asks_of(
     code.ask(alloc, local)
 }
 
+/// The same, where it may lie in the memory of `spare`.
+pub fn asks_with(
+    alloc: Global,
+    code: &ScriptCode,
+    local: &Local,
+    spare: Option<Local>,
+) -> Result<Asks<Any, AnyRead, Local>, AllocError> {
+    code.ask_with(alloc, local, spare)
+}
+
 /// The request that a task makes in a local state.
 pub fn request_of(
     alloc: Global,
@@ -45,14 +55,25 @@ pub fn at_of(alloc: Global, code: &ScriptCode, local: &Local) -> Result<Local, A
     Ok(at)
 }
 
-/// The local state after a reply.
+/// The local state after a reply, which may lie in the memory of the one before it.
 pub fn resumed(
+    alloc: Global,
+    code: &ScriptCode,
+    at: Local,
+    reply: Reply<Any, i64>,
+) -> Result<Local, AllocError> {
+    code.resume(alloc, at, reply)
+}
+
+/// The same, of a local state that stays as it is.
+pub fn resumed_beside(
     alloc: Global,
     code: &ScriptCode,
     at: &Local,
     reply: Reply<Any, i64>,
 ) -> Result<Local, AllocError> {
-    code.resume(alloc, at, reply)
+    let shared = code.copy_local(alloc, at)?;
+    code.resume(alloc, shared, reply)
 }
 
 pub fn copied(alloc: Global, code: &ScriptCode, local: &Local) -> Result<Local, AllocError> {

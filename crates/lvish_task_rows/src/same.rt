@@ -1,6 +1,6 @@
 //! Which local states are equal.
 
-use crate::calls::{at_of, copied, fits, is_equal, request_of, resumed};
+use crate::calls::{at_of, copied, fits, is_equal, request_of, resumed_beside};
 use crate::request::request_text;
 use lvish_calculus::Reply;
 use lvish_task::{Local, ScriptCode};
@@ -32,7 +32,7 @@ fn is_second_equal(alloc: Global, code: &ScriptCode, start: &Local) -> Result<bo
 /// The local state after the request that a task makes, where the reply is Done.
 fn after_done(alloc: Global, code: &ScriptCode, local: &Local) -> Result<Local, AllocError> {
     let at = at_of(alloc, code, local)?;
-    resumed(alloc, code, &at, Reply::Done)
+    resumed_beside(alloc, code, &at, Reply::Done)
 }
 
 /// What a task asks for that doesn't fit, and stays as it is.

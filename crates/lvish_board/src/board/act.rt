@@ -138,7 +138,7 @@ impl<'p, P: Program, J: Named<P>> Board<'p, P, J> {
         requires current { ⟦<P as CoreMeaning>⟧.local_in self.now.core asked.now.task ≡ Some asked.now.from }
         ensures { IsTrue result ↔ ⟦<P as CoreMeaning>⟧.can_take self.now.core (Act asked.now.task) }
     {
-        self.core.can_act(asked.task(), &asked.asks().request)
+        self.core.can_act(asked.task(), asked.request())
     }
 
     /// Parks a blocked task.

@@ -107,17 +107,18 @@ fn step_with_room<P: Program, J: Named<P>>(
     parked: usize,
     worker: usize,
     numbers: TaskNumbers,
-    asked: &Asked<P, J>,
+    asked: &mut Asked<P, J>,
 ) -> Result<(usize, Stepped, Moved<<P::Lat as Lattice>::Event, P::Local>), StepFault>
     requires program { core.old.program ≡ J.program }
-    requires live { ⟦<P as CoreMeaning>⟧.is_live core.old asked.now.task asked.now.from numbers }
-    ensures made { IfOk result (λ s. IsStepOf P.Lat.Event.cmp (⟦<P as Meaning>⟧.machine J.program) core.old asked.now core.new s.0 room.new.concerned.items s.1 s.2) }
+    requires live { ⟦<P as CoreMeaning>⟧.is_live core.old asked.old.task asked.old.from numbers }
+    ensures made { IfOk result (λ s. IsStepOf P.Lat.Event.cmp (⟦<P as Meaning>⟧.machine J.program) core.old asked.old core.new s.0 room.new.concerned.items s.1 s.2) }
     ensures written { IfOk result (λ _. trace.new.items ≡ trace.old.items ++ record { worker = worker; step = ActStep numbers.index } ∷ []) }
     ensures empty { IfOk result (λ _. (room.new.woken.items ≡ []) × (room.new.hands.items ≡ [])) }
     ensures woken_room { IfOk result (λ _. parked ≤ vec_capacity room.new.woken) }
-    ensures concerned_room { IfOk result (λ _. length room.new.concerned.items + most_added ((P.functions J.program).request asked.now.from) ≤ vec_capacity room.new.concerned) }
-    ensures hands_room { IfOk result (λ _. length room.new.concerned.items + most_added ((P.functions J.program).request asked.now.from) ≤ vec_capacity room.new.hands) }
+    ensures concerned_room { IfOk result (λ _. length room.new.concerned.items + most_added ((P.functions J.program).request asked.old.from) ≤ vec_capacity room.new.concerned) }
+    ensures hands_room { IfOk result (λ _. length room.new.concerned.items + most_added ((P.functions J.program).request asked.old.from) ≤ vec_capacity room.new.hands) }
     ensures kept { IfErr result (λ _. (core.new ≡ core.old) × (trace.new.items ≡ trace.old.items)) }
+    ensures same { asked.new ≡ asked.old }
 {
     let logged = room.reserve_for(core, parked, asked)?;
     trace.reserve(1)?;
@@ -138,16 +139,17 @@ fn step<P: Program, J: Named<P>>(
     trace: &mut Vec<Noted>,
     worker: usize,
     numbers: TaskNumbers,
-    asked: &Asked<P, J>,
+    asked: &mut Asked<P, J>,
 ) -> Result<(Stepped, Moved<<P::Lat as Lattice>::Event, P::Local>), StepFault>
     requires program { core.old.program ≡ J.program }
-    requires live { ⟦<P as CoreMeaning>⟧.is_live core.old asked.now.task asked.now.from numbers }
+    requires live { ⟦<P as CoreMeaning>⟧.is_live core.old asked.old.task asked.old.from numbers }
     requires room { vec_len trace.old < vec_capacity trace.old }
-    ensures stepped { MatchResult result (λ s. ⟦<P as CoreMeaning>⟧.is_step core.old (Act asked.now.task) core.new s.0) (λ _. core.new ≡ core.old) }
-    ensures moved { IfOk result (λ s. ⟦<P as CoreMeaning>⟧.is_moved core.old (Act asked.now.task) s.1) }
+    ensures stepped { MatchResult result (λ s. ⟦<P as CoreMeaning>⟧.is_step core.old (Act asked.old.task) core.new s.0) (λ _. core.new ≡ core.old) }
+    ensures moved { IfOk result (λ s. ⟦<P as CoreMeaning>⟧.is_moved core.old (Act asked.old.task) s.1) }
     ensures written { MatchResult result (λ _. trace.new.items ≡ trace.old.items ++ record { worker = worker; step = ActStep numbers.index } ∷ []) (λ _. trace.new ≡ trace.old) }
+    ensures same { asked.new ≡ asked.old }
 {
-    let stepped = core.step_live(alloc, asked.task(), numbers, asked.asks())?;
+    let stepped = asked.step(alloc, core, numbers)?;
     let step = Step::Act(numbers.index);
     trace.push_reserved(Noted { worker, step });
     Ok(stepped)

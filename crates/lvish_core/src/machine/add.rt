@@ -30,13 +30,13 @@ impl<'p, P: Program> Core<'p, P> {
         &mut self,
         alloc: Global,
         name: &TaskName<<P::Lat as Lattice>::Event>,
-        at: &P::Local,
+        at: P::Local,
         numbers: TaskNumbers,
         pool: usize,
         procedure: usize,
     ) -> Result<(Stepped, Moved<<P::Lat as Lattice>::Event, P::Local>), StepFault>
         requires room { self.old.steps < MOST_STEPS }
-        requires acting { IsActing (⟦<P as Meaning>⟧.machine self.old.program) self.old name.now at.now numbers.forks numbers.adds numbers.puts (Add pool procedure) }
+        requires acting { IsActing (⟦<P as Meaning>⟧.machine self.old.program) self.old name.now at numbers.forks numbers.adds numbers.puts (Add pool procedure) }
         requires there { IsAt self.old.table.tasks numbers.index name.now }
         ensures { Acts (⟦<P as Meaning>⟧.machine self.old.program) self.old name.now self.new result }
     {
@@ -62,13 +62,13 @@ impl<'p, P: Program> Core<'p, P> {
         &mut self,
         alloc: Global,
         name: &TaskName<<P::Lat as Lattice>::Event>,
-        at: &P::Local,
+        at: P::Local,
         numbers: TaskNumbers,
         handler: HandlerName<<P::Lat as Lattice>::Event>,
         place: HandlerPlace,
     ) -> Result<(Stepped, Moved<<P::Lat as Lattice>::Event, P::Local>), StepFault>
         requires room { self.old.steps < MOST_STEPS }
-        requires acting { IsActing (⟦<P as Meaning>⟧.machine self.old.program) self.old name.now at.now numbers.forks numbers.adds numbers.puts (Add place.pool place.procedure) }
+        requires acting { IsActing (⟦<P as Meaning>⟧.machine self.old.program) self.old name.now at numbers.forks numbers.adds numbers.puts (Add place.pool place.procedure) }
         requires there { IsAt self.old.table.tasks numbers.index name.now }
         requires seated { IsSeating (⟦<P as Meaning>⟧.machine self.old.program) self.old name.now numbers.adds handler place }
         ensures { Acts (⟦<P as Meaning>⟧.machine self.old.program) self.old name.now self.new result }

@@ -1,6 +1,6 @@
 //! A task's step.
 
-ghost use Rattle.std.specs.Prelude.{◌≡◌, MatchResult, IfOk, IfErr, IsSome};
+ghost use Rattle.std.specs.Prelude.{◌≡◌, ◌⊎◌, MatchResult, IfOk, IfErr, IsSome, Some, None};
 ghost use Rattle.lvish_calculus.specs.declared.label.Label.TheVariants.{Act};
 
 use super::Core;
@@ -51,10 +51,12 @@ impl<'p, P: Program> Core<'p, P> {
             adds: *adds,
             puts: *puts,
         };
-        self.step_live(alloc, name, numbers, asks)
+        let mut at = Some(self.program.copy_local(alloc, &asks.at)?);
+        self.step_live(alloc, name, numbers, &asks.request, &mut at)
     }
 
-    /// Makes the task's step, with its numbers and its request already known.
+    /// Makes the task's step, with its numbers and its request already known. The local state in which
+    /// it asks is used up, or left as it was.
     ///
     /// # Errors
     ///
@@ -64,21 +66,27 @@ impl<'p, P: Program> Core<'p, P> {
         alloc: Global,
         name: &TaskName<<P::Lat as Lattice>::Event>,
         numbers: TaskNumbers,
-        asks: &Asks<P::Lat, <P::Lat as Reads>::Read, P::Local>,
+        request: &Request<P::Lat, <P::Lat as Reads>::Read, P::Local>,
+        at: &mut Option<P::Local>,
     ) -> Result<(Stepped, Moved<<P::Lat as Lattice>::Event, P::Local>), StepFault>
         requires live { (local : P.Local) × ⟦<P as CoreMeaning>⟧.is_live self.old name.now local numbers }
-        requires request { ⟦<P as CoreMeaning>⟧.is_its_request self.old name.now asks.now.request }
-        requires at { ⟦<P as CoreMeaning>⟧.is_its_place self.old name.now asks.now.at }
+        requires request { ⟦<P as CoreMeaning>⟧.is_its_request self.old name.now request.now }
+        requires there { IsSome at.old }
+        requires at { (l : P.Local) → at.old ≡ Some l → ⟦<P as CoreMeaning>⟧.is_its_place self.old name.now l }
         ensures stepped { MatchResult result (λ s. ⟦<P as CoreMeaning>⟧.is_step self.old (Act name.now) self.new s.0) (λ e. ⟦<P as CoreMeaning>⟧.is_refused self.old (Act name.now) e × (self.new ≡ self.old)) }
         ensures moved { IfOk result (λ s. ⟦<P as CoreMeaning>⟧.is_moved self.old (Act name.now) s.1) }
+        ensures left { (at.new ≡ at.old) ⊎ (at.new ≡ None) }
     {
         if self.fault.is_some() {
             return Err(StepFault::NotEnabled);
         }
         if self.steps >= MOST_STEPS {
-            return Err(self.fault_at_the_most(name, &asks.request));
+            return Err(self.fault_at_the_most(name, request));
         }
-        self.act(alloc, name, &asks.at, numbers, &asks.request)
+        let Some(local) = at.take() else {
+            unreachable!()
+        };
+        self.act(alloc, name, local, numbers, request, at)
     }
 
     /// Why a task's step isn't made after the most steps: the task is blocked, or would be one too many.

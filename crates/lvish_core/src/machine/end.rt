@@ -1,6 +1,6 @@
 //! The end of a task.
 
-ghost use Rattle.std.specs.Prelude.{◌<◌};
+ghost use Rattle.std.specs.Prelude.{◌≡◌, ◌<◌, Some};
 ghost use Rattle.lvish_calculus.specs.declared.request.Request.TheVariants.{End};
 ghost use Rattle.lvish_core.specs.Acts.{IsActing, Acts};
 ghost use Rattle.lvish_core.specs.Tasks.{IsAt};
@@ -20,18 +20,21 @@ use lvish_names::TaskName;
 use lvish_picture::laws::{counts_follow, counts_kept, plain_kept, running_counts};
 
 impl<'p, P: Program> Core<'p, P> {
-    /// Ends the task.
+    /// Ends the task. Its local state is left in its place.
     pub(super) fn end(
         &mut self,
         name: &TaskName<<P::Lat as Lattice>::Event>,
-        at: &P::Local,
+        at: P::Local,
         numbers: TaskNumbers,
+        left: &mut Option<P::Local>,
     ) -> Result<(Stepped, Moved<<P::Lat as Lattice>::Event, P::Local>), StepFault>
         requires room { self.old.steps < MOST_STEPS }
-        requires acting { IsActing (⟦<P as Meaning>⟧.machine self.old.program) self.old name.now at.now numbers.forks numbers.adds numbers.puts End }
+        requires acting { IsActing (⟦<P as Meaning>⟧.machine self.old.program) self.old name.now at numbers.forks numbers.adds numbers.puts End }
         requires there { IsAt self.old.table.tasks numbers.index name.now }
-        ensures { Acts (⟦<P as Meaning>⟧.machine self.old.program) self.old name.now self.new result }
+        ensures acts { Acts (⟦<P as Meaning>⟧.machine self.old.program) self.old name.now self.new result }
+        ensures left { left.new ≡ Some at }
     {
+        *left = Some(at);
         lawful::<P>();
         plain_kept::<P>();
         counts_kept::<P>();

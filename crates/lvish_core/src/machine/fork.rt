@@ -28,12 +28,12 @@ impl<'p, P: Program> Core<'p, P> {
         &mut self,
         alloc: Global,
         name: &TaskName<<P::Lat as Lattice>::Event>,
-        at: &P::Local,
+        at: P::Local,
         numbers: TaskNumbers,
         child: &P::Local,
     ) -> Result<(Stepped, Moved<<P::Lat as Lattice>::Event, P::Local>), StepFault>
         requires room { self.old.steps < MOST_STEPS }
-        requires acting { IsActing (⟦<P as Meaning>⟧.machine self.old.program) self.old name.now at.now numbers.forks numbers.adds numbers.puts (Fork child.now) }
+        requires acting { IsActing (⟦<P as Meaning>⟧.machine self.old.program) self.old name.now at numbers.forks numbers.adds numbers.puts (Fork child.now) }
         requires there { IsAt self.old.table.tasks numbers.index name.now }
         ensures { Acts (⟦<P as Meaning>⟧.machine self.old.program) self.old name.now self.new result }
     {

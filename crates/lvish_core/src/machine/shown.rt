@@ -21,6 +21,13 @@ use lvish_variable::Variable;
 use std::alloc::{AllocError, Global};
 
 impl<'p, P: Program> Core<'p, P> {
+    /// The program that it runs.
+    pub fn program(&self) -> &P
+        ensures { result.now ≡ self.now.program }
+    {
+        self.program
+    }
+
     /// The task's local state; `None` where it has ended or isn't there.
     pub fn local_of(&self, name: &TaskName<<P::Lat as Lattice>::Event>) -> Option<&P::Local>
         ensures { option_copied result ≡ ⟦<P as CoreMeaning>⟧.local_in self.now name.now }

@@ -67,15 +67,27 @@ impl Program for Climbing {
         })
     }
 
+    fn ask_with(
+        &self,
+        alloc: Global,
+        local: &At,
+        _spare: Option<At>,
+    ) -> Result<Asks<MaxCounter, Levels, At>, AllocError>
+        ensures request { IfOk result (λ a. a.request ≡ (climbing self.now.low self.now.high).request local.now) }
+        ensures at { IfOk result (λ a. a.at ≡ (climbing self.now.low self.now.high).at local.now) }
+    {
+        self.ask(alloc, local)
+    }
+
     fn resume(
         &self,
         _alloc: Global,
-        at: &At,
+        at: At,
         reply: Reply<MaxCounter, i64>,
     ) -> Result<At, AllocError>
-        ensures { IfOk result (λ l. l ≡ gone_on at.now reply) }
+        ensures { IfOk result (λ l. l ≡ gone_on at reply) }
     {
-        Ok(after(*at, reply))
+        Ok(after(at, reply))
     }
 
     ghost identical = { pairs_identical _ _ nat_identical int_identical _ (λ p q. refl) };

@@ -67,10 +67,22 @@ impl Program for Freezing {
         })
     }
 
-    fn resume(&self, _alloc: Global, at: &At, reply: Reply<Any, i64>) -> Result<At, AllocError>
-        ensures { IfOk result (λ l. l ≡ gone_on at.now reply) }
+    fn ask_with(
+        &self,
+        alloc: Global,
+        local: &At,
+        _spare: Option<At>,
+    ) -> Result<Asks<Any, AnyRead, At>, AllocError>
+        ensures request { IfOk result (λ a. a.request ≡ (freezing self.now.start).request local.now) }
+        ensures at { IfOk result (λ a. a.at ≡ (freezing self.now.start).at local.now) }
     {
-        Ok(after(*at, reply))
+        self.ask(alloc, local)
+    }
+
+    fn resume(&self, _alloc: Global, at: At, reply: Reply<Any, i64>) -> Result<At, AllocError>
+        ensures { IfOk result (λ l. l ≡ gone_on at reply) }
+    {
+        Ok(after(at, reply))
     }
 
     ghost identical = { pairs_identical _ _ nat_identical int_identical _ (λ p q. refl) };

@@ -107,10 +107,6 @@ module _ {K : Type 0} (test : K → K → Bool) where
       ∙ pointwise-snoc (reverse xs) (reverse ys) x y
       ∙ ap (λ b. test x y && b) (pointwise-reverse xs ys)
 
--- the same of their parts from main on
-pub same_name-from_parts : {E : Type 0} (eq : E → E → Bool) (xs ys : List (NamePart E)) → same_name eq (reverse xs) (reverse ys) ≡ pointwise (part_eq eq) xs ys
-same_name-from_parts eq xs ys = same_name-pointwise eq (reverse xs) (reverse ys) ∙ pointwise-reverse (part_eq eq) xs ys
-
 -- ---- order
 
 module _ {E : Type 0} {cmp : E → E → Ordering} where

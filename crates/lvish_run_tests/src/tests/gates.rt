@@ -72,8 +72,9 @@ impl Gate for Meeting {
 
 /// Which of main's forks the task is; `None` of main and of others' tasks.
 pub fn fork_of_main(task: &TaskName<Event>) -> Option<u64> {
-    match task.parts() {
-        [NamePart::Fork(number)] => Some(*number),
+    let (last, before) = task.parts().split_last()?;
+    match (last, before.split_last()) {
+        (NamePart::Fork(number), None) => Some(*number),
         _ => None,
     }
 }

@@ -31,7 +31,7 @@ invariant_of-self-in-Error g c =
     let there = step.indices c.args.numbers.index c.args.asked.now.task live in
     let noted = all_noted (task_names c.self.inside.core.table.tasks) (task_names c.step_with_room.new.core.table.tasks) step.indices c.self.inside.trace.items c.step_with_room.new.trace.items c.args.worker (ActStep c.args.numbers.index) c.self.invariant.1 c.in-Ok.ensures.written (c.args.asked.now.task, there) in
     let longer = written (task_names c.self.inside.core.table.tasks) (task_names c.step_with_room.new.core.table.tasks) step.indices c.self.inside.trace.items c.step_with_room.new.trace.items c.args.worker (ActStep c.args.numbers.index) c.self.invariant.1 c.in-Ok.ensures.written (Act c.args.asked.now.task) (acts_there (task_names c.step_with_room.new.core.table.tasks) c.args.numbers.index c.args.asked.now.task there) in
-    (c.self.invariant.0, noted, error_kept _ _ _ _ _ step _ _ _ _ _ _ c.args.worker _ c.self.invariant.2 (rw (← c.self.view_is) at c.requires.room) longer c.error_outcome.ensures)
+    (c.self.invariant.0, noted, error_kept _ _ _ _ _ step _ _ _ _ _ _ c.args.worker _ c.self.invariant.2 (rw (← c.self.view_is) at c.requires.room) longer (rw c.step_with_room.ensures.same at c.error_outcome.ensures))
 
 pub returns-in-Error-clause-comes : goal.returns-in-Error-clause-comes
 returns-in-Error-clause-comes g c =
@@ -97,11 +97,11 @@ returns-in-Done-clause-comes g c =
     let there = acts_there (task_names c.step_with_room.new.core.table.tasks) c.args.numbers.index c.args.asked.now.task (k.step.indices c.args.numbers.index c.args.asked.now.task live) in
     let longer = c.settle.ensures.trace ∙ written (task_names c.self.inside.core.table.tasks) (task_names c.step_with_room.new.core.table.tasks) k.step.indices c.self.inside.trace.items c.step_with_room.new.trace.items c.args.worker (ActStep c.args.numbers.index) c.self.invariant.1 c.in-Ok.ensures.written (Act c.args.asked.now.task) there
     ∙ ap (λ b. b.trace ++ entry_of c.args.worker (Act c.args.asked.now.task) ∷ []) c.self.view_is in
-    let own = ap is_some (sym c.left_by-left.ensures.own) ∙ sym c.is_some-goes_on.ensures in
+    let own = ap is_some (sym (rw c.step_with_room.ensures.same at c.left_by-left.ensures.own)) ∙ sym c.is_some-goes_on.ensures in
     act_left c.is_some-goes_on.result c.leave.new.works c.next_or_gone.result c.next_or_gone.ensures.next c.next_or_gone.ensures.gone c.requires.running longer
     (λ goes done. not_done ok k (own ∙ goes) (subst (λ z. IsDone M z c.args.asked.now.task) c.settle.ensures.core done))
     (λ ends. subst (λ z. IsDone M z c.args.asked.now.task) (sym c.settle.ensures.core) (is_done ok k (own ∙ ends)))
-    (is_listed (c.waiting_tasks.ensures.until_touched g.J.Named.program) k (c.passes_at_its_spot.ensures g.J.Named.program) c.self.invariant.2.blocked c.leave.ensures.left (act_tickets c.args.asked.now.task c.in-Ok.moved c.left_by-left.result.own c.left_by-left.result.made c.left_by-left.ensures.own c.left_by-left.ensures.made) c.args.self.now c.settle.new.self (seen_core c.self.view_is) (seen_parked c.self.view_is) c.settle.ensures.core c.settle.ensures.parked)
+    (is_listed (c.waiting_tasks.ensures.until_touched g.J.Named.program) k (c.passes_at_its_spot.ensures g.J.Named.program) c.self.invariant.2.blocked c.leave.ensures.left (act_tickets c.args.asked.now.task c.in-Ok.moved c.left_by-left.result.own c.left_by-left.result.made (rw c.step_with_room.ensures.same at c.left_by-left.ensures.own) c.left_by-left.ensures.made) c.args.self.now c.settle.new.self (seen_core c.self.view_is) (seen_parked c.self.view_is) c.settle.ensures.core c.settle.ensures.parked)
     (ap (λ z. label_at (task_names z.table.tasks) c.leave.new.works.step) c.settle.ensures.core ∙ ap (label_at _) (c.leave.ensures.step ∙ c.left_by-left.ensures.step) ∙ there)
     (ap is_some c.leave.ensures.own ∙ sym c.is_some-goes_on.ensures)
 

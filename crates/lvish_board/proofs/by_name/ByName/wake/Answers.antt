@@ -42,7 +42,7 @@ pub can_act-requires-clause-request : goal.can_act-requires-clause-request
 can_act-requires-clause-request g c = λ l f a p live.
     let asked = c.in-Some.asked.now in
     let same : l ≡ asked.from = same_Some l asked.from (sym (ap local_of live) ∙ stands g (goal.at.can_act-requires-clause-request g c).In-Some) in
-    ap (λ k. (g.P.Program.functions c.args.core.now.program).request k) same ∙ ap (λ q. (g.P.Program.functions q).request asked.from) c.requires.program ∙ sym c.asks.ensures.request
+    ap (λ k. (g.P.Program.functions c.args.core.now.program).request k) same ∙ ap (λ q. (g.P.Program.functions q).request asked.from) c.requires.program ∙ sym c.request.ensures
 
 pub returns-then-not-can_act-clause-wakes : goal.returns-then-not-can_act-clause-wakes
 returns-then-not-can_act-clause-wakes g c =

@@ -43,15 +43,15 @@ none_added q never = refl
 pub returns-in_ok-reserve-in_default : goal.returns-in_ok-reserve-in_default
 returns-in_ok-reserve-in_default g c =
     let M = machine_of g.P.Lat.PartialEq.eq g.P.Lat.Event.PartialEq.eq g.P.Lat.Event.Ord.cmp g.P.Lat.Lattice.least g.P.Lat.Lattice.joined g.P.Lat.Lattice.events_of g.P.Lat.Reads.answer_of (g.P.Program.functions c.args.core.now.program) in
-    let asked : (g.P.Program.functions c.args.core.now.program).request c.args.asked.now.from ≡ c.asks.result.now.request = ap (λ p. (g.P.Program.functions p).request c.args.asked.now.from) c.requires.program ∙ sym c.asks.ensures.request in
+    let asked : (g.P.Program.functions c.args.core.now.program).request c.args.asked.now.from ≡ c.request.result.now = ap (λ p. (g.P.Program.functions p).request c.args.asked.now.from) c.requires.program ∙ sym c.request.ensures in
     let woken = c.in_ok-reserve-in_default.ensures.woken in
     let concerned = c.in_ok-reserve-in_default.ensures.concerned in
     let hands = c.in_ok-reserve-in_default.ensures.hands in
     let none = ap length concerned.0 in
-    let added = ap most_added asked ∙ none_added c.asks.result.now.request c.in_default.not-Add in
+    let added = ap most_added asked ∙ none_added c.request.result.now c.in_default.not-Add in
     record {
       empty = (woken.0, hands.0);
-      concerned = subst (λ q. AreConcerned g.P.Lat.Event.Ord.cmp M c.args.core.now q c.reserve-in_default.new.self.concerned.items 0) (sym asked) (other_concerned g.P.Lat.Event.Ord.cmp M c.args.core.now c.asks.result.now.request c.reserve-in_default.new.self.concerned.items 0 c.in_default.not-Put concerned.0);
+      concerned = subst (λ q. AreConcerned g.P.Lat.Event.Ord.cmp M c.args.core.now q c.reserve-in_default.new.self.concerned.items 0) (sym asked) (other_concerned g.P.Lat.Event.Ord.cmp M c.args.core.now c.request.result.now c.reserve-in_default.new.self.concerned.items 0 c.in_default.not-Put concerned.0);
       woken_room = woken.1;
       concerned_room = omega (arith, concerned.1, none, added);
       hands_room = omega (arith, hands.1, none, added);

@@ -12,7 +12,7 @@ overflow_add-numbers g c = omega (arith, few_numbers (rw (← c.self.view_is) at
 
 pub fail-requires-clause-failing : goal.fail-requires-clause-failing
 fail-requires-clause-failing g c =
-    rw (← c.self.view_is) (record { at = c.args.at.now; forks = c.args.numbers.forks; adds = c.args.numbers.adds; puts = c.args.numbers.puts; request = Add c.args.pool c.args.procedure; acting = (rw (← c.self.view_is) at c.requires.acting); errs = (c.in-Err-Deep.ensures.deep.0 (ap Err c.in-Err-Deep.field-0-is), refl) })
+    rw (← c.self.view_is) (record { at = c.args.at; forks = c.args.numbers.forks; adds = c.args.numbers.adds; puts = c.args.numbers.puts; request = Add c.args.pool c.args.procedure; acting = (rw (← c.self.view_is) at c.requires.acting); errs = (c.in-Err-Deep.ensures.deep.0 (ap Err c.in-Err-Deep.field-0-is), refl) })
 
 pub unreachable-requires : goal.unreachable-requires
 unreachable-requires g c = pool_is_there (c.lawful.ensures c.self.inside.program.now) c.self.invariant (g.met.P.Program.lawful c.self.inside.program.now).known (rw (← c.self.view_is) at c.requires.acting) (sym c.pool_variable.ensures ∙ c.in_default.is)

@@ -22,8 +22,8 @@ invariant_of-self g c =
     (ending (c.lawful.ensures c.self.inside.program.now) c.self.invariant (g.met.P.Program.lawful c.self.inside.program.now).known (c.plain_kept.ensures c.self.inside.program.now) (c.counts_kept.ensures.plain c.self.inside.program.now) (c.counts_follow.ensures.rest c.self.inside.program.now) placed
     (rw (← c.self.view_is) at c.requires.acting) (rw (← c.self.view_is) at c.requires.room) (c.counts_follow.ensures.end c.self.inside.program.now) (c.close.ensures.tasks c.args.name.now (rw (← c.self.view_is) at c.requires.there)) counts).1
 
-pub returns : goal.returns
-returns g c =
+pub returns-clause-acts : goal.returns-clause-acts
+returns-clause-acts g c =
     let placed = rw (← c.self.view_is) at c.in_ok-place.ensures in
     let counts = counts_written one_less_in c.in_ok-place.place _ _ _ c.deref_mut.ensures.value c.self.inside.handlers.ok.0 c.end_at.ensures in
     rw (← c.self.view_is, c.nothing.ensures, c.close.ensures.steps, c.close.ensures.touched, c.ended_in-on.ensures)

@@ -23,7 +23,7 @@ start_at-requires g c =
 pub fail-requires-clause-failing : goal.fail-requires-clause-failing
 fail-requires-clause-failing g c =
     let deep = rw c.in_default.is at c.in_ok-started.ensures in
-    rw (← c.self.view_is) (record { at = c.args.at.now; forks = c.args.numbers.forks; adds = c.args.numbers.adds; puts = c.args.numbers.puts; request = Fork c.args.child.now; acting = (rw (← c.self.view_is) at c.requires.acting); errs = (deep, refl) })
+    rw (← c.self.view_is) (record { at = c.args.at; forks = c.args.numbers.forks; adds = c.args.numbers.adds; puts = c.args.numbers.puts; request = Fork c.args.child.now; acting = (rw (← c.self.view_is) at c.requires.acting); errs = (deep, refl) })
 
 pub invariant_of-self-2 : goal.invariant_of-self-2
 invariant_of-self-2 g c =

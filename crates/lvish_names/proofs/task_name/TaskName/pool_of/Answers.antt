@@ -1,37 +1,33 @@
-use Rattle.std.proofs.Common.{◌≡◌, ◌<◌, ◌≤◌, ◌+◌, ◌∷◌, ◌++◌, [], length, reverse, Some, sym, ap, ◌∙◌, arith}
-use Rattle.std.proofs.lemmas.List.{length-reverse}
+use Rattle.std.proofs.Common.{◌≡◌, false, length, option_map, sym, ap, ◌∙◌, arith}
+use Rattle.std.proofs.lemmas.Bool.{not-true}
+use Rattle.std.specs.Arc.{arc_value}
+use Rattle.std.specs.Option.{option_copied}
 use Rattle.lvish_names.specs.Names.{handler_of}
-use Rattle.lvish_names.proofs.NameLaws.{not_deep-from_parts}
-use Rattle.lvish_names.proofs.Prefixes.{before_last, passes, enters}
+use Rattle.lvish_names.specs.Path.{link_parts, path_parts}
+use Rattle.lvish_names.specs.Summaries.{summary_of}
+use Rattle.lvish_names.specs.declared.path.Link.{out-Link}
+use Rattle.lvish_names.specs.declared.summary.Summary.{Summary}
+use Rattle.lvish_names.proofs.Links.{parts-link}
+use Rattle.lvish_names.proofs.NameLaws.{not_deep-from_lt}
+use Rattle.lvish_names.proofs.Summaries.{no_event-no_pool}
 use Rattle.lvish_names.proofs.task_name.TaskName.pool_of.Goals as goal
-use Rattle.lvish_names.specs.declared.limits.TheConstants.{MOST_PARTS}
+
+pub returns-then-not-summary : goal.returns-then-not-summary
+returns-then-not-summary g c =
+    let none : (summary_of c.args.self.now).has_event ≡ false = ap (λ (s : Summary). s.has_event) (sym c.summary.ensures.of) ∙ not-true _ c.if-not-summary.true in
+    sym (no_event-no_pool c.args.self.now none)
+
+pub loop-path-init : goal.loop-path-init
+loop-path-init g c = record {
+  same_pool = ap handler_of c.link-path.ensures.parts;
+  summed = c.link-path.ensures.summed;
+  few = c.link-path.ensures.few;
+}
 
 pub of-requires : goal.of-requires
 of-requires g c =
-    let parts : c.loop-last.parts.now ≡ c.in-Some.before.now ++ c.in-Some.last.now ∷ [] = c.in-Some.ensures.cases.0 in
-    let begin = before_last c.in-Some.before.now c.in-Some.last.now (length c.loop-last.parts.now) (reverse c.args.self.now) (sym parts ∙ c.loop-last.invariant.begin) in
-    let long : length c.in-Some.before.now + 1 ≡ length c.loop-last.parts.now = c.in-Some.ensures.cases.1 in
-    let small : length c.parts-parts.result.now ≤ MOST_PARTS = c.parts-parts.ensures.few in
-    let same : length c.parts-parts.result.now ≡ length c.args.self.now = ap length c.parts-parts.ensures.parts ∙ length-reverse c.args.self.now in
-    let few : length c.in-Some.before.now < MOST_PARTS = omega (arith, long, small, same, c.loop-last.invariant.few) in
-    rw (c.in_ok-adder.ensures, begin) (not_deep-from_parts c.in-Some.before.now few)
-
-pub returns-in-Hand : goal.returns-in-Hand
-returns-in-Hand g c =
-    let parts : c.loop-last.parts.now ≡ c.in-Some.before.now ++ c.in-Some.last.now ∷ [] = c.in-Some.ensures.cases.0 in
-    let begin = before_last c.in-Some.before.now c.in-Some.last.now (length c.loop-last.parts.now) (reverse c.args.self.now) (sym parts ∙ c.loop-last.invariant.begin) in
-    let adder : c.in_ok-adder.adder ≡ reverse c.in-Some.before.now = c.in_ok-adder.ensures ∙ ap reverse begin in
-    ap (λ h. Some h) (c.of.ensures ∙ ap (λ a. record { adder = a; number = c.in-Hand.number }) adder)
-    ∙ sym (enters c.in-Some.before.now c.in-Hand.number c.in-Hand.field-1)
-    ∙ sym (ap (λ ps. handler_of (reverse ps)) (parts ∙ ap (λ x. c.in-Some.before.now ++ x ∷ []) c.in-Hand.is))
-    ∙ c.loop-last.invariant.same_pool
-
-pub loop-last-preserved : goal.loop-last-preserved
-loop-last-preserved g c =
-    let parts : c.loop-last.parts.now ≡ c.in-Some.before.now ++ c.in-Some.last.now ∷ [] = c.in-Some.ensures.cases.0 in
-    let long : length c.in-Some.before.now + 1 ≡ length c.loop-last.parts.now = c.in-Some.ensures.cases.1 in
-    record {
-      same_pool = sym (passes c.in-Some.before.now c.in-Some.last.now c.in_default-last.not-Hand) ∙ sym (ap (λ ps. handler_of (reverse ps)) parts) ∙ c.loop-last.invariant.same_pool;
-      begin = sym (before_last c.in-Some.before.now c.in-Some.last.now (length c.loop-last.parts.now) (reverse c.args.self.now) (sym parts ∙ c.loop-last.invariant.begin));
-      few = omega (arith, long, c.loop-last.invariant.few);
-    }
+    let before = path_parts (option_map arc_value (out-Link _ c.in-Some.link.now).before) in
+    let here : length (path_parts (option_copied c.loop-path.path)) ≡ length (link_parts c.in-Some.link.now) = ap (λ p. length (path_parts (option_copied p))) c.in-Some.is in
+    let longer = ap length (parts-link c.in-Some.link.now) in
+    let same : length (path_parts (option_map arc_value c.in_ok-path.path)) ≡ length before = ap (λ p. length (path_parts p)) c.in_ok-path.ensures in
+    not_deep-from_lt (path_parts (option_map arc_value c.in_ok-path.path)) (omega (arith, same, longer, here, c.loop-path.invariant.few))

@@ -13,26 +13,14 @@ module _ (c : flat.Code) where
   same : (l copy strode : Stack) → true ≡ stack_fits c l → copy ≡ l → run_from strode ≡ run_from copy → run_from strode ≡ asked c l
   same l copy strode fits is taken = taken ∙ ap run_from is ∙ sym (asked_is c l (sym fits))
 
-pub returns-in_ok-new-in-Some-here-clause-request : goal.returns-in_ok-new-in-Some-here-clause-request
-returns-in_ok-new-in-Some-here-clause-request c =
+pub returns-clause-request : goal.returns-clause-request
+returns-clause-request c =
     let code = c.args.self.now.flat in
-    let is = ap (run_from code) c.in_ok-new-in-Some-here.ensures ∙ same code c.args.local.now c.in_ok-at.at c.stride.new.local c.if-not-fits.ensures (c.in_ok-at.ensures ∙ c.stack-stack.ensures) c.stride.ensures.same in
-    subst (λ a. IfOk c.asked_by-in-Some-here.result (λ r. r.request ≡ a.request)) is c.asked_by-in-Some-here.ensures.request
+    let is = same code c.args.local.now c.in_ok-at.at c.stride_within.new.at c.if-not-fits.ensures c.in_ok-at.ensures c.stride_within.ensures in
+    subst (λ a. IfOk c.asked_at.result (λ r. r.request ≡ a.request)) is c.asked_at.ensures.request
 
-pub returns-in_ok-new-in-Some-here-clause-at : goal.returns-in_ok-new-in-Some-here-clause-at
-returns-in_ok-new-in-Some-here-clause-at c =
+pub returns-clause-at : goal.returns-clause-at
+returns-clause-at c =
     let code = c.args.self.now.flat in
-    let is = ap (run_from code) c.in_ok-new-in-Some-here.ensures ∙ same code c.args.local.now c.in_ok-at.at c.stride.new.local c.if-not-fits.ensures (c.in_ok-at.ensures ∙ c.stack-stack.ensures) c.stride.ensures.same in
-    subst (λ a. IfOk c.asked_by-in-Some-here.result (λ r. r.at ≡ a.at)) is c.asked_by-in-Some-here.ensures.at
-
-pub returns-in-None-clause-request : goal.returns-in-None-clause-request
-returns-in-None-clause-request c =
-    let code = c.args.self.now.flat in
-    let is = same code c.args.local.now c.in_ok-at.at c.stride.new.local c.if-not-fits.ensures (c.in_ok-at.ensures ∙ c.stack-stack.ensures) c.stride.ensures.same in
-    subst (λ a. IfOk c.asked_further.result (λ r. r.request ≡ a.request)) is c.asked_further.ensures.request
-
-pub returns-in-None-clause-at : goal.returns-in-None-clause-at
-returns-in-None-clause-at c =
-    let code = c.args.self.now.flat in
-    let is = same code c.args.local.now c.in_ok-at.at c.stride.new.local c.if-not-fits.ensures (c.in_ok-at.ensures ∙ c.stack-stack.ensures) c.stride.ensures.same in
-    subst (λ a. IfOk c.asked_further.result (λ r. r.at ≡ a.at)) is c.asked_further.ensures.at
+    let is = same code c.args.local.now c.in_ok-at.at c.stride_within.new.at c.if-not-fits.ensures c.in_ok-at.ensures c.stride_within.ensures in
+    subst (λ a. IfOk c.asked_at.result (λ r. r.at ≡ a.at)) is c.asked_at.ensures.at

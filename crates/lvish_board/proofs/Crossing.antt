@@ -1,0 +1,106 @@
+-- Tickets, requests and a board may go to another thread where the program may be seen from one, and its
+-- states, reads, local states and events may go there. Each fact is one step of a search, which would else go
+-- down all links of each name.
+use mathlib.Core.List.{[], ◌∷◌}
+use denote.Builtin.{usize}
+use denote.Hole.{as_row}
+use denote.Param.Send.{IsSend, IsSync, sendable, view_send}
+use denote.Param.SendFields.{as_row_send, declared_send, variants_send}
+use denote.RattleType.{RattleType}
+use denote.Ref.{NamedLft}
+use denote.Struct.Field.{row_field, u64-field}
+use denote.Struct.Tuple.{Tuple}
+use Rattle.std.proofs.Crossing.{crosses}
+use Rattle.std.proofs.MapsCrossing as maps
+use Rattle.std.specs.contracts.alloc.Global as Global
+use Rattle.std.specs.contracts.impls.GlobalAllocator.TheImpl.{ghosts}
+use Rattle.std.specs.contracts.option.Option as Option
+use Rattle.std.specs.contracts.vec.Vec as Vec
+use Rattle.std.specs.declared.cmp.Eq as equal
+use Rattle.std.specs.declared.cmp.Ord as order
+use Rattle.std.specs.declared.cmp.PartialEq as same
+use Rattle.std.specs.declared.cmp.PartialOrd as partial
+use Rattle.std.specs.declared.hash.Hash as hash
+use Rattle.lvish_lattice.specs.declared.lattice.Lattice as lattice
+use Rattle.lvish_lattice.specs.declared.lattice.Reads as reads
+use Rattle.lvish_names.proofs.Crossing.{name_send, handler_send}
+use Rattle.lvish_names.specs.contracts.handler_name.HandlerName as HandlerName
+use Rattle.lvish_names.specs.contracts.task_name.TaskName as TaskName
+use Rattle.lvish_calculus.proofs.request.Request.TheSendSync as of_request
+use Rattle.lvish_calculus.specs.declared.program.Program as program
+use Rattle.lvish_core.proofs.Crossing.{core_send}
+use Rattle.lvish_core.specs.contracts.machine.Core as Core
+use Rattle.lvish_board.specs.contracts.asked.Asked as Asked
+use Rattle.lvish_board.specs.contracts.asked.Asked.TheInside as inside_asked
+use Rattle.lvish_board.specs.contracts.board.Board as Board
+use Rattle.lvish_board.specs.contracts.board.Board.TheInside as inside_board
+use Rattle.lvish_board.specs.contracts.by_name.ByName as ByName
+use Rattle.lvish_board.specs.contracts.noted.Noted as Noted
+use Rattle.lvish_board.specs.contracts.outcome.Outcome as Outcome
+use Rattle.lvish_board.specs.contracts.parked.Parked as Parked
+use Rattle.lvish_board.specs.contracts.parked.Parked.TheInside as inside_parked
+use Rattle.lvish_board.specs.contracts.room.Room as Room
+use Rattle.lvish_board.specs.contracts.shelves.Shelves as Shelves
+use Rattle.lvish_board.specs.contracts.ticket.Ticket as Ticket
+use Rattle.lvish_board.specs.declared.named.Named as named
+
+number_send : IsSend (as_row u64-field)
+number_send = search sendable depth 20
+
+trace_send : IsSend (Vec.the_row Noted.the_row Global.the_row ghosts)
+trace_send = search (crosses, sendable) depth 24
+
+shelves_send : (K T : RattleType) → IsSend K → IsSend T → (g : same.Ghosts K.Denot) (h : hash.Ghosts K.Denot) → IsSend (Shelves.the_row K T g h)
+shelves_send K T k t g h = search (crosses, maps.crosses, sendable) depth 30
+
+module _ (E : RattleType) (s : IsSend E) (y : IsSync E) where
+  name : IsSend (TaskName.the_row E)
+  name = name_send E s y
+
+  handler : IsSend (HandlerName.the_row E)
+  handler = handler_send E s y
+
+  over_send : IsSend (Option.the_row (Outcome.the_row E))
+  over_send = search (name, sendable) depth 24
+
+  -- the ghosts of the events, of the states, of the program and of the run's name are those of any impl
+  module _ (P J S L R A W : RattleType) (sJ : IsSend J) (sS : IsSend S) (sL : IsSend L) (sR : IsSend R)
+      (e1 : order.Ghosts E.Denot) (e2 : equal.Ghosts E.Denot) (e3 : same.Ghosts E.Denot) (e4 : partial.Ghosts E.Denot) (e5 : hash.Ghosts E.Denot)
+      (p : program.Ghosts P.Denot S.Denot L.Denot R.Denot A.Denot W.Denot E.Denot)
+      (s1 : lattice.Ghosts S.Denot E.Denot) (s2 : same.Ghosts S.Denot) (s3 : reads.Ghosts S.Denot R.Denot A.Denot W.Denot E.Denot)
+      (w1 : order.Ghosts W.Denot) (w2 : same.Ghosts W.Denot) (w3 : partial.Ghosts W.Denot) (w4 : hash.Ghosts W.Denot) (l1 : same.Ghosts L.Denot)
+      (n : named.Ghosts J.Denot P.Denot S.Denot L.Denot R.Denot A.Denot W.Denot E.Denot) where
+    pub ticket_send : IsSend (Ticket.the_row P J S L R A W E p s3 s1 s2 e1 e3 e4 e5 w1 w2 w3 w4 l1 n)
+    ticket_send = search (name, sendable) depth 24
+
+    at_send : IsSend (Option.the_row L)
+    at_send = variants_send (Option.enum L) (tt, ((as_row_send (row_field L) sL, tt), tt))
+
+    pub asked_send : IsSend (Asked.the_row P J S L R A W E p s3 s1 s2 e1 e3 e4 e5 w1 w2 w3 w4 l1 n)
+    asked_send =
+        view_send (inside_asked.the_row P J S L R A W E p s3 s1 s2 e1 e3 e4 e5 w1 w2 w3 w4 l1 n) _ _ _ _
+        (declared_send (inside_asked.the_type P J S L R A W E p s3 s1 s2 e1 e3 e4 e5 w1 w2 w3 w4 l1 n)
+        (as_row_send (Ticket.the_field P J S L R A W E p s3 s1 s2 e1 e3 e4 e5 w1 w2 w3 w4 l1 n) ticket_send, (of_request.the_send S R L sS sR sL, (at_send, tt))))
+
+    room_send : IsSend (Room.the_row P J S L R A W E p s3 s1 s2 e1 e3 e4 e5 w1 w2 w3 w4 l1 n)
+    room_send = search (asked_send, handler, crosses, sendable) depth 24
+
+    by_name_send : IsSend (ByName.the_row P J S L R A W E p s3 s1 s2 e1 e2 e3 e4 e5 w1 w2 w3 w4 l1 n)
+    by_name_send = search (asked_send, name, crosses, maps.crosses, sendable) depth 30
+
+    module _ (sW : IsSend W) (w0 : equal.Ghosts W.Denot) where
+      parked_send : IsSend (Parked.the_row P J S L R A W E p s3 s1 s2 e1 e2 e3 e4 e5 w1 w0 w2 w3 w4 l1 n)
+      parked_send =
+          let key : IsSend (Tuple (usize ∷ Option.the_row W ∷ [])) = search sendable depth 20 in
+          let place : IsSend usize = search sendable depth 20 in
+          view_send (inside_parked.the_row P J S L R A W E p s3 s1 s2 e1 e2 e3 e4 e5 w1 w0 w2 w3 w4 l1 n) _ _ _ _
+          (declared_send (inside_parked.the_type P J S L R A W E p s3 s1 s2 e1 e2 e3 e4 e5 w1 w0 w2 w3 w4 l1 n)
+          (as_row_send (ByName.the_field P J S L R A W E p s3 s1 s2 e1 e2 e3 e4 e5 w1 w2 w3 w4 l1 n) by_name_send, (shelves_send _ _ key name _ _, (shelves_send _ _ place name _ _, tt))))
+
+      pub board_send : (a : NamedLft) → IsSync P → IsSend (Board.the_row a P J S L R A W E p s3 s1 s2 e1 e2 e3 e4 e5 w1 w0 w2 w3 w4 l1 n)
+      board_send a yP =
+          let core = as_row_send (Core.the_field a P S L R A W E p s3 s1 s2 e1 e2 e3 e4 e5 w1 w2 w3 w4 l1) (core_send E s y S sS e1 e2 e3 e4 e5 s1 s2 P L R A W p s3 w1 w2 w3 w4 l1 a yP sL) in
+          let parked = as_row_send (Parked.the_field P J S L R A W E p s3 s1 s2 e1 e2 e3 e4 e5 w1 w0 w2 w3 w4 l1 n) parked_send in
+          view_send (inside_board.the_row a P J S L R A W E p s3 s1 s2 e1 e2 e3 e4 e5 w1 w0 w2 w3 w4 l1 n) _ _ _ _
+          (declared_send (inside_board.the_type a P J S L R A W E p s3 s1 s2 e1 e2 e3 e4 e5 w1 w0 w2 w3 w4 l1 n)
+          (core, (trace_send, (number_send, (over_send, (parked, (room_send, tt)))))))
