@@ -9,8 +9,7 @@ use crate::order::Order;
 use crate::reading::{MOST_READ, ReadFault, read_text};
 use crate::status::Status;
 use crate::writing::write_answer;
-use lvish_compound::{Any, Event};
-use lvish_run::{Report, RunFault, RunMeaning};
+use lvish_run::{RunFault, RunMeaning};
 use lvish_syntax::Script;
 use std::alloc::Global;
 use std::io::{Read, Write};
@@ -32,39 +31,17 @@ pub fn perform<T: Threads + Wait + Sync, R: Read, W: Write>(
         (R.remaining reader.old) (W.contents writer.old) (W.contents writer.new) result }
     ensures reads { GivesUpTo MOST_READ (R.remaining reader.old) (R.remaining reader.new) }
 {
-    let (status, _report) = performed(rt, alloc, order, reader, writer);
-    status
-}
-
-/// Does what [`perform`] does, and answers the report of a run too. A program that ends needn't give
-/// back its memory, which is as much work as a tenth of a short run.
-pub(crate) fn performed<T: Threads + Wait + Sync, R: Read, W: Write>(
-    rt: &T,
-    alloc: Global,
-    order: &Order,
-    reader: &mut R,
-    writer: &mut W,
-) -> (Status, Option<Report<Any, Event>>)
-    requires { IsInBounds order.now }
-    ensures performs { Performs ⟦<Script as RunMeaning>⟧ order.now
-        (R.remaining reader.old) (W.contents writer.old) (W.contents writer.new) result.0 }
-    ensures reads { GivesUpTo MOST_READ (R.remaining reader.old) (R.remaining reader.new) }
-{
     let input = match read_text(alloc, reader) {
         Ok(input) => input,
-        Err(ReadFault::Unreadable) => return (Status::Unreadable, None),
-        Err(ReadFault::Memory) => return (Status::Memory, None),
+        Err(ReadFault::Unreadable) => return Status::Unreadable,
+        Err(ReadFault::Memory) => return Status::Memory,
     };
     let answer = match answer_to(rt, alloc, order, input.as_slice()) {
         Ok(answer) => answer,
-        Err(fault) => return (unanswered(fault), None),
+        Err(fault) => return unanswered(fault),
     };
-    let Output {
-        status,
-        text,
-        report,
-    } = answer;
-    (write_answer(writer, text.as_bytes(), status), report)
+    let Output { status, text } = answer;
+    write_answer(writer, text.as_bytes(), status)
 }
 
 /// The status where a run met the fault.
