@@ -2,6 +2,7 @@
 use Rattle.std.proofs.Common.{◌≡◌, ◌≤◌, ◌<◌, ◌++◌, ℕ, suc, Bool, true, false, not, ◌&&◌, if◌then◌else◌, List, [], Option, Some, None, is_some, slice_get, unwrap_or, option_map, refl, sym, ap, subst, ◌∙◌, arith, length, length-set, append-nil}
 use mathlib.Core.Path.{fun_ext}
 use Rattle.std.proofs.lemmas.Bool.{false_from_ne_true, false≢true}
+use Rattle.std.proofs.lemmas.Option.{same_Some}
 use Rattle.lvish_lattice.specs.Lattice.{fresh_of}
 use Rattle.lvish_core.specs.Vocabulary.{Request, Put, Get, Fork, Freeze, End, Reply, Done, Answer, Content, Frozen, Deep, Act, Entry, MOST_STEPS, HandlerPlace, PutOn, EndedIn, Other, Touched}
 use Rattle.lvish_calculus.specs.Machine.{Machine, IsLawful}
@@ -19,7 +20,7 @@ use Rattle.lvish_core.specs.Core.{CoreView, state}
 use Rattle.lvish_core.specs.Changes.{put_brings, touching, touched_in}
 use Rattle.lvish_core.specs.Places.{IsPlaceOf}
 use Rattle.lvish_core.specs.Beside.{PutAt, FrozenAt, CountsAt, one_more_in, one_less_in}
-use Rattle.lvish_core.specs.Tasks.{KeepsIndices, Sets}
+use Rattle.lvish_core.specs.Tasks.{IsAt, KeepsIndices, Sets}
 use Rattle.lvish_core.specs.Acts.{IsAsked, IsActing, IsReplied}
 use Rattle.lvish_core.specs.Kept.{IsKept}
 use Rattle.lvish_core.specs.laws.Runs.{content_at}
@@ -141,6 +142,7 @@ module _ {P S E R A L : Type 0} {M : Machine S E R A L} (ok : IsLawful M) {varia
       counted = law2 kept.standing.run old.table put_table t kept.standing.pictured kept.counted put_step;
       index = record { posts = kept.index.posts; own = kept.index.own };
       indices = sets.indices;
+      last = λ x e. absurd (cc e);
     })
 
   -- ---- a freeze
@@ -182,15 +184,16 @@ module _ {P S E R A L : Type 0} {M : Machine S E R A L} (ok : IsLawful M) {varia
       counted = law2 kept.standing.run old.table frozen_table t kept.standing.pictured kept.counted freeze_step;
       index = record { posts = kept.index.posts; own = kept.index.own };
       indices = sets.indices;
+      last = λ x e. absurd (cc e);
     })
 
   -- ---- a get, a pause, a fork and an end, which change nothing but tasks and the counts of pools
 
   plainly : ActKept IsPlainStep M → PlainCounted M → old.steps < MOST_STEPS → (r : Request S R L) (acts : IsActing M old t at f a p r) (own made : Option (Name E × Task L)) (about : Touched) (hss : List (Handlers E)) (us : List (Name E × Task L))
       → request_effect M (state M old) t at f a p r ≡ Changes (task_change own made) → about ≡ touched_in M (state M old) None own → Turn (state M old).tasks own → Start (state M old).tasks made → AreTasks M.event_same old.table.tasks own made us → KeepsIndices old.table.tasks us
-      → AreCounts M (state M old) own made old.table.handlers hss × AreHeld old.table.handlers hss
+      → ((x : Name E × Task L) → made ≡ Some x → IsAt us (length old.table.tasks) x.0) → AreCounts M (state M old) own made old.table.handlers hss × AreHeld old.table.handlers hss
       → Moves ok kept (Act t) (task_change own made) (record { variables = old.table.variables; handlers = hss; tasks = us }) places about
-  plainly law law2 room r acts own made about hss us does touches turn begins tasks stay counts =
+  plainly law law2 room r acts own made about hss us does touches turn begins tasks stay last counts =
       let new : Table S E L = record { variables = old.table.variables; handlers = hss; tasks = us } in
       let step : IsPlainStep M old.table t new = record {
         local = acts.local;
@@ -217,6 +220,7 @@ module _ {P S E R A L : Type 0} {M : Machine S E R A L} (ok : IsLawful M) {varia
         counted = law2 kept.standing.run old.table new t kept.standing.pictured kept.counted step counts.0;
         index = record { posts = kept.index.posts; own = kept.index.own };
         indices = stay;
+        last = last;
       })
 
   -- a get and a pause
@@ -225,19 +229,22 @@ module _ {P S E R A L : Type 0} {M : Machine S E R A L} (ok : IsLawful M) {varia
   going_on {reply} h room law law2 rest {us} sets =
       let own : Option (Name E × Task L) = Some (t, Live (M.resume at reply) f a p) in
       plainly law law2 room h.request h.acting own None Other old.table.handlers us h.does refl
-      (on t h.acting.local _ f a p f a p h.acting.asking.live (omega arith) (omega arith) (omega arith)) nobody sets.each sets.indices (rest (state M old) own None old.table.handlers (λ q. refl) (λ q. refl), refl)
+      (on t h.acting.local _ f a p f a p h.acting.asking.live (omega arith) (omega arith) (omega arith)) nobody sets.each sets.indices (λ x e. absurd (cc e)) (rest (state M old) own None old.table.handlers (λ q. refl) (λ q. refl), refl)
 
   module _ (known : (k v : ℕ) → M.pool_variable k ≡ Some v → v < variables) (law : ActKept IsPlainStep M) (law2 : PlainCounted M) (rest : RestIsFollowed M) {us : List (Name E × Task L)} {place : Option HandlerPlace} (place_is : IsPlaceOf M (state M old) t place) {hss : List (Handlers E)} where
     -- a fork
     pub forking : {child_at : L} → IsActing M old t at f a p (Fork child_at) → old.steps < MOST_STEPS → is_deep t ≡ false → StartIsFollowed M → NewTaskIsNew M → {mid : List (Name E × Task L)}
-        → Sets M.event_same old.table.tasks (forked t (suc f)) (Live child_at 0 0 0) mid → Sets M.event_same mid t (Live (M.resume at Done) (suc f) a p) us → CountsAt one_more_in old.table.handlers place hss
+        → Sets M.event_same old.table.tasks (forked t (suc f)) (Live child_at 0 0 0) mid → (task_of M.event_same old.table.tasks (forked t (suc f)) ≡ Absent → IsAt mid (length old.table.tasks) (forked t (suc f)))
+        → Sets M.event_same mid t (Live (M.resume at Done) (suc f) a p) us → CountsAt one_more_in old.table.handlers place hss
         → Moves ok kept (Act t) (task_change (Some (t, Live (M.resume at Done) (suc f) a p)) (Some (forked t (suc f), Live child_at 0 0 0))) (record { variables = old.table.variables; handlers = hss; tasks = us }) places Other
-    forking {child_at} acts room shallow follows fresh made goes counts =
+    forking {child_at} acts room shallow follows fresh made added goes counts =
         let own : Option (Name E × Task L) = Some (t, Live (M.resume at Done) (suc f) a p) in
         let new : Option (Name E × Task L) = Some (forked t (suc f), Live child_at 0 0 0) in
+        let absent = (fresh kept.standing.run old.table kept.standing.pictured).0 t acts.local f a p acts.asking.live in
         plainly law law2 room (Fork child_at) acts own new Other hss us (ap (λ b. if b then Fails Deep None t else Changes (task_change own new)) shallow) refl
-        (on t acts.local _ f a p (suc f) a p acts.asking.live (omega arith) (omega arith) (omega arith)) (child (forked t (suc f)) child_at ((fresh kept.standing.run old.table kept.standing.pictured).0 t acts.local f a p acts.asking.live))
+        (on t acts.local _ f a p (suc f) a p acts.asking.live (omega arith) (omega arith) (omega arith)) (child (forked t (suc f)) child_at absent)
         (λ x. goes.each x ∙ ap (λ (z : Name E → Task L). with_task M.event_same own z x) (fun_ext made.each)) (λ i u at. goes.indices i u (made.indices i u at))
+        (λ x e. subst (λ u. IsAt us (length old.table.tasks) u) (ap (λ y. y.0) (same_Some _ _ e)) (goes.indices _ _ (added absent)))
         (started kept known follows rest own t (forked t (suc f)) (Live child_at 0 0 0) place hss place_is refl (λ q. refl) counts)
 
     -- the end of a task
@@ -245,7 +252,7 @@ module _ {P S E R A L : Type 0} {M : Machine S E R A L} (ok : IsLawful M) {varia
         → Moves ok kept (Act t) (just t Ended) (record { variables = old.table.variables; handlers = hss; tasks = us }) places (touching (λ v. EndedIn v) (option_map (λ q. q.variable) place))
     ending acts room follows sets counts =
         plainly law law2 room End acts (Some (t, Ended)) None _ hss us refl (ap (touching (λ v. EndedIn v)) (pool_variable_is M (state M old) t place place_is))
-        (off t acts.local f a p acts.asking.live) nobody sets.each sets.indices (stopped kept known follows rest t place hss place_is counts)
+        (off t acts.local f a p acts.asking.live) nobody sets.each sets.indices (λ x e. absurd (cc e)) (stopped kept known follows rest t place hss place_is counts)
 
   -- some task runs, where one acts
   pub some_runs : IsActing M old t at f a p End → 1 ≤ n

@@ -164,4 +164,5 @@ module _ {P S E R A L : Type 0} {M : Machine S E R A L} (ok : IsLawful M) {varia
         own = λ k q e. owns k q (same_handler M.event_same k name) (put_in.each k) e;
       };
       indices = sets.indices;
+      last = λ x e. absurd (cc e);
     })

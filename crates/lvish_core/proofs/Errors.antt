@@ -89,6 +89,7 @@ module _ {P S E R A L : Type 0} {M : Machine S E R A L} (law : ErrorsAreSteps M)
         logs = λ u x y a b. same_log old.table.variables u x y a b ∙ ap (λ o. x.log ++ brings M (state M old) u o) (sym does);
         touched = ap Some (sym (ap (λ o. task_touches M (state M old) o) does));
         indices = λ i u at. at;
+        started = λ m e. absurd (cc (sym (ap (λ o. (moved_in o).made) does) ∙ e));
         shows_before = λ k e. refl;
       }
 

@@ -1,7 +1,7 @@
 -- A step of a core that isn't an error, over any machine.
-use Rattle.std.proofs.Common.{◌≡◌, ◌+◌, ◌<◌, ◌≤◌, ℕ, List, [], ◌∷◌, ◌++◌, length, Some, None, slice_get, slice_set, refl, sym, ap, subst, ◌∙◌, arith, length-append, append-nil}
+use Rattle.std.proofs.Common.{◌≡◌, ◌+◌, ◌<◌, ◌≤◌, ℕ, List, [], ◌∷◌, ◌++◌, length, Option, Some, None, option_and_then, slice_get, slice_set, refl, sym, ap, subst, ◌∙◌, arith, length-append, append-nil}
 use Rattle.std.proofs.lemmas.Option.{same_Some, slice_get_within}
-use Rattle.lvish_core.specs.Vocabulary.{MOST_STEPS, Label, Act, Request, Entry, HandlerPlace, Touched, DoneStep}
+use Rattle.lvish_core.specs.Vocabulary.{MOST_STEPS, Label, Act, Request, Entry, HandlerPlace, Touched, DoneStep, Made}
 use Rattle.lvish_calculus.specs.Machine.{Machine, IsLawful}
 use Rattle.lvish_calculus.specs.Calculus.{Task, State, Configuration, IsLive, Change, Changes, CanStep, after, changed, next, effect, request_effect, task_effect, with_task}
 use Rattle.lvish_names.specs.Names.{Name, Handler}
@@ -12,9 +12,9 @@ use Rattle.lvish_picture.specs.Steps.{AreTasks}
 use Rattle.lvish_picture.specs.Laws.{IsTableStep as TableStep}
 use Rattle.lvish_picture.specs.Counts.{CountsRunning}
 use Rattle.lvish_core.specs.Core.{CoreView, state, IsStep, HandsNext, says}
-use Rattle.lvish_core.specs.Changes.{brings, put_brings, moved_by, moved_in, task_touches, touched_by}
+use Rattle.lvish_core.specs.Changes.{brings, put_brings, local_of, made_as, moved_by, moved_in, task_touches, touched_by}
 use Rattle.lvish_core.specs.Places.{IsIndex}
-use Rattle.lvish_core.specs.Tasks.{KeepsIndices, Sets}
+use Rattle.lvish_core.specs.Tasks.{IsAt, KeepsIndices, Sets}
 use Rattle.lvish_core.specs.Acts.{IsActing, IsMoving}
 use Rattle.lvish_core.specs.Kept.{IsKept, AreFew}
 use Rattle.lvish_core.specs.laws.Runs.{running_same, at_state, pictured_by, run_to}
@@ -34,6 +34,18 @@ written_log {S} {E} xs v from to was ys is brought at_v else u x y ax ay = elim 
       ap (λ (z : Variable S E). z.log) yt ∙ at_v ∙ ap (λ (z : Variable S E). z.log ++ brought v) (sym same) ∙ ap (λ i. x.log ++ brought i) (sym uv)
   | earlier ne oy ↦ same_log xs u x y ax oy ∙ ap (λ l. x.log ++ l) (sym (else u ne))
 ]
+
+-- what is told to be made is what a change makes
+made_of : {S E L : Type 0} (ch : Change S E L) (m : Made E L) → (moved_by ch).made ≡ Some m → (x : Name E × Task L) × (ch.made ≡ Some x) × (m.name ≡ x.0)
+made_of {S} {E} {L} ch m e = by ch.made refl e
+  where
+    named : (x : Name E × Task L) (o : Option L) → made_as x.0 o ≡ Some m → m.name ≡ x.0
+    named x None e = absurd (cc e)
+    named x (Some l) e = ap (λ (z : Made E L). z.name) (sym (same_Some _ _ e))
+
+    by : (o : Option (Name E × Task L)) → ch.made ≡ o → option_and_then (λ x. made_as x.0 (local_of x.1)) o ≡ Some m → (x : Name E × Task L) × (ch.made ≡ Some x) × (m.name ≡ x.0)
+    by None is e = absurd (cc e)
+    by (Some x) is e = (x, is, named x (local_of x.1) e)
 
 -- the core after a step: its table, and what the step concerned
 abbrev pub later : {P S E L : Type 0} → CoreView P S E L → Table S E L → Touched → CoreView P S E L
@@ -64,6 +76,7 @@ module _ {P S E R A L : Type 0} {M : Machine S E R A L} (ok : IsLawful M) {varia
     pub counted : CountsRunning M new
     pub index : IsIndex M (changed M change (state M old)) more
     pub indices : KeepsIndices old.table.tasks new.tasks
+    pub last : (x : Name E × Task L) → change.made ≡ Some x → IsAt new.tasks (length old.table.tasks) x.0
 
   -- a step that is no error moves what its change does, and the core keeps what it keeps
   abbrev pub Moves : Label E → Change S E L → Table S E L → List (Handler E × HandlerPlace) → Touched → Type 0
@@ -85,6 +98,7 @@ module _ {P S E R A L : Type 0} {M : Machine S E R A L} (ok : IsLawful M) {varia
           logs = λ v x y a b. g.logs v x y a b ∙ ap (λ o. x.log ++ brings M (state M old) v o) (sym g.does);
           touched = ap Some touches;
           indices = g.indices;
+          started = λ m e. let x = made_of change m (sym (ap (λ o. (moved_in o).made) g.does) ∙ e) in subst (λ t. IsAt new.tasks (length old.table.tasks) t) (sym x.2) (g.last x.0 x.1);
           shows_before = λ k e. let no_error : ⊥ = cc in absurd no_error;
         }
 

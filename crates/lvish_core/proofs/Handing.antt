@@ -1,5 +1,5 @@
 -- A handing, over any machine.
-use Rattle.std.proofs.Common.{◌≡◌, ◌+◌, ◌<◌, ℕ, List, map, Contains, Some, None, slice_set, slice_index, option_map, option_and_then, refl, sym, ap, subst, ◌∙◌}
+use Rattle.std.proofs.Common.{◌≡◌, ◌+◌, ◌<◌, ℕ, List, length, map, Contains, Some, None, slice_set, slice_index, option_map, option_and_then, refl, sym, ap, subst, ◌∙◌}
 use Rattle.std.proofs.lemmas.List.{map-set}
 use Rattle.std.proofs.lemmas.Option.{same_Some}
 use Rattle.lvish_core.specs.Vocabulary.{Hand, Held, MOST_STEPS, HandlerPlace, Handed}
@@ -15,7 +15,7 @@ use Rattle.lvish_picture.specs.Counts.{AreCounts, HandCounted, StartIsFollowed, 
 use Rattle.lvish_picture.proofs.Slots.{contained, among_here}
 use Rattle.lvish_core.specs.Core.{CoreView, state}
 use Rattle.lvish_core.specs.Changes.{touching}
-use Rattle.lvish_core.specs.Tasks.{Sets}
+use Rattle.lvish_core.specs.Tasks.{IsAt, Sets}
 use Rattle.lvish_core.specs.Beside.{CanHand, HandedAt, one_more_in}
 use Rattle.lvish_core.specs.Handed.{IsHanding}
 use Rattle.lvish_core.specs.Kept.{IsKept}
@@ -84,8 +84,8 @@ module _ {P S E R A L : Type 0} {M : Machine S E R A L} (ok : IsLawful M) {varia
     pub not_there : task_of M.event_same old.table.tasks name ≡ Absent
     not_there = (fresh kept.standing.run old.table kept.standing.pictured).1 h e ((law kept.standing.run old.table new h e kept.standing.pictured hand_step).enabled)
 
-    pub handing : Moves ok kept (Hand h e) change new places (Handed place.variable)
-    handing = moves ok kept (Hand h e) change new places (Handed place.variable) hands.no_fault room
+    pub handing : (task_of M.event_same old.table.tasks name ≡ Absent → IsAt us (length old.table.tasks) name) → Moves ok kept (Hand h e) change new places (Handed place.variable)
+    handing added = moves ok kept (Hand h e) change new places (Handed place.variable) hands.no_fault room
         (record { variable = place.variable; at = hands.at; at_is = hands.at_is; beside = hands.beside; beside_is = hands.beside_is; next = hands.next })
         (ap (touching (λ v. Handed v)) (sym (ap (option_and_then (λ (q : Post). M.pool_variable q.pool)) hands.post ∙ hands.own)))
         (record {
@@ -98,4 +98,5 @@ module _ {P S E R A L : Type 0} {M : Machine S E R A L} (ok : IsLawful M) {varia
           counted = law2 kept.standing.run old.table new h e kept.standing.pictured kept.counted hand_step (counts (Live (M.start_handler w.advanced.handler.procedure e) 0 0 0));
           index = record { posts = kept.index.posts; own = kept.index.own };
           indices = made.indices;
+          last = λ x e. subst (λ u. IsAt us (length old.table.tasks) u) (ap (λ y. y.0) (same_Some _ _ e)) (added not_there);
         })

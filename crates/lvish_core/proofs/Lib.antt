@@ -25,3 +25,4 @@ pub mod Begins
 pub mod Takes
 pub mod Waiting
 pub mod Spotted
+pub mod After

@@ -1,16 +1,16 @@
 -- What a core stands for.
 use Rattle.std.specs.Prelude.{◌≡◌, ◌<◌, ◌+◌, ℕ, Bool, List, [], ◌∷◌, ◌++◌, length, Option, Some, None, slice_get}
-use Rattle.lvish_core.specs.Vocabulary.{MOST_STEPS, Label, Act, Hand, ErrorKind, RunError, Stepped, DoneStep, ErrorStep, StepFault, NotEnabled, Full, Memory, Touched}
+use Rattle.lvish_core.specs.Vocabulary.{MOST_STEPS, Label, Act, Hand, ErrorKind, RunError, Stepped, DoneStep, ErrorStep, StepFault, NotEnabled, Full, Memory, Touched, Made}
 use Rattle.lvish_calculus.specs.Machine.{Machine}
-use Rattle.lvish_calculus.specs.Calculus.{State, Configuration, Running, Error, IsRun, CanStep, next, start}
+use Rattle.lvish_calculus.specs.Calculus.{State, Configuration, Running, Error, IsRun, CanStep, effect, next, start}
 use Rattle.lvish_names.specs.Names.{Handler}
 use Rattle.lvish_calculus.specs.Handing.{HandsOldestFirst}
 use Rattle.lvish_variable.specs.Variable.{VariableView as Variable, logged}
 use Rattle.lvish_handlers.specs.Handlers.{HandlersView as Handlers, next_of}
 use Rattle.lvish_picture.specs.Logs.{IsInOrder}
 use Rattle.lvish_picture.specs.Picture.{Table, IsTable, table_picture}
-use Rattle.lvish_core.specs.Changes.{brought, touched_by}
-use Rattle.lvish_core.specs.Tasks.{KeepsIndices}
+use Rattle.lvish_core.specs.Changes.{brought, moved_in, touched_by}
+use Rattle.lvish_core.specs.Tasks.{IsAt, KeepsIndices}
 
 -- what contracts see of a core: its program, the table of variables, handlers and tasks, the number of steps, the error, and what the last step concerned.
 -- After an error the table is the one before it
@@ -92,7 +92,9 @@ pub record IsStep {P S E R A L : Type 0} (M : Machine S E R A L) (old : CoreView
   -- a put's log grows by the entries that it brings, and the others stay
   pub logs : (v : ℕ) (x y : Variable S E) → slice_get old.table.variables v ≡ Some x → slice_get new.table.variables v ≡ Some y → y.log ≡ x.log ++ brought M (state M old) l v
   pub touched : new.touched ≡ Some (touched_by M (state M old) l)
+  -- each task keeps its index, and one that starts stands behind all others
   pub indices : KeepsIndices old.table.tasks new.table.tasks
+  pub started : (m : Made E L) → (moved_in (effect M (state M old) l)).made ≡ Some m → IsAt new.table.tasks (length old.table.tasks) m.name
   -- after an error the variables, the handlers and the tasks are as they were before it
   pub shows_before : (kind : ErrorKind) → said ≡ ErrorStep kind → new.table ≡ old.table
 

@@ -12,4 +12,5 @@ pub mod Beside
 pub mod CoreLaws
 pub mod Waiting
 pub mod Spots
+pub mod After
 pub mod laws

@@ -31,6 +31,10 @@ task_names tasks = map (λ e. e.0) tasks
 abbrev pub IsAt : {E L : Type 0} → List (Name E × Task L) → ℕ → Name E → Type 0
 IsAt tasks index t = slice_get (task_names tasks) index ≡ Some t
 
+-- no task is there under two indices
+abbrev pub HasEachOnce : {E L : Type 0} → List (Name E × Task L) → Type 0
+HasEachOnce {E} tasks = (i j : ℕ) (t : Name E) → IsAt tasks i t → IsAt tasks j t → i ≡ j
+
 -- each task keeps its index
 abbrev pub KeepsIndices : {E L : Type 0} → List (Name E × Task L) → List (Name E × Task L) → Type 0
 KeepsIndices {E} old new = (i : ℕ) (t : Name E) → IsAt old i t → IsAt new i t

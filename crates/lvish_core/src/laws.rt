@@ -1,5 +1,6 @@
 //! The laws of cores and their runs, as contracts of functions with no code.
 
+ghost use Rattle.lvish_core.specs.After.{OthersStay, StartsAsSaid};
 ghost use Rattle.lvish_core.specs.CoreLaws.{TakesCoreRuns, TakesSomething, HandsToEach, HandsOneEvent, HandsWhatComes};
 ghost use Rattle.lvish_core.specs.Spots.{PassesAtItsSpot};
 ghost use Rattle.lvish_core.specs.Waiting.{WaitsUntilTouched, EndsByCounts};
@@ -59,6 +60,17 @@ pub fn waiting_tasks<P: Program>()
     lawful::<P>();
     waiting::<P>();
     ends_by_cursors::<P>();
+}
+
+/// Where tasks stand after a step.
+pub fn tasks_after<P: Program>()
+    // Each keeps its local state, but the one that acts.
+    ensures others { (p : P) → OthersStay P (⟦<P as Meaning>⟧.machine p) }
+    // One that starts is in the local state that the step says.
+    ensures made { (p : P) → StartsAsSaid P (⟦<P as Meaning>⟧.machine p) }
+{
+    waiting_tasks::<P>();
+    lawful::<P>();
 }
 
 /// A step wakes a get that waits at a spot only where it brings an event of this spot to the log of

@@ -6,7 +6,7 @@ ghost use Rattle.lvish_names.specs.NameOrder.{name_cmp};
 ghost use Rattle.lvish_names.specs.Names.{Name, same_name};
 ghost use Rattle.lvish_calculus.specs.Calculus.{Absent};
 ghost use Rattle.lvish_picture.specs.Picture.{task_of};
-ghost use Rattle.lvish_core.specs.Tasks.{IsAt, Sets, SameTasks, standing, standing_at, standings, entries_at, task_names};
+ghost use Rattle.lvish_core.specs.Tasks.{HasEachOnce, IsAt, Sets, SameTasks, standing, standing_at, standings, entries_at, task_names};
 
 use crate::stage::Stage;
 use indexmap::IndexMap;
@@ -76,6 +76,13 @@ impl<E: Plain + Hash, L: Drop> Tasks<E, L> {
         self.stages.iter()
     }
 
+    /// No task is there under two indices.
+    pub fn each_once(&self)
+        ensures { HasEachOnce self.now }
+    {
+        let _tasks = self.iter();
+    }
+
     /// The tasks in the order of their names.
     pub fn in_order(&self, alloc: Global) -> Result<Vec<NamedStage<'_, E, L>>, AllocError>
         ensures all { IfOk result (λ v. SameTasks E.eq self.now (standings (entries_at v.items))) }
@@ -113,6 +120,16 @@ impl<E: Plain + Hash, L: Drop> Tasks<E, L> {
         ensures { result ≡ length self.now }
     {
         self.stages.len()
+    }
+
+    /// What runs under the name of the task at the index.
+    #[inline(always)]
+    pub fn stage_at(&self, index: usize) -> Option<&Stage<L>>
+        ensures task { (t : Name E) → IsAt self.now index t → task_of E.eq self.now t ≡ standing_at (option_copied result) }
+        ensures at { IfSome result (λ _. (t : Name E) × IsAt self.now index t) }
+    {
+        let (_name, stage) = self.stages.get_index(index)?;
+        Some(stage)
     }
 
     /// The name of the task at the index.

@@ -1,8 +1,10 @@
 //! What a core shows by reference or number.
 
-ghost use Rattle.std.specs.Prelude.{◌≡◌, ◌<◌, ◌↔◌, None, IfOk, IsTrue, IsFalse, MatchOption, length, option_copied, slice_get};
+ghost use Rattle.std.specs.Prelude.{◌≡◌, ◌<◌, ◌↔◌, Some, None, IfOk, IfSome, IsTrue, IsFalse, MatchOption, length, option_copied, slice_get};
+ghost use Rattle.lvish_names.specs.Names.{Name};
 ghost use Rattle.lvish_handlers.specs.Handlers.{IsByName};
-ghost use Rattle.lvish_core.specs.Tasks.{task_names};
+ghost use Rattle.lvish_core.specs.Tasks.{HasEachOnce, IsAt, task_names};
+ghost use Rattle.lvish_core.specs.declared.stage.TaskNumbers.{TaskNumbers};
 ghost use Rattle.lvish_core.specs.Waiting.{NoneFreezes};
 
 use super::Core;
@@ -26,6 +28,13 @@ impl<'p, P: Program> Core<'p, P> {
         ensures { result.now ≡ self.now.program }
     {
         self.program
+    }
+
+    /// No task is there under two indices.
+    pub fn each_task_once(&self)
+        ensures { HasEachOnce self.now.table.tasks }
+    {
+        self.tasks.each_once();
     }
 
     /// The task's local state; `None` where it has ended or isn't there.
@@ -159,6 +168,30 @@ impl<'p, P: Program> Core<'p, P> {
         ensures { option_copied result ≡ slice_get (task_names self.now.table.tasks) index }
     {
         self.tasks.name_at(index)
+    }
+
+    /// The numbers of the task at the index, as long as it hasn't ended; `None` where there is none.
+    #[inline(always)]
+    pub fn numbers_at(&self, index: usize) -> Option<TaskNumbers>
+        // They are those of the task that stands there.
+        ensures live { (t : Name P.Lat.Event) (l : P.Local) → IsAt self.now.table.tasks index t → ⟦<P as CoreMeaning>⟧.local_in self.now t ≡ Some l → (n : TaskNumbers) × (result ≡ Some n) × ⟦<P as CoreMeaning>⟧.is_live self.now t l n }
+        // There are numbers only where one stands there.
+        ensures some { IfSome result (λ n. (n.index ≡ index) × ((t : Name P.Lat.Event) × (l : P.Local) × ⟦<P as CoreMeaning>⟧.is_live self.now t l n)) }
+    {
+        match self.tasks.stage_at(index)? {
+            Stage::Live {
+                local: _,
+                forks,
+                adds,
+                puts,
+            } => Some(TaskNumbers {
+                index,
+                forks: *forks,
+                adds: *adds,
+                puts: *puts,
+            }),
+            Stage::Ended => None,
+        }
     }
 
     /// The variables, and the names of the tasks, each at its task's index, without a copy; where

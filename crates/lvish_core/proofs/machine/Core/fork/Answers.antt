@@ -30,19 +30,21 @@ invariant_of-self-2 g c =
     let placed = rw (← c.self.view_is) at c.in_ok-place.ensures in
     let child = rw c.in-Some.is at c.in_ok-started.ensures in
     let made = rw (child.stage, child.name, add-one) at c.in_ok-insert.ensures.set in
+    let added = rw (child.name, add-one) at c.in_ok-insert.ensures.added in
     let goes = rw (c.in_ok-stage.ensures.stage, add-one) at (c.close.ensures.tasks c.args.name.now (made.indices _ _ (rw (← c.self.view_is) at c.requires.there))) in
     let counts = counts_written one_more_in c.in_ok-place.place _ _ _ c.deref_mut.ensures.value c.self.inside.handlers.ok.0 c.start_at.ensures in
     rw (c.close.ensures.steps, c.close.ensures.touched)
     (forking (c.lawful.ensures c.self.inside.program.now) c.self.invariant (g.met.P.Program.lawful c.self.inside.program.now).known (c.plain_kept.ensures c.self.inside.program.now) (c.counts_kept.ensures.plain c.self.inside.program.now) (c.counts_follow.ensures.rest c.self.inside.program.now) placed
-    (rw (← c.self.view_is) at c.requires.acting) (rw (← c.self.view_is) at c.requires.room) child.shallow (c.counts_follow.ensures.start c.self.inside.program.now) (c.names_are_new.ensures.tasks c.self.inside.program.now) made goes counts).1
+    (rw (← c.self.view_is) at c.requires.acting) (rw (← c.self.view_is) at c.requires.room) child.shallow (c.counts_follow.ensures.start c.self.inside.program.now) (c.names_are_new.ensures.tasks c.self.inside.program.now) made added goes counts).1
 
 pub returns : goal.returns
 returns g c =
     let placed = rw (← c.self.view_is) at c.in_ok-place.ensures in
     let child = rw c.in-Some.is at c.in_ok-started.ensures in
     let made = rw (child.stage, child.name, add-one) at c.in_ok-insert.ensures.set in
+    let added = rw (child.name, add-one) at c.in_ok-insert.ensures.added in
     let goes = rw (c.in_ok-stage.ensures.stage, add-one) at (c.close.ensures.tasks c.args.name.now (made.indices _ _ (rw (← c.self.view_is) at c.requires.there))) in
     let counts = counts_written one_more_in c.in_ok-place.place _ _ _ c.deref_mut.ensures.value c.self.inside.handlers.ok.0 c.start_at.ensures in
     rw (← c.self.view_is, c.in_ok-stage.ensures.own, child.made, add-one (c.args.numbers.forks), c.close.ensures.steps, c.close.ensures.touched)
     (forking (c.lawful.ensures c.self.inside.program.now) c.self.invariant (g.met.P.Program.lawful c.self.inside.program.now).known (c.plain_kept.ensures c.self.inside.program.now) (c.counts_kept.ensures.plain c.self.inside.program.now) (c.counts_follow.ensures.rest c.self.inside.program.now) placed
-    (rw (← c.self.view_is) at c.requires.acting) (rw (← c.self.view_is) at c.requires.room) child.shallow (c.counts_follow.ensures.start c.self.inside.program.now) (c.names_are_new.ensures.tasks c.self.inside.program.now) made goes counts).0
+    (rw (← c.self.view_is) at c.requires.acting) (rw (← c.self.view_is) at c.requires.room) child.shallow (c.counts_follow.ensures.start c.self.inside.program.now) (c.names_are_new.ensures.tasks c.self.inside.program.now) made added goes counts).0

@@ -15,7 +15,7 @@ invariant_of-self-2 g c =
     let made = rw (c.started.ensures, c.in_ok-local.ensures, c.in_ok-task.ensures) at c.in_ok-insert.ensures.set in
     let handed = handed_written c.deref.ensures.value c.deref_mut.ensures.value c.self.inside.handlers.ok.0 c.hand_at.ensures in
     (handing (c.lawful.ensures c.self.inside.program.now) c.self.invariant (g.met.P.Program.lawful c.self.inside.program.now).known (rw (← c.self.view_is) at c.requires.handing) (rw (← c.self.view_is) at c.requires.room) (c.hand_kept.ensures c.self.inside.program.now) (c.counts_kept.ensures.hand c.self.inside.program.now)
-    (c.handlers_are_held.ensures.posts c.self.inside.program.now) (c.counts_follow.ensures.start c.self.inside.program.now) (c.names_are_new.ensures.tasks c.self.inside.program.now) made handed).1
+    (c.handlers_are_held.ensures.posts c.self.inside.program.now) (c.counts_follow.ensures.start c.self.inside.program.now) (c.names_are_new.ensures.tasks c.self.inside.program.now) made handed (rw c.in_ok-task.ensures at c.in_ok-insert.ensures.added)).1
 
 pub returns : goal.returns
 returns g c =
@@ -25,6 +25,6 @@ returns g c =
     (c.handlers_are_held.ensures.posts c.self.inside.program.now) (c.counts_follow.ensures.start c.self.inside.program.now) (c.names_are_new.ensures.tasks c.self.inside.program.now) made handed in
     rw (← c.self.view_is, c.in_ok-copy_local.ensures, c.in_ok-copy.ensures, c.in_ok-local.ensures, c.in_ok-task.ensures) (
       (handing (c.lawful.ensures c.self.inside.program.now) c.self.invariant (g.met.P.Program.lawful c.self.inside.program.now).known (rw (← c.self.view_is) at c.requires.handing) (rw (← c.self.view_is) at c.requires.room) (c.hand_kept.ensures c.self.inside.program.now) (c.counts_kept.ensures.hand c.self.inside.program.now)
-          (c.handlers_are_held.ensures.posts c.self.inside.program.now) (c.counts_follow.ensures.start c.self.inside.program.now) (c.names_are_new.ensures.tasks c.self.inside.program.now) made handed).0,
+          (c.handlers_are_held.ensures.posts c.self.inside.program.now) (c.counts_follow.ensures.start c.self.inside.program.now) (c.names_are_new.ensures.tasks c.self.inside.program.now) made handed (rw c.in_ok-task.ensures at c.in_ok-insert.ensures.added)).0,
       (rw c.in_ok-task.ensures at c.in_ok-insert.ensures.added) there,
     )
