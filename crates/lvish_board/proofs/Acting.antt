@@ -91,7 +91,7 @@ pub act_tickets : {E L : Type 0} (t : Name E) (moved : Moved E L) (own made : Op
 act_tickets t moved own made o m = (λ i. option_list (o i) ++ option_list (m i)) ∙ (λ i. own_same t moved.own i ++ made_same moved.made i)
 
 module _ {P S E R A L : Type 0} {M : Machine S E R A L} (ok : IsLawful M) {cmp : E → E → Ordering} {c d : CoreView P S E L} {t : Name E} {logged : ℕ} {handlers : List (Handler E)} {added : Option (Handler E)} {moved : Moved E L} (k : IsMade M cmp c (Act t) d logged handlers added moved) where
-  stands : local_of ((state M d).tasks t) ≡ moved.own
+  pub stands : local_of ((state M d).tasks t) ≡ moved.own
   stands = own_told M ok c d t k.step ∙ sym (ap (λ m. m.own) k.told)
 
   -- the task goes on where it has a ticket

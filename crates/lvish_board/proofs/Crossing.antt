@@ -8,7 +8,7 @@ use denote.Param.Send.{IsSend, IsSync, sendable, view_send}
 use denote.Param.SendFields.{as_row_send, declared_send, variants_send}
 use denote.RattleType.{RattleType}
 use denote.Ref.{NamedLft}
-use denote.Struct.Field.{row_field, u64-field}
+use denote.Struct.Field.{row_field, u32-field, u64-field}
 use denote.Struct.Tuple.{Tuple}
 use Rattle.std.proofs.Crossing.{crosses}
 use Rattle.std.proofs.MapsCrossing as maps
@@ -28,6 +28,9 @@ use Rattle.lvish_names.specs.contracts.handler_name.HandlerName as HandlerName
 use Rattle.lvish_names.specs.contracts.task_name.TaskName as TaskName
 use Rattle.lvish_calculus.proofs.request.Request.TheSendSync as of_request
 use Rattle.lvish_calculus.specs.declared.program.Program as program
+use Rattle.lvish_history.proofs.Crossing.{history_send, stamp_send}
+use Rattle.lvish_history.specs.contracts.stamp.Stamp as Stamp
+use Rattle.lvish_history.specs.declared.origin.Origin as origin
 use Rattle.lvish_core.proofs.Crossing.{core_send}
 use Rattle.lvish_core.specs.contracts.machine.Core as Core
 use Rattle.lvish_board.specs.contracts.asked.Asked as Asked
@@ -35,17 +38,23 @@ use Rattle.lvish_board.specs.contracts.asked.Asked.TheInside as inside_asked
 use Rattle.lvish_board.specs.contracts.board.Board as Board
 use Rattle.lvish_board.specs.contracts.board.Board.TheInside as inside_board
 use Rattle.lvish_board.specs.contracts.by_name.ByName as ByName
+use Rattle.lvish_board.specs.contracts.newest.Newest as Newest
 use Rattle.lvish_board.specs.contracts.noted.Noted as Noted
 use Rattle.lvish_board.specs.contracts.outcome.Outcome as Outcome
 use Rattle.lvish_board.specs.contracts.parked.Parked as Parked
 use Rattle.lvish_board.specs.contracts.parked.Parked.TheInside as inside_parked
+use Rattle.lvish_board.specs.contracts.place.Place as Place
 use Rattle.lvish_board.specs.contracts.room.Room as Room
 use Rattle.lvish_board.specs.contracts.shelves.Shelves as Shelves
 use Rattle.lvish_board.specs.contracts.ticket.Ticket as Ticket
+use Rattle.lvish_board.specs.contracts.ticket.Ticket.TheInside as inside_ticket
 use Rattle.lvish_board.specs.declared.named.Named as named
 
 number_send : IsSend (as_row u64-field)
 number_send = search sendable depth 20
+
+index_send : IsSend (as_row u32-field)
+index_send = search sendable depth 20
 
 trace_send : IsSend (Vec.the_row Noted.the_row Global.the_row ghosts)
 trace_send = search (crosses, sendable) depth 24
@@ -69,38 +78,49 @@ module _ (E : RattleType) (s : IsSend E) (y : IsSync E) where
       (p : program.Ghosts P.Denot S.Denot L.Denot R.Denot A.Denot W.Denot E.Denot)
       (s1 : lattice.Ghosts S.Denot E.Denot) (s2 : same.Ghosts S.Denot) (s3 : reads.Ghosts S.Denot R.Denot A.Denot W.Denot E.Denot)
       (w1 : order.Ghosts W.Denot) (w2 : same.Ghosts W.Denot) (w3 : partial.Ghosts W.Denot) (w4 : hash.Ghosts W.Denot) (l1 : same.Ghosts L.Denot)
-      (n : named.Ghosts J.Denot P.Denot S.Denot L.Denot R.Denot A.Denot W.Denot E.Denot) where
-    pub ticket_send : IsSend (Ticket.the_row P J S L R A W E p s3 s1 s2 e1 e3 e4 e5 w1 w2 w3 w4 l1 n)
-    ticket_send = search (name, sendable) depth 24
+      (n : named.Ghosts J.Denot P.Denot S.Denot L.Denot R.Denot A.Denot W.Denot E.Denot) (o : origin.Ghosts J.Denot) where
+    place_send : IsSend (Place.the_row P S L R A W E p s3 s1 s2 e1 e3 e4 e5 w1 w2 w3 w4 l1)
+    place_send = search (name, sendable) depth 24
+
+    pub ticket_send : IsSend (Ticket.the_row P J S L R A W E p s3 s1 s2 e1 e3 e4 e5 w1 w2 w3 w4 l1 n o)
+    ticket_send =
+        let stamp = as_row_send (Stamp.the_field (Place.the_row P S L R A W E p s3 s1 s2 e1 e3 e4 e5 w1 w2 w3 w4 l1) J o) (stamp_send (Place.the_row P S L R A W E p s3 s1 s2 e1 e3 e4 e5 w1 w2 w3 w4 l1) J sJ o) in
+        view_send (inside_ticket.the_row P J S L R A W E p s3 s1 s2 e1 e3 e4 e5 w1 w2 w3 w4 l1 n o) _ _ _ _
+        (declared_send (inside_ticket.the_type P J S L R A W E p s3 s1 s2 e1 e3 e4 e5 w1 w2 w3 w4 l1 n o)
+        (as_row_send (Place.the_field P S L R A W E p s3 s1 s2 e1 e3 e4 e5 w1 w2 w3 w4 l1) place_send, (stamp, (index_send, tt))))
 
     at_send : IsSend (Option.the_row L)
     at_send = variants_send (Option.enum L) (tt, ((as_row_send (row_field L) sL, tt), tt))
 
-    pub asked_send : IsSend (Asked.the_row P J S L R A W E p s3 s1 s2 e1 e3 e4 e5 w1 w2 w3 w4 l1 n)
+    pub asked_send : IsSend (Asked.the_row P J S L R A W E p s3 s1 s2 e1 e3 e4 e5 w1 w2 w3 w4 l1 n o)
     asked_send =
-        view_send (inside_asked.the_row P J S L R A W E p s3 s1 s2 e1 e3 e4 e5 w1 w2 w3 w4 l1 n) _ _ _ _
-        (declared_send (inside_asked.the_type P J S L R A W E p s3 s1 s2 e1 e3 e4 e5 w1 w2 w3 w4 l1 n)
-        (as_row_send (Ticket.the_field P J S L R A W E p s3 s1 s2 e1 e3 e4 e5 w1 w2 w3 w4 l1 n) ticket_send, (of_request.the_send S R L sS sR sL, (at_send, tt))))
+        view_send (inside_asked.the_row P J S L R A W E p s3 s1 s2 e1 e3 e4 e5 w1 w2 w3 w4 l1 n o) _ _ _ _
+        (declared_send (inside_asked.the_type P J S L R A W E p s3 s1 s2 e1 e3 e4 e5 w1 w2 w3 w4 l1 n o)
+        (as_row_send (Ticket.the_field P J S L R A W E p s3 s1 s2 e1 e3 e4 e5 w1 w2 w3 w4 l1 n o) ticket_send, (of_request.the_send S R L sS sR sL, (at_send, tt))))
 
-    room_send : IsSend (Room.the_row P J S L R A W E p s3 s1 s2 e1 e3 e4 e5 w1 w2 w3 w4 l1 n)
+    room_send : IsSend (Room.the_row P J S L R A W E p s3 s1 s2 e1 e3 e4 e5 w1 w2 w3 w4 l1 n o)
     room_send = search (asked_send, handler, crosses, sendable) depth 24
 
-    by_name_send : IsSend (ByName.the_row P J S L R A W E p s3 s1 s2 e1 e2 e3 e4 e5 w1 w2 w3 w4 l1 n)
+    by_name_send : IsSend (ByName.the_row P J S L R A W E p s3 s1 s2 e1 e2 e3 e4 e5 w1 w2 w3 w4 l1 n o)
     by_name_send = search (asked_send, name, crosses, maps.crosses, sendable) depth 30
 
     module _ (sW : IsSend W) (w0 : equal.Ghosts W.Denot) where
-      parked_send : IsSend (Parked.the_row P J S L R A W E p s3 s1 s2 e1 e2 e3 e4 e5 w1 w0 w2 w3 w4 l1 n)
+      parked_send : IsSend (Parked.the_row P J S L R A W E p s3 s1 s2 e1 e2 e3 e4 e5 w1 w0 w2 w3 w4 l1 n o)
       parked_send =
           let key : IsSend (Tuple (usize ∷ Option.the_row W ∷ [])) = search sendable depth 20 in
           let place : IsSend usize = search sendable depth 20 in
-          view_send (inside_parked.the_row P J S L R A W E p s3 s1 s2 e1 e2 e3 e4 e5 w1 w0 w2 w3 w4 l1 n) _ _ _ _
-          (declared_send (inside_parked.the_type P J S L R A W E p s3 s1 s2 e1 e2 e3 e4 e5 w1 w0 w2 w3 w4 l1 n)
-          (as_row_send (ByName.the_field P J S L R A W E p s3 s1 s2 e1 e2 e3 e4 e5 w1 w2 w3 w4 l1 n) by_name_send, (shelves_send _ _ key name _ _, (shelves_send _ _ place name _ _, tt))))
+          view_send (inside_parked.the_row P J S L R A W E p s3 s1 s2 e1 e2 e3 e4 e5 w1 w0 w2 w3 w4 l1 n o) _ _ _ _
+          (declared_send (inside_parked.the_type P J S L R A W E p s3 s1 s2 e1 e2 e3 e4 e5 w1 w0 w2 w3 w4 l1 n o)
+          (as_row_send (ByName.the_field P J S L R A W E p s3 s1 s2 e1 e2 e3 e4 e5 w1 w2 w3 w4 l1 n o) by_name_send, (shelves_send _ _ key name _ _, (shelves_send _ _ place name _ _, tt))))
 
-      pub board_send : (a : NamedLft) → IsSync P → IsSend (Board.the_row a P J S L R A W E p s3 s1 s2 e1 e2 e3 e4 e5 w1 w0 w2 w3 w4 l1 n)
+      newest_send : IsSend (Newest.the_row P J S L R A W E p s3 s1 s2 e1 e3 e4 e5 w1 w2 w3 w4 l1 n o)
+      newest_send = search (history_send, stamp_send, crosses, sendable) depth 30
+
+      pub board_send : (a : NamedLft) → IsSync P → IsSend (Board.the_row a P J S L R A W E p s3 s1 s2 e1 e2 e3 e4 e5 w1 w0 w2 w3 w4 l1 n o)
       board_send a yP =
           let core = as_row_send (Core.the_field a P S L R A W E p s3 s1 s2 e1 e2 e3 e4 e5 w1 w2 w3 w4 l1) (core_send E s y S sS e1 e2 e3 e4 e5 s1 s2 P L R A W p s3 w1 w2 w3 w4 l1 a yP sL) in
-          let parked = as_row_send (Parked.the_field P J S L R A W E p s3 s1 s2 e1 e2 e3 e4 e5 w1 w0 w2 w3 w4 l1 n) parked_send in
-          view_send (inside_board.the_row a P J S L R A W E p s3 s1 s2 e1 e2 e3 e4 e5 w1 w0 w2 w3 w4 l1 n) _ _ _ _
-          (declared_send (inside_board.the_type a P J S L R A W E p s3 s1 s2 e1 e2 e3 e4 e5 w1 w0 w2 w3 w4 l1 n)
-          (core, (trace_send, (number_send, (over_send, (parked, (room_send, tt)))))))
+          let newest = as_row_send (Newest.the_field P J S L R A W E p s3 s1 s2 e1 e3 e4 e5 w1 w2 w3 w4 l1 n o) newest_send in
+          let parked = as_row_send (Parked.the_field P J S L R A W E p s3 s1 s2 e1 e2 e3 e4 e5 w1 w0 w2 w3 w4 l1 n o) parked_send in
+          view_send (inside_board.the_row a P J S L R A W E p s3 s1 s2 e1 e2 e3 e4 e5 w1 w0 w2 w3 w4 l1 n o) _ _ _ _
+          (declared_send (inside_board.the_type a P J S L R A W E p s3 s1 s2 e1 e2 e3 e4 e5 w1 w0 w2 w3 w4 l1 n o)
+          (core, (newest, (trace_send, (number_send, (over_send, (parked, (room_send, tt))))))))

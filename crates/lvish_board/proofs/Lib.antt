@@ -5,6 +5,7 @@ pub mod Blocked
 pub mod Comes
 pub mod Concerned
 pub mod Handing
+pub mod Knowing
 pub mod Listing
 pub mod Lists
 pub mod Naming

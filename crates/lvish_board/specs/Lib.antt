@@ -4,6 +4,7 @@ pub mod Left
 pub mod Listed
 pub mod Noted
 pub mod Place
+pub mod Newest
 pub mod Shelved
 pub mod Standing
 pub mod Traced

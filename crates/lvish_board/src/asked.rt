@@ -1,15 +1,16 @@
-ghost use Rattle.std.specs.Prelude.{◌≡◌, IfOk, IfErr, MatchResult};
+ghost use Rattle.std.specs.Prelude.{◌≡◌, ◌⊎◌, None, Some, IfOk, IfErr, MatchResult};
 ghost use Rattle.lvish_calculus.specs.declared.label.Label.TheVariants.{Act};
 
 use crate::named::Named;
+use crate::place::Place;
 use crate::ticket::Ticket;
 use lvish_calculus::{Asks, Meaning, Program, Request};
 use lvish_core::{Core, CoreMeaning, Moved, StepFault, Stepped, TaskNumbers};
+use lvish_history::Stamp;
 use lvish_lattice::{Lattice, Reads};
 use lvish_names::TaskName;
 use std::alloc::{AllocError, Global};
 use std::marker::Model;
-use std::mem;
 
 /// A task at a local state, with what it asks for there.
 pub struct Asked<P: Program, J: Named<P>> {
@@ -63,14 +64,28 @@ impl<P: Program, J: Named<P>> Asked<P, J> {
     pub fn task(&self) -> &TaskName<<P::Lat as Lattice>::Event>
         ensures { result.now ≡ self.now.task }
     {
-        &self.ticket.task
+        self.ticket.task()
+    }
+
+    /// The stamp that the board gave the task here.
+    #[inline(always)]
+    pub(crate) fn stamp(&self) -> &Stamp<Place<P>, J>
+        ensures { (result.now.value ≡ None) ⊎ (result.now.value ≡ Some self.now) }
+    {
+        self.ticket.stamp()
+    }
+
+    /// The index under which the board gave it.
+    #[inline(always)]
+    pub(crate) fn index(&self) -> usize {
+        self.ticket.index()
     }
 
     /// The local state in which it asks.
     pub(crate) fn from(&self) -> &P::Local
         ensures { result.now ≡ self.now.from }
     {
-        &self.ticket.from
+        self.ticket.from()
     }
 
     /// What it asks for.
@@ -100,12 +115,12 @@ impl<P: Program, J: Named<P>> Asked<P, J> {
     {
         let at = match self.at.take() {
             Some(at) => at,
-            None => place_of(alloc, core.program(), &self.ticket.from)?,
+            None => place_of(alloc, core.program(), self.ticket.from())?,
         };
         self.at = Some(at);
         core.step_live(
             alloc,
-            &self.ticket.task,
+            self.ticket.task(),
             numbers,
             &self.request,
             &mut self.at,
@@ -130,7 +145,7 @@ impl<P: Program, J: Named<P>> Asked<P, J> {
     pub(crate) fn take_task(&mut self) -> TaskName<<P::Lat as Lattice>::Event>
         ensures { result ≡ self.old.task }
     {
-        mem::replace(&mut self.ticket.task, TaskName::main())
+        self.ticket.take_task()
     }
 }
 
@@ -182,7 +197,7 @@ pub fn stretch_with<P: Program, J: Named<P>>(
     ensures ok { IfOk result (λ a. a ≡ ticket) }
     ensures err { IfErr result (λ t. t ≡ ticket) }
 {
-    match program.ask_with(alloc, &ticket.from, spare) {
+    match program.ask_with(alloc, ticket.from(), spare) {
         Ok(asks) => Ok(Asked::new(ticket, asks)),
         Err(_refused) => Err(ticket),
     }

@@ -1,4 +1,4 @@
-ghost use Rattle.std.specs.Prelude.{◌≡◌, ◌≤◌, IfOk, option_copied};
+ghost use Rattle.std.specs.Prelude.{◌≡◌, ◌≤◌, [], IfErr, IfOk, option_copied};
 ghost use Rattle.lvish_names.specs.Names.{main};
 ghost use Rattle.lvish_board.specs.declared.work.Work.TheVariants.{Stretch};
 ghost use Rattle.std.specs.List.{AllByRecursion};
@@ -12,15 +12,18 @@ mod make;
 mod settle;
 
 use crate::named::Named;
+use crate::newest::Newest;
 use crate::noted::Noted;
 use crate::outcome::Outcome;
 use crate::parked::Parked;
+use crate::place::Place;
 use crate::room::Room;
 use crate::ticket::Ticket;
 use crate::trace_entry::{TraceEntry, entry_by};
 use crate::work::Work;
 use lvish_calculus::{Meaning, Program};
-use lvish_core::{Core, MOST_STEPS};
+use lvish_core::{Core, CoreMeaning, MOST_STEPS};
+use lvish_history::{Opened, Stamp};
 use lvish_lattice::Lattice;
 use lvish_names::TaskName;
 use std::alloc::{AllocError, Global};
@@ -29,6 +32,8 @@ use std::marker::Model;
 /// A core, the trace of its steps, and the parked tasks.
 pub struct Board<'p, P: Program, J: Named<P>> {
     core: Core<'p, P>,
+    // by which it knows tickets without a look at their local states
+    newest: Newest<P, J>,
     trace: Vec<Noted>,
     budget: u64,
     over: Option<Outcome<<P::Lat as Lattice>::Event>>,
@@ -41,6 +46,7 @@ impl<'p, P: Program, J: Named<P>> Drop for Board<'p, P, J> {
     fn drop(self) {
         let Board {
             core: _,
+            newest: _,
             trace: _,
             budget: _,
             over: _,
@@ -56,13 +62,14 @@ impl<'p, P: Program, J: Named<P>> Model for Board<'p, P, J> {
     ghost use Rattle.std.specs.List.{AllByRecursion};
     ghost use Rattle.lvish_core.specs.Tasks.{task_names};
     ghost use Rattle.lvish_board.specs.Noted.{IsNoted, entries_of};
+    ghost use Rattle.lvish_board.specs.Newest.{AreKnown};
     ghost use Rattle.lvish_board.specs.Standing.{Standing, IsBoardSound};
 
     ghost Value = { Standing P P.Lat P.Lat.Event P.Local };
 
     ghost view = { λ b. record { trace = entries_of (task_names b.core.table.tasks) b.trace.items; core = b.core; over = b.over; parked = b.parked } };
 
-    ghost invariant = { λ b. (b.budget ≡ J.budget) × AllByRecursion (IsNoted (task_names b.core.table.tasks)) b.trace.items × IsBoardSound (machine_of P.Lat.eq P.Lat.Event.eq P.Lat.Event.cmp P.Lat.least P.Lat.joined P.Lat.events_of P.Lat.answer_of (P.functions J.program)) J.program J.budget (record { trace = entries_of (task_names b.core.table.tasks) b.trace.items; core = b.core; over = b.over; parked = b.parked }) };
+    ghost invariant = { λ b. (b.budget ≡ J.budget) × AllByRecursion (IsNoted (task_names b.core.table.tasks)) b.trace.items × IsBoardSound (machine_of P.Lat.eq P.Lat.Event.eq P.Lat.Event.cmp P.Lat.least P.Lat.joined P.Lat.events_of P.Lat.answer_of (P.functions J.program)) J.program J.budget (record { trace = entries_of (task_names b.core.table.tasks) b.trace.items; core = b.core; over = b.over; parked = b.parked }) × AreKnown (machine_of P.Lat.eq P.Lat.Event.eq P.Lat.Event.cmp P.Lat.least P.Lat.joined P.Lat.events_of P.Lat.answer_of (P.functions J.program)) b.core b.newest };
 }
 
 impl<'p, P: Program, J: Named<P>> Board<'p, P, J> {
@@ -70,30 +77,44 @@ impl<'p, P: Program, J: Named<P>> Board<'p, P, J> {
     ///
     /// # Errors
     ///
-    /// Where there is no room for it.
+    /// Where there is no room for it, the history.
     pub fn new(
         alloc: Global,
         program: &'p P,
         budget: u64,
-    ) -> Result<(Board<'p, P, J>, Work<P, J>), AllocError>
+        history: Opened<Place<P>>,
+    ) -> Result<(Board<'p, P, J>, Work<P, J>), Opened<Place<P>>>
         requires program { program.now ≡ J.program }
         requires budget { budget ≡ J.budget }
+        requires history { history.seen.book ≡ J.book }
         requires bounded { J.budget ≤ MOST_STEPS }
         ensures board { IfOk result (λ r. IsOpened (⟦<P as Meaning>⟧.machine J.program) J.program r.0) }
         ensures first { IfOk result (λ r. r.1 ≡ Stretch (record { task = main; from = (P.functions J.program).start })) }
+        ensures err { IfErr result (λ h. h ≡ history) }
     {
-        let from = program.start(alloc)?;
-        let core = Core::new(alloc, program)?;
+        let Ok((from, core, room)) = begun(alloc, program) else {
+            return Err(history);
+        };
+        let newest = Newest::new(history, room);
+        let first = Ticket::unknown(TaskName::main(), from, &newest);
         let board = Board {
             core,
+            newest,
             trace: Vec::new(alloc),
             budget,
             over: None,
             parked: Parked::new(alloc),
             room: Room::new(alloc),
         };
-        let first = Ticket::new(TaskName::main(), from);
         Ok((board, Work::Stretch(first)))
+    }
+
+    /// A ticket of another board of the program, for this one: as good as its own where its task stands
+    /// there.
+    pub fn adopt<K: Named<P>>(&self, ticket: Ticket<P, K>) -> Ticket<P, J>
+        ensures { result ≡ ticket }
+    {
+        Ticket::of_another(ticket, &self.newest)
     }
 
     /// How the board is over; `None` where it isn't.
@@ -148,6 +169,7 @@ impl<'p, P: Program, J: Named<P>> Board<'p, P, J> {
     {
         let Board {
             core,
+            newest: _,
             trace,
             budget: _,
             over: _,
@@ -156,4 +178,24 @@ impl<'p, P: Program, J: Named<P>> Board<'p, P, J> {
         } = self;
         (core, trace)
     }
+}
+
+/// The local state in which `main` starts, a core at the start, and room for a stamp of each of its
+/// tasks.
+///
+/// # Errors
+///
+/// Where there is no room for it.
+fn begun<'p, P: Program, J: Named<P>>(
+    alloc: Global,
+    program: &'p P,
+) -> Result<(P::Local, Core<'p, P>, Vec<Stamp<Place<P>, J>>), AllocError>
+    ensures from { IfOk result (λ r. r.0 ≡ (P.functions program.now).start) }
+    ensures core { IfOk result (λ r. ⟦<P as CoreMeaning>⟧.is_begun program.now r.1) }
+    ensures room { IfOk result (λ r. r.2.items ≡ []) }
+{
+    let from = program.start(alloc)?;
+    let core = Core::new(alloc, program)?;
+    let room = Vec::with_capacity(alloc, 1)?;
+    Ok((from, core, room))
 }

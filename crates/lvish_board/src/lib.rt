@@ -5,7 +5,7 @@
 //! asks for is one [`act`](Board::act) of the board, which answers the work that it leaves.
 //!
 //! ```
-//! let (mut board, first) = Board::new(alloc, &program, budget)?;
+//! let Ok((mut board, first)) = Board::new(alloc, &program, budget, Opened::new()) else { .. };
 //! // A list, a lock or a deque of work: here a list.
 //! let Work::Stretch(ticket) = first else { .. };
 //! let Ok(asked) = stretch(alloc, &program, ticket) else { .. };
@@ -25,9 +25,11 @@ mod by_name;
 mod came;
 mod list;
 mod named;
+mod newest;
 mod noted;
 mod outcome;
 mod parked;
+mod place;
 mod room;
 mod shelves;
 mod ticket;
@@ -43,6 +45,7 @@ pub use came::Came;
 pub use named::Named;
 pub use noted::{Noted, Step};
 pub use outcome::Outcome;
+pub use place::Place;
 pub use ticket::Ticket;
 pub use trace::{Trace, TracedStep};
 pub use trace_entry::TraceEntry;

@@ -3,15 +3,18 @@
 //! The functions are inlined into the board's, since what passes between them is large, and would be
 //! moved at each call.
 
-ghost use Rattle.std.specs.Prelude.{◌≡◌, ◌≤◌, ◌+◌, [], length, vec_len, vec_capacity};
+ghost use Rattle.std.specs.Prelude.{◌≡◌, ◌≤◌, ◌+◌, List, Option, [], length, vec_len, vec_capacity};
 ghost use Rattle.lvish_calculus.specs.Handing.{IsAmong, NoRepeats};
 ghost use Rattle.lvish_board.specs.Place.{TaskPlace};
+ghost use Rattle.lvish_board.specs.Newest.{IsSetAt, IsSetIf};
+ghost use Rattle.lvish_board.specs.Noted.{index_of};
 ghost use Rattle.lvish_board.specs.Standing.{tasks_of};
 ghost use Rattle.lvish_board.specs.Listed.{HasNext, works_of, option_list};
 ghost use Rattle.lvish_board.specs.Left.{AreThose, IsLeft, IsLogged, candidates, fresh_in, own_ticket, made_ticket};
 
 use crate::asked::Asked;
 use crate::named::Named;
+use crate::newest::Newest;
 use crate::noted::Step;
 use crate::parked::Parked;
 use crate::room::{Room, give};
@@ -37,23 +40,42 @@ pub(crate) struct OwnWork<P: Program, J: Named<P>> {
 pub(crate) fn left_by<P: Program, J: Named<P>>(
     step: Step,
     asked: &mut Asked<P, J>,
+    next: usize,
+    newest: &mut Newest<P, J>,
     moved: Moved<<P::Lat as Lattice>::Event, P::Local>,
 ) -> OwnWork<P, J>
+    ensures newest { (mid : List (Option (TaskPlace P.Lat.Event P.Local))) × IsSetAt (index_of step) (own_ticket asked.old.task moved.own) newest.old mid × IsSetIf next (made_ticket moved.made) mid newest.new }
     ensures step { result.step ≡ step }
     ensures own { result.own ≡ own_ticket asked.old.task moved.own }
     ensures made { result.made ≡ made_ticket moved.made }
     ensures added { result.added ≡ moved.added }
 {
     let Moved { own, made, added } = moved;
-    let own = match own {
-        Some(local) => Some(Ticket::new(asked.take_task(), local)),
-        None => None,
-    };
     OwnWork {
         step,
-        own,
-        made: ticket_of(made),
+        own: own_ticket_of(step.index(), asked, own, newest),
+        made: ticket_of(made, next, newest),
         added,
+    }
+}
+
+/// The ticket of the task that has acted, where it goes on.
+#[inline(always)]
+fn own_ticket_of<P: Program, J: Named<P>>(
+    index: usize,
+    asked: &mut Asked<P, J>,
+    own: Option<P::Local>,
+    newest: &mut Newest<P, J>,
+) -> Option<Ticket<P, J>>
+    ensures ticket { result ≡ own_ticket asked.old.task own }
+    ensures newest { IsSetAt index (own_ticket asked.old.task own) newest.old newest.new }
+{
+    match own {
+        Some(local) => Some(Ticket::new(asked.take_task(), local, index, newest)),
+        None => {
+            newest.clear(index);
+            None
+        }
     }
 }
 
@@ -61,11 +83,14 @@ pub(crate) fn left_by<P: Program, J: Named<P>>(
 #[inline(always)]
 pub(crate) fn ticket_of<P: Program, J: Named<P>>(
     made: Option<Made<<P::Lat as Lattice>::Event, P::Local>>,
+    next: usize,
+    newest: &mut Newest<P, J>,
 ) -> Option<Ticket<P, J>>
-    ensures { result ≡ made_ticket made }
+    ensures ticket { result ≡ made_ticket made }
+    ensures newest { IsSetIf next (made_ticket made) newest.old newest.new }
 {
     match made {
-        Some(Made { name, local }) => Some(Ticket::new(name, local)),
+        Some(Made { name, local }) => Some(Ticket::new(name, local, next, newest)),
         None => None,
     }
 }

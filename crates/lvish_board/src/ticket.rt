@@ -1,47 +1,108 @@
-ghost use Rattle.std.specs.Prelude.{◌≡◌, IfOk};
+ghost use Rattle.std.specs.Prelude.{◌≡◌, ◌⊎◌, None, Some, IfOk};
+ghost use Rattle.lvish_board.specs.Newest.{IsSetAt};
 
 use crate::named::Named;
+use crate::newest::Newest;
+use crate::place::Place;
 use lvish_calculus::Program;
+use lvish_history::Stamp;
 use lvish_lattice::Lattice;
 use lvish_names::TaskName;
 use std::alloc::{AllocError, Global};
-use std::marker::{Model, PhantomData};
+use std::marker::Model;
 
 /// A task at a local state.
 pub struct Ticket<P: Program, J: Named<P>> {
-    pub(crate) task: TaskName<<P::Lat as Lattice>::Event>,
-    pub(crate) from: P::Local,
-    of: PhantomData<J>,
+    place: Place<P>,
+    // the task's stamp there, and its index, by which its board knows whether it stands there yet
+    stamp: Stamp<Place<P>, J>,
+    index: u32,
 }
 
 // Written out, so that it is proved once, and not at each exit of a function that owns one.
 impl<P: Program, J: Named<P>> Drop for Ticket<P, J> {
     fn drop(self) {
         let Ticket {
-            task: _,
-            from: _,
-            of: _,
+            place: _,
+            stamp: _,
+            index: _,
         } = self;
     }
 }
 
 impl<P: Program, J: Named<P>> Model for Ticket<P, J> {
+    ghost use Rattle.std.specs.Prelude.{◌≡◌, ◌⊎◌, None, Some};
     ghost use Rattle.lvish_board.specs.Place.{TaskPlace};
 
     ghost Value = { TaskPlace P.Lat.Event P.Local };
 
-    ghost view = { λ t. record { task = t.task; from = t.from } };
+    ghost view = { λ t. t.place };
+
+    ghost invariant = { λ t. (t.stamp.value ≡ None) ⊎ (t.stamp.value ≡ Some t.place) };
 }
 
 impl<P: Program, J: Named<P>> Ticket<P, J> {
-    #[inline(always)]
-    pub(crate) fn new(task: TaskName<<P::Lat as Lattice>::Event>, from: P::Local) -> Ticket<P, J>
+    /// A ticket of a task at this local state, where the board of these stamps hasn't seen it.
+    pub(crate) fn unknown(
+        task: TaskName<<P::Lat as Lattice>::Event>,
+        from: P::Local,
+        newest: &Newest<P, J>,
+    ) -> Ticket<P, J>
         ensures { result ≡ record { task = task; from = from } }
     {
+        Ticket::at(Place::new(task, from), newest)
+    }
+
+    /// A ticket of a task at this place, where the board of these stamps hasn't seen it.
+    fn at(place: Place<P>, newest: &Newest<P, J>) -> Ticket<P, J>
+        ensures { result ≡ place }
+    {
         Ticket {
-            task,
-            from,
-            of: PhantomData,
+            place,
+            stamp: newest.none(),
+            index: 0,
+        }
+    }
+
+    /// The ticket of a board of another name, for the board of these stamps.
+    pub(crate) fn of_another<K: Named<P>>(
+        ticket: Ticket<P, K>,
+        newest: &Newest<P, J>,
+    ) -> Ticket<P, J>
+        ensures { result ≡ ticket }
+    {
+        Ticket::at(ticket.into_place(), newest)
+    }
+
+    #[inline(always)]
+    fn into_place(self) -> Place<P>
+        ensures { result ≡ self }
+    {
+        let Ticket {
+            place,
+            stamp: _,
+            index: _,
+        } = self;
+        place
+    }
+
+    /// A ticket of a task that stands here, as the board of these stamps knows from then on.
+    #[inline(always)]
+    pub(crate) fn new(
+        task: TaskName<<P::Lat as Lattice>::Event>,
+        from: P::Local,
+        index: usize,
+        newest: &mut Newest<P, J>,
+    ) -> Ticket<P, J>
+        ensures place { result ≡ record { task = task; from = from } }
+        ensures newest { IsSetAt index (Some (record { task = task; from = from })) newest.old newest.new }
+    {
+        let place = Place::new(task, from);
+        let stamp = newest.set(index, &place);
+        Ticket {
+            place,
+            stamp,
+            index: (index % 0x1_0000_0000) as u32,
         }
     }
 
@@ -49,7 +110,28 @@ impl<P: Program, J: Named<P>> Ticket<P, J> {
     pub fn task(&self) -> &TaskName<<P::Lat as Lattice>::Event>
         ensures { result.now ≡ self.now.task }
     {
-        &self.task
+        self.place.task()
+    }
+
+    /// The local state.
+    pub(crate) fn from(&self) -> &P::Local
+        ensures { result.now ≡ self.now.from }
+    {
+        self.place.from()
+    }
+
+    /// The stamp that the board gave the task here.
+    #[inline(always)]
+    pub(crate) fn stamp(&self) -> &Stamp<Place<P>, J>
+        ensures { (result.now.value ≡ None) ⊎ (result.now.value ≡ Some self.now) }
+    {
+        &self.stamp
+    }
+
+    /// The index under which the board gave it.
+    #[inline(always)]
+    pub(crate) fn index(&self) -> usize {
+        self.index as usize
     }
 
     /// The local state.
@@ -57,12 +139,17 @@ impl<P: Program, J: Named<P>> Ticket<P, J> {
     pub(crate) fn into_from(self) -> P::Local
         ensures { result ≡ self.from }
     {
-        let Ticket {
-            task: _,
-            from,
-            of: _,
-        } = self;
-        from
+        self.into_place().into_from()
+    }
+
+    /// Takes out the task's name, and leaves another.
+    #[inline(always)]
+    pub(crate) fn take_task(&mut self) -> TaskName<<P::Lat as Lattice>::Event>
+        ensures task { result ≡ self.old.task }
+        ensures from { self.new.from ≡ self.old.from }
+    {
+        self.stamp = self.stamp.none();
+        self.place.take_task()
     }
 
     /// An equal ticket.
@@ -73,8 +160,12 @@ impl<P: Program, J: Named<P>> Ticket<P, J> {
     pub fn copy(&self, alloc: Global, program: &P) -> Result<Ticket<P, J>, AllocError>
         ensures { IfOk result (λ t. t ≡ self.now) }
     {
-        let task = self.task.copy()?;
-        let from = program.copy_local(alloc, &self.from)?;
-        Ok(Ticket::new(task, from))
+        let task = self.place.task().copy()?;
+        let from = program.copy_local(alloc, self.place.from())?;
+        Ok(Ticket {
+            place: Place::new(task, from),
+            stamp: self.stamp.copy(),
+            index: self.index,
+        })
     }
 }

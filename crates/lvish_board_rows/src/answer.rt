@@ -5,7 +5,9 @@ ghost use Rattle.std.specs.Prelude.{◌≡◌, ◌≤◌};
 use crate::board_row::BoardRow;
 use crate::naming::{Naming, Of};
 use crate::two_boards::{write_calls, write_run, write_steps};
+use lvish_board::Place;
 use lvish_core::MOST_STEPS;
+use lvish_history::Opened;
 use lvish_script::read_script;
 use lvish_task::ScriptCode;
 use std::alloc::{AllocError, Global};
@@ -107,27 +109,43 @@ fn write_one(
     if budget > MOST_STEPS {
         return text.push_str("no such budget");
     }
-    write_named::<Brand>(alloc, code, text, budget, asks)
+    write_named::<Brand, Brand>(
+        alloc,
+        code,
+        text,
+        budget,
+        asks,
+        Opened::new(),
+        Opened::new(),
+    )
 }
 
-fn write_named<N: Naming>(
+fn write_named<N: Naming, M: Naming>(
     alloc: Global,
     code: &ScriptCode,
     text: &mut String,
     budget: u64,
     asks: BoardQuestion<'_>,
+    here: Opened<Place<ScriptCode>>,
+    there: Opened<Place<ScriptCode>>,
 ) -> Result<(), AllocError>
     requires program { code.now ≡ N.code }
+    requires its_program { code.now ≡ M.code }
     requires budget { budget ≡ N.budget }
+    requires its_budget { budget ≡ M.budget }
     requires bounded { N.budget ≤ MOST_STEPS }
+    requires here { here.seen.book ≡ N.book }
+    requires there { there.seen.book ≡ M.book }
 {
     match asks {
-        BoardQuestion::Calls(lines) => write_calls::<ScriptCode, Of<N>>(
-            alloc, code, text, budget, lines,
+        BoardQuestion::Calls(lines) => write_calls::<ScriptCode, Of<N>, Of<M>>(
+            alloc, code, text, budget, lines, here, there,
         ),
-        BoardQuestion::Run(seed) => write_run::<ScriptCode, Of<N>>(alloc, code, text, budget, seed),
+        BoardQuestion::Run(seed) => write_run::<ScriptCode, Of<N>>(
+            alloc, code, text, budget, seed, here,
+        ),
         BoardQuestion::Trace(seed) => write_steps::<ScriptCode, Of<N>>(
-            alloc, code, text, budget, seed,
+            alloc, code, text, budget, seed, here,
         ),
     }
 }

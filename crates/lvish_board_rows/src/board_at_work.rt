@@ -9,9 +9,10 @@ use crate::text::{write_label, write_machine, write_outcome};
 use crate::work::{after_space, count, place_of, text_of, write_works};
 use crate::work_left::WorkLeft;
 use crate::work_order::WorkOrder;
-use lvish_board::{Acted, Board, Named, Trace, Work, Works};
+use lvish_board::{Acted, Board, Named, Place, Trace, Work, Works};
 use lvish_calculus::{Label, Program};
 use lvish_core::MOST_STEPS;
+use lvish_history::Opened;
 use lvish_lattice::{Lattice, Numbered};
 use std::alloc::{AllocError, Global};
 use std::fmt::Write;
@@ -56,12 +57,18 @@ fn write_many<E: Numbered>(
 
 impl<'p, P: Program, J: Named<P>> BoardAtWork<'p, P, J> {
     /// A board at the program's start.
-    pub fn new(alloc: Global, program: &'p P, budget: u64) -> Result<Self, AllocError>
+    pub fn new(
+        alloc: Global,
+        program: &'p P,
+        budget: u64,
+        history: Opened<Place<P>>,
+    ) -> Result<Self, AllocError>
         requires program { program.now ≡ J.program }
         requires budget { budget ≡ J.budget }
         requires bounded { J.budget ≤ MOST_STEPS }
+        requires history { history.seen.book ≡ J.book }
     {
-        let (board, work) = opened(alloc, program, budget)?;
+        let (board, work) = opened(alloc, program, budget, history)?;
         let mut seat = BoardAtWork {
             board,
             first: None,
@@ -188,6 +195,15 @@ where
         match place_of(alloc, self.left.works(), wanted)? {
             Some(place) => Ok(self.left.take_at(place)),
             None => Ok(None),
+        }
+    }
+
+    /// Work that another board has left, for this one; none where it is no ticket and no handler.
+    pub fn adopted<K: Named<P>>(&self, work: Work<P, K>) -> Option<Work<P, J>> {
+        match work {
+            Work::Stretch(ticket) => Some(Work::Stretch(self.board.adopt(ticket))),
+            Work::Hand(handler) => Some(Work::Hand(handler)),
+            Work::Act(_) => None,
         }
     }
 

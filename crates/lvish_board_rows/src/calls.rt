@@ -2,9 +2,10 @@
 
 ghost use Rattle.std.specs.Prelude.{◌≡◌, ◌≤◌};
 
-use lvish_board::{Acted, Board, Named, Ticket, Work, stretch};
+use lvish_board::{Acted, Board, Named, Place, Ticket, Work, stretch};
 use lvish_calculus::Program;
 use lvish_core::MOST_STEPS;
+use lvish_history::Opened;
 use lvish_names::{HandlerName, TaskName};
 use std::alloc::{AllocError, Global};
 
@@ -13,14 +14,20 @@ pub fn opened<P: Program, J: Named<P>>(
     alloc: Global,
     program: &P,
     budget: u64,
+    history: Opened<Place<P>>,
 ) -> Result<(Board<'_, P, J>, Work<P, J>), AllocError>
     requires program { program.now ≡ J.program }
     requires budget { budget ≡ J.budget }
     requires bounded { J.budget ≤ MOST_STEPS }
+    requires history { history.seen.book ≡ J.book }
 {
-    match Board::new(alloc, program, budget) {
+    let history = match Board::new(alloc, program, budget, history) {
+        Ok(opened) => return Ok(opened),
+        Err(history) => history,
+    };
+    match Board::new(alloc, program, budget, history) {
         Ok(opened) => Ok(opened),
-        Err(_refused) => Board::new(alloc, program, budget),
+        Err(_history) => Err(AllocError),
     }
 }
 

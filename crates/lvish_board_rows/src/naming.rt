@@ -1,11 +1,13 @@
 //! A board's program and budget, named by a type that a call picks.
 
 use lvish_board::Named;
+use lvish_history::Origin;
 use lvish_task::ScriptCode;
 use std::marker::{Brand, PhantomData};
 
-/// Which code a board runs, and how many steps it may make. A call picks them.
-pub trait Naming {
+/// Which code a board runs, how many steps it may make, and where its tickets have their stamps from.
+/// A call picks them.
+pub trait Naming: Origin {
     ghost use Rattle.std.specs.Prelude.{ℕ};
     ghost use Rattle.lvish_task.specs.declared.script_code.ScriptCode.{ScriptCode};
 
@@ -25,6 +27,10 @@ impl Naming for Brand {
 /// The name of a board.
 pub struct Of<N: Naming> {
     of: PhantomData<N>,
+}
+
+impl<N: Naming> Origin for Of<N> {
+    ghost book = { N.book };
 }
 
 impl<N: Naming> Named<ScriptCode> for Of<N> {

@@ -35,35 +35,36 @@ use Rattle.lvish_board.proofs.Crossing.{ticket_send, asked_send, board_send}
 use Rattle.lvish_board.specs.contracts.board.Board as Board
 use Rattle.lvish_board.specs.contracts.ticket.Ticket as Ticket
 use Rattle.lvish_board.specs.declared.named.Named as named
+use Rattle.lvish_history.specs.declared.origin.Origin as origin
 use Rattle.lvish_run.specs.contracts.piece.Piece as Piece
 
 -- the names of a run, as a script's board has them
 module _ (J : RattleType) (j : IsSend J)
-    (n : named.Ghosts J.Denot ScriptCode.the_row.Denot Any.the_row.Denot Local.the_row.Denot AnyRead.the_row.Denot i64.Denot Event.the_row.Denot Event.the_row.Denot) where
-  pub piece_send : IsSend (Piece.the_row J n)
+    (n : named.Ghosts J.Denot ScriptCode.the_row.Denot Any.the_row.Denot Local.the_row.Denot AnyRead.the_row.Denot i64.Denot Event.the_row.Denot Event.the_row.Denot) (o : origin.Ghosts J.Denot) where
+  pub piece_send : IsSend (Piece.the_row J n o)
   piece_send =
-      variants_send (Piece.enum J n) (
+      variants_send (Piece.enum J n o) (
         (
-          as_row_send (Ticket.the_field ScriptCode.the_row J Any.the_row Local.the_row AnyRead.the_row i64 Event.the_row Event.the_row scripts.ghosts states_read.ghosts states_joined.ghosts states_same.ghosts events_ordered.ghosts events_same.ghosts events_partial.ghosts events_hash.ghosts events_ordered.ghosts events_same.ghosts events_partial.ghosts events_hash.ghosts locals_same.ghosts n)
+          as_row_send (Ticket.the_field ScriptCode.the_row J Any.the_row Local.the_row AnyRead.the_row i64 Event.the_row Event.the_row scripts.ghosts states_read.ghosts states_joined.ghosts states_same.ghosts events_ordered.ghosts events_same.ghosts events_partial.ghosts events_hash.ghosts events_ordered.ghosts events_same.ghosts events_partial.ghosts events_hash.ghosts locals_same.ghosts n o)
               (ticket_send Event.the_row of_event.the_send of_event.the_sync ScriptCode.the_row J Any.the_row Local.the_row AnyRead.the_row i64 Event.the_row j of_any.the_send of_local.the_send of_read.the_send
-              events_ordered.ghosts events_equal.ghosts events_same.ghosts events_partial.ghosts events_hash.ghosts scripts.ghosts states_joined.ghosts states_same.ghosts states_read.ghosts events_ordered.ghosts events_same.ghosts events_partial.ghosts events_hash.ghosts locals_same.ghosts n),
+              events_ordered.ghosts events_equal.ghosts events_same.ghosts events_partial.ghosts events_hash.ghosts scripts.ghosts states_joined.ghosts states_same.ghosts states_read.ghosts events_ordered.ghosts events_same.ghosts events_partial.ghosts events_hash.ghosts locals_same.ghosts n o),
           tt,
         ),
         (
           (
             Box-send _ (asked_send Event.the_row of_event.the_send of_event.the_sync ScriptCode.the_row J Any.the_row Local.the_row AnyRead.the_row i64 Event.the_row j of_any.the_send of_local.the_send of_read.the_send
-                events_ordered.ghosts events_equal.ghosts events_same.ghosts events_partial.ghosts events_hash.ghosts scripts.ghosts states_joined.ghosts states_same.ghosts states_read.ghosts events_ordered.ghosts events_same.ghosts events_partial.ghosts events_hash.ghosts locals_same.ghosts n),
+                events_ordered.ghosts events_equal.ghosts events_same.ghosts events_partial.ghosts events_hash.ghosts scripts.ghosts states_joined.ghosts states_same.ghosts states_read.ghosts events_ordered.ghosts events_same.ghosts events_partial.ghosts events_hash.ghosts locals_same.ghosts n o),
             tt,
           ),
           ((as_row_send (HandlerName.the_field Event.the_row) (handler_send Event.the_row of_event.the_send of_event.the_sync), tt), tt),
         ),
       )
 
-  pub board_send_at : (a : NamedLft) → IsSend (Board.the_row a ScriptCode.the_row J Any.the_row Local.the_row AnyRead.the_row i64 Event.the_row Event.the_row scripts.ghosts states_read.ghosts states_joined.ghosts states_same.ghosts events_ordered.ghosts events_equal.ghosts events_same.ghosts events_partial.ghosts events_hash.ghosts events_ordered.ghosts events_equal.ghosts events_same.ghosts events_partial.ghosts events_hash.ghosts locals_same.ghosts n)
+  pub board_send_at : (a : NamedLft) → IsSend (Board.the_row a ScriptCode.the_row J Any.the_row Local.the_row AnyRead.the_row i64 Event.the_row Event.the_row scripts.ghosts states_read.ghosts states_joined.ghosts states_same.ghosts events_ordered.ghosts events_equal.ghosts events_same.ghosts events_partial.ghosts events_hash.ghosts events_ordered.ghosts events_equal.ghosts events_same.ghosts events_partial.ghosts events_hash.ghosts locals_same.ghosts n o)
   board_send_at a =
       board_send Event.the_row of_event.the_send of_event.the_sync ScriptCode.the_row J Any.the_row Local.the_row AnyRead.the_row i64 Event.the_row j of_any.the_send of_local.the_send of_read.the_send
       events_ordered.ghosts events_equal.ghosts events_same.ghosts events_partial.ghosts events_hash.ghosts scripts.ghosts states_joined.ghosts states_same.ghosts states_read.ghosts
-      events_ordered.ghosts events_same.ghosts events_partial.ghosts events_hash.ghosts locals_same.ghosts n of_event.the_send events_equal.ghosts a of_code.the_sync
+      events_ordered.ghosts events_same.ghosts events_partial.ghosts events_hash.ghosts locals_same.ghosts n o of_event.the_send events_equal.ghosts a of_code.the_sync
 
 pub code_sync : IsSync ScriptCode.the_row
 code_sync = of_code.the_sync

@@ -15,6 +15,7 @@
 
 mod account;
 mod agenda;
+mod alone;
 mod boxed_asked;
 mod closing;
 mod count_by_worker;
@@ -31,6 +32,7 @@ mod own_steps;
 mod pause;
 mod picks;
 mod piece;
+mod queue;
 mod report;
 mod runner;
 mod scripts;

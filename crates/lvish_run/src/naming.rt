@@ -1,9 +1,11 @@
 use lvish_board::Named;
+use lvish_history::Origin;
 use lvish_task::ScriptCode;
 use std::marker::{Brand, PhantomData};
 
-/// Which code is run, and in how many steps at most. A call picks them.
-pub trait Naming {
+/// Which code is run, in how many steps at most, and where its tickets have their stamps from. A call
+/// picks them.
+pub trait Naming: Origin {
     ghost use Rattle.std.specs.Prelude.{ℕ};
     ghost use Rattle.lvish_task.specs.declared.script_code.ScriptCode.{ScriptCode};
 
@@ -24,6 +26,10 @@ impl Naming for Brand {
 #[derive(Drop)]
 pub struct Of<N: Naming> {
     of: PhantomData<N>,
+}
+
+impl<N: Naming> Origin for Of<N> {
+    ghost book = { N.book };
 }
 
 impl<N: Naming> Named<ScriptCode> for Of<N> {

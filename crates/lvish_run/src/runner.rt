@@ -18,10 +18,11 @@ use crate::opening::open_one;
 use crate::picks::pick_at;
 use crate::report::{Counts, Report};
 use crate::turn::{act, hand, is_sound};
-use lvish_board::{Board, Named};
+use lvish_board::{Board, Named, Place};
 use lvish_calculus::laws::lawful;
 use lvish_calculus::{Label, Meaning, Program};
 use lvish_core::laws::{hands_one_event, takes_core_runs, takes_something};
+use lvish_history::Opened;
 use lvish_lattice::Lattice;
 use lvish_names::HandlerName;
 use std::alloc::{AllocError, Global};
@@ -199,16 +200,20 @@ fn opened<'p, P: Program, J: Named<P>>(
     alloc: Global,
     program: &'p P,
     budget: u64,
+    history: Opened<Place<P>>,
 ) -> Result<(Board<'p, P, J>, Agenda<P, J>), AllocError>
     requires program { program.now ≡ J.program }
     requires budget { budget ≡ J.budget }
     requires small { budget ≤ MOST_STEPS }
+    requires history { history.seen.book ≡ J.book }
     ensures board { IfOk result (λ r. IsOpened (⟦<P as Meaning>⟧.machine J.program) J.program r.0) }
     ensures agenda { IfOk result (λ r. IsFor P.Lat.Event.cmp (⟦<P as Meaning>⟧.machine J.program) r.0 r.1) }
 {
     lawful::<P>();
     hands_one_event::<P>();
-    let (board, first) = Board::new(alloc, program, budget)?;
+    let Ok((board, first)) = Board::new(alloc, program, budget, history) else {
+        return Err(AllocError);
+    };
     is_sound(&board);
     let mut agenda = Agenda::new(alloc);
     open_one(alloc, program, &mut agenda, first)?;
@@ -221,13 +226,15 @@ fn walked<'p, P: Program, J: Named<P>>(
     program: &'p P,
     picks: &[u64],
     budget: u64,
+    history: Opened<Place<P>>,
 ) -> Result<Board<'p, P, J>, AllocError>
     requires program { program.now ≡ J.program }
     requires budget { budget ≡ J.budget }
     requires small { budget ≤ MOST_STEPS }
+    requires history { history.seen.book ≡ J.book }
     ensures { IfOk result (λ b. IsWalked P.Lat.Event.cmp (⟦<P as Meaning>⟧.machine J.program) J.program picks.now J.budget b.core b.trace) }
 {
-    let (mut board, mut agenda) = opened::<P, J>(alloc, program, budget)?;
+    let (mut board, mut agenda) = opened::<P, J>(alloc, program, budget, history)?;
     walk(alloc, program, &mut board, &mut agenda, picks, budget)?;
     Ok(board)
 }
@@ -243,10 +250,12 @@ pub fn run_program<P: Program, J: Named<P>>(
     program: &P,
     picks: &[u64],
     budget: u64,
+    history: Opened<Place<P>>,
 ) -> Result<Report<P::Lat, <P::Lat as Lattice>::Event>, AllocError>
     requires program { program.now ≡ J.program }
     requires budget { budget ≡ J.budget }
     requires small { budget ≤ MOST_STEPS }
+    requires history { history.seen.book ≡ J.book }
     ensures honest { IfOk result (λ r. IsHonest (⟦<P as Meaning>⟧.machine J.program) (P.functions J.program).variables 1 J.budget r) }
     ensures picked { IfOk result (λ r. IsPicked P.Lat.Event.cmp (⟦<P as Meaning>⟧.machine J.program) picks.now [] (Running (start (⟦<P as Meaning>⟧.machine J.program))) (labels_of r.trace)) }
     // What handlers are handed in it.
@@ -255,7 +264,7 @@ pub fn run_program<P: Program, J: Named<P>>(
     ensures alike { IfOk result (λ r. IsAlike (⟦<P as Meaning>⟧.machine J.program) (P.functions J.program).variables r) }
 {
     takes_something::<P>();
-    let board = walked::<P, J>(alloc, program, picks, budget)?;
+    let board = walked::<P, J>(alloc, program, picks, budget, history)?;
     let core = board.core();
     let outcome = outcome_of(alloc, core)?;
     let steps = core.steps();

@@ -10,8 +10,10 @@ use crate::limits::MOST_STEPS;
 use crate::naming::{Naming, Of};
 use crate::report::Report;
 use crate::runner::run_program;
+use lvish_board::Place;
 use lvish_calculus::{Meaning, Program};
 use lvish_compound::{Any, Event};
+use lvish_history::Opened;
 use lvish_syntax::Script;
 use lvish_task::ScriptCode;
 use lvish_task::laws::same_runs;
@@ -67,7 +69,7 @@ pub fn run_picks(
 {
     same_runs();
     let code = ScriptCode::new(alloc, script)?;
-    run_named::<Brand>(alloc, &code, picks, budget)
+    run_named::<Brand>(alloc, &code, picks, budget, Opened::new())
 }
 
 /// Runs the code that the name is for.
@@ -76,14 +78,16 @@ fn run_named<N: Naming>(
     code: &ScriptCode,
     picks: &[u64],
     budget: u64,
+    history: Opened<Place<ScriptCode>>,
 ) -> Result<Report<Any, Event>, AllocError>
     requires bounded { budget ≤ MOST_STEPS }
     requires code { code.now ≡ N.code }
     requires budget { budget ≡ N.budget }
+    requires history { history.seen.book ≡ N.book }
     ensures honest { IfOk result (λ r. IsHonest (⟦<ScriptCode as Meaning>⟧.machine N.code) (⟦<ScriptCode as Program>⟧.functions N.code).variables 1 N.budget r) }
     ensures picked { IfOk result (λ r. IsPicked ⟦<Event as Ord>⟧.cmp (⟦<ScriptCode as Meaning>⟧.machine N.code) picks.now [] (Running (start (⟦<ScriptCode as Meaning>⟧.machine N.code))) (labels_of r.trace)) }
     ensures handed { IfOk result (λ r. IsHandedWell (⟦<ScriptCode as Meaning>⟧.machine N.code) (labels_of r.trace)) }
     ensures alike { IfOk result (λ r. IsAlike (⟦<ScriptCode as Meaning>⟧.machine N.code) (⟦<ScriptCode as Program>⟧.functions N.code).variables r) }
 {
-    run_program::<ScriptCode, Of<N>>(alloc, code, picks, budget)
+    run_program::<ScriptCode, Of<N>>(alloc, code, picks, budget, history)
 }

@@ -11,12 +11,13 @@ use crate::gate::Gate;
 use crate::own_steps::{OwnSteps, Why};
 use crate::pause::Pause;
 use crate::piece::Piece;
+use crate::queue::{leave, leaves_more};
 use lvish_board::{Asked, Board, Came, Named, Step, Ticket, Works, stretch_with};
 use lvish_compound::Event;
 use lvish_deal::{Seat, Steal};
 use lvish_names::HandlerName;
 use lvish_task::{Local, ScriptCode};
-use std::alloc::{AllocError, Global};
+use std::alloc::Global;
 use std::sync::atomic::{AtomicBool, Ordering};
 use std::sync::{Mutex, Wait};
 
@@ -301,59 +302,4 @@ fn go_by<J: Named<ScriptCode>>(
         return Some(Why::Memory);
     }
     None
-}
-
-/// Whether a step left more than the next ticket of its task.
-#[inline(always)]
-fn leaves_more<J: Named<ScriptCode>>(works: &Works<ScriptCode, J>) -> bool {
-    works.made.is_some() || !works.woken.is_empty() || !works.hands.is_empty()
-}
-
-/// Leaves the work beside the task's own on the deque, in this order.
-#[inline(never)]
-fn leave<J: Named<ScriptCode>>(
-    alloc: Global,
-    seat: &mut Seat<Piece<J>>,
-    works: &mut Works<ScriptCode, J>,
-) -> Result<(), AllocError> {
-    if let Some(ticket) = works.made.take() {
-        push(seat, Piece::Stretch(ticket))?;
-    }
-    if !works.woken.is_empty() {
-        leave_woken(alloc, seat, &mut works.woken)?;
-    }
-    leave_hands(seat, &mut works.hands)
-}
-
-/// Leaves the next handing of each of these handlers on the deque, in their order.
-fn leave_hands<J: Named<ScriptCode>>(
-    seat: &mut Seat<Piece<J>>,
-    hands: &mut Vec<HandlerName<Event>>,
-) -> Result<(), AllocError> {
-    hands.reverse();
-    while let Some(handler) = hands.pop() {
-        push(seat, Piece::Hand(handler))?;
-    }
-    Ok(())
-}
-
-/// Leaves what these tasks ask for on the deque, in their order.
-fn leave_woken<J: Named<ScriptCode>>(
-    alloc: Global,
-    seat: &mut Seat<Piece<J>>,
-    woken: &mut Vec<Asked<ScriptCode, J>>,
-) -> Result<(), AllocError> {
-    woken.reverse();
-    while let Some(asked) = woken.pop() {
-        push(seat, Piece::Act(Box::new(alloc, asked)?))?;
-    }
-    Ok(())
-}
-
-#[inline(always)]
-fn push<T: Drop>(seat: &mut Seat<T>, item: T) -> Result<(), AllocError> {
-    match seat.push(item) {
-        Ok(()) => Ok(()),
-        Err(_item) => Err(AllocError),
-    }
 }

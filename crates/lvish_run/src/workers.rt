@@ -3,21 +3,24 @@ ghost use Rattle.lvish_calculus.specs.Handing.{IsHandedWell};
 ghost use Rattle.lvish_run.specs.Honest.{IsHonest};
 ghost use Rattle.lvish_board.specs.Standing.{labels_of};
 ghost use Rattle.lvish_run.specs.Alike.{IsAlike};
-ghost use Rattle.lvish_run.specs.declared.own_steps.Why.TheVariants.{Stopped};
+ghost use Rattle.lvish_run.specs.declared.own_steps.Why.TheVariants.{Memory as LackedMemory, Stopped};
 
+use crate::alone::work_alone;
 use crate::closing::report_of;
 use crate::fault::RunFault;
 use crate::gate::Gate;
 use crate::hall::{Crew, together};
 use crate::limits::{MOST_STEPS, MOST_WORKERS};
 use crate::naming::{Naming, Of};
+use crate::own_steps::Why;
 use crate::piece::Piece;
 use crate::report::Report;
 use crate::scripts::RunMeaning;
-use lvish_board::{Board, Named};
+use lvish_board::{Board, Named, Place};
 use lvish_calculus::{Meaning, Program};
 use lvish_compound::{Any, Event};
 use lvish_deal::deal;
+use lvish_history::Opened;
 use lvish_syntax::Script;
 use lvish_task::ScriptCode;
 use lvish_task::laws::same_runs;
@@ -52,7 +55,7 @@ pub fn run<R: Threads + Wait + Sync, G: Gate>(
 {
     same_runs();
     let code = ScriptCode::new(alloc, script)?;
-    run_named::<Brand, R, G>(rt, alloc, &code, workers, budget, gate)
+    run_named::<Brand, R, G>(rt, alloc, &code, workers, budget, gate, Opened::new())
 }
 
 /// Runs the code that the name is for.
@@ -63,22 +66,92 @@ fn run_named<N: Naming + Send + Sync, R: Threads + Wait + Sync, G: Gate>(
     workers: usize,
     budget: u64,
     gate: &G,
+    history: Opened<Place<ScriptCode>>,
 ) -> Result<Report<Any, Event>, RunFault>
     requires some { 0 < workers }
     requires few { workers ≤ MOST_WORKERS }
     requires bounded { budget ≤ MOST_STEPS }
     requires code { code.now ≡ N.code }
     requires budget { budget ≡ N.budget }
+    requires history { history.seen.book ≡ N.book }
     ensures honest { IfOk result (λ r. IsHonest (⟦<ScriptCode as Meaning>⟧.machine N.code) (⟦<ScriptCode as Program>⟧.functions N.code).variables workers N.budget r) }
     ensures handed { IfOk result (λ r. IsHandedWell (⟦<ScriptCode as Meaning>⟧.machine N.code) (labels_of r.trace)) }
     ensures alike { IfOk result (λ r. IsAlike (⟦<ScriptCode as Meaning>⟧.machine N.code) (⟦<ScriptCode as Program>⟧.functions N.code).variables r) }
     ensures patient { G.patient ≡ true → result ≢ Err RunFault.Stopped }
     ensures alone { workers ≡ 1 → result ≢ Err RunFault.NoThread }
 {
-    let (board, first) = Board::<ScriptCode, Of<N>>::new(alloc, code, budget)?;
+    let Ok((board, first)) = Board::<ScriptCode, Of<N>>::new(alloc, code, budget, history) else {
+        return Err(RunFault::Memory);
+    };
+    let first = Piece::of(alloc, first)?;
+    if workers == 1 {
+        return run_alone(rt, alloc, code, board, first, gate);
+    }
+    run_together(rt, alloc, code, board, first, workers, gate)
+}
+
+/// Runs the code by one worker, from the first piece of work on.
+fn run_alone<J: Named<ScriptCode>, R: Wait, G: Gate>(
+    rt: &R,
+    alloc: Global,
+    code: &ScriptCode,
+    board: Board<'_, ScriptCode, J>,
+    first: Piece<J>,
+    gate: &G,
+) -> Result<Report<Any, Event>, RunFault>
+    requires code { code.now ≡ J.program }
+    ensures honest { IfOk result (λ r. IsHonest (⟦<ScriptCode as Meaning>⟧.machine J.program) (⟦<ScriptCode as Program>⟧.functions J.program).variables 1 J.budget r) }
+    ensures handed { IfOk result (λ r. IsHandedWell (⟦<ScriptCode as Meaning>⟧.machine J.program) (labels_of r.trace)) }
+    ensures alike { IfOk result (λ r. IsAlike (⟦<ScriptCode as Meaning>⟧.machine J.program) (⟦<ScriptCode as Program>⟧.functions J.program).variables r) }
+    ensures patient { G.patient ≡ true → result ≢ Err RunFault.Stopped }
+    ensures alone { result ≢ Err RunFault.NoThread }
+{
+    let mut board = board;
+    let why = work_alone(rt, alloc, first, code, &mut board, gate);
+    settle_alone(alloc, board, why)
+}
+
+/// The report of a board that a lone worker left for this reason, or why there is none.
+fn settle_alone<J: Named<ScriptCode>>(
+    alloc: Global,
+    board: Board<'_, ScriptCode, J>,
+    why: Why,
+) -> Result<Report<Any, Event>, RunFault>
+    ensures honest { IfOk result (λ r. IsHonest (⟦<ScriptCode as Meaning>⟧.machine J.program) (⟦<ScriptCode as Program>⟧.functions J.program).variables 1 J.budget r) }
+    ensures handed { IfOk result (λ r. IsHandedWell (⟦<ScriptCode as Meaning>⟧.machine J.program) (labels_of r.trace)) }
+    ensures alike { IfOk result (λ r. IsAlike (⟦<ScriptCode as Meaning>⟧.machine J.program) (⟦<ScriptCode as Program>⟧.functions J.program).variables r) }
+    ensures memory { why ≡ LackedMemory → result ≡ Err RunFault.Memory }
+    ensures stopped { why ≡ Stopped → result ≡ Err RunFault.Stopped }
+    ensures patient { why ≢ Stopped → result ≢ Err RunFault.Stopped }
+    ensures all_there { result ≢ Err RunFault.NoThread }
+{
+    match why {
+        Why::Memory => Err(RunFault::Memory),
+        Why::Stopped => Err(RunFault::Stopped),
+        Why::Over | Why::Others => report_of(alloc, board, 1),
+    }
+}
+
+/// Runs the code by this many workers, from the first piece of work on.
+fn run_together<J: Named<ScriptCode> + Send + Sync, R: Threads + Wait + Sync, G: Gate>(
+    rt: &R,
+    alloc: Global,
+    code: &ScriptCode,
+    board: Board<'_, ScriptCode, J>,
+    first: Piece<J>,
+    workers: usize,
+    gate: &G,
+) -> Result<Report<Any, Event>, RunFault>
+    requires some { 0 < workers }
+    requires few { workers ≤ MOST_WORKERS }
+    requires code { code.now ≡ J.program }
+    ensures honest { IfOk result (λ r. IsHonest (⟦<ScriptCode as Meaning>⟧.machine J.program) (⟦<ScriptCode as Program>⟧.functions J.program).variables workers J.budget r) }
+    ensures handed { IfOk result (λ r. IsHandedWell (⟦<ScriptCode as Meaning>⟧.machine J.program) (labels_of r.trace)) }
+    ensures alike { IfOk result (λ r. IsAlike (⟦<ScriptCode as Meaning>⟧.machine J.program) (⟦<ScriptCode as Program>⟧.functions J.program).variables r) }
+    ensures patient { G.patient ≡ true → result ≢ Err RunFault.Stopped }
+{
     let mut others = deal(alloc, workers)?;
     let mut mine = others.remove(0);
-    let first = Piece::of(alloc, first)?;
     if mine.push(first).is_err() {
         return Err(RunFault::Memory);
     }

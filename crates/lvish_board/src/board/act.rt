@@ -124,7 +124,22 @@ impl<'p, P: Program, J: Named<P>> Board<'p, P, J> {
     }
 
     /// The task's numbers, where it is there in the local state in which it asks.
+    #[inline(always)]
     fn current(&self, asked: &Asked<P, J>) -> Option<TaskNumbers>
+        ensures { MatchOption result (⟦<P as CoreMeaning>⟧.local_in self.now.core asked.now.task ≢ Some asked.now.from) (λ n. ⟦<P as CoreMeaning>⟧.is_live self.now.core asked.now.task asked.now.from n) }
+    {
+        let index = asked.index();
+        if self.newest.is(index, asked.stamp()) {
+            self.core.numbers_at(index)
+        } else {
+            self.current_by_name(asked)
+        }
+    }
+
+    /// The same, for a ticket of which its stamp doesn't say so. It isn't inlined, since only old
+    /// tickets and those of other boards need it.
+    #[inline(never)]
+    fn current_by_name(&self, asked: &Asked<P, J>) -> Option<TaskNumbers>
         ensures { MatchOption result (⟦<P as CoreMeaning>⟧.local_in self.now.core asked.now.task ≢ Some asked.now.from) (λ n. ⟦<P as CoreMeaning>⟧.is_live self.now.core asked.now.task asked.now.from n) }
     {
         match self.core.standing_of(asked.task()) {

@@ -14,13 +14,14 @@ use crate::acted::Acted;
 use crate::came::Came;
 use crate::list::{OwnWork, leave, ticket_of};
 use crate::named::Named;
+use crate::newest::Newest;
 use crate::noted::{Noted, Step};
 use crate::outcome::Outcome;
 use crate::room::Room;
 use crate::work::Work;
 use crate::works::Works;
 use lvish_calculus::{Meaning, Program};
-use lvish_core::laws::{hands_one_event, passes_at_its_spot, waiting_tasks};
+use lvish_core::laws::{hands_one_event, passes_at_its_spot, tasks_after, waiting_tasks};
 use lvish_core::{Core, CoreMeaning, Moved, StepFault};
 use lvish_lattice::Lattice;
 use lvish_names::HandlerName;
@@ -167,6 +168,7 @@ impl<'p, P: Program, J: Named<P>> Board<'p, P, J> {
         hands_one_event::<P>();
         waiting_tasks::<P>();
         passes_at_its_spot::<P>();
+        tasks_after::<P>();
         let step = Step::Hand(self.core.tasks());
         let parked = self.parked.len();
         let Some(name) = handler.as_ref() else {
@@ -175,6 +177,7 @@ impl<'p, P: Program, J: Named<P>> Board<'p, P, J> {
         let Ok(moved) = hand_with_room(
             alloc,
             &mut self.core,
+            &mut self.newest,
             &mut self.trace,
             &mut self.room,
             parked,
@@ -183,11 +186,12 @@ impl<'p, P: Program, J: Named<P>> Board<'p, P, J> {
         ) else {
             return Came::Memory;
         };
+        self.core.each_task_once();
         let added = handler.take();
         let left = OwnWork {
             step,
             own: None,
-            made: ticket_of(moved.made),
+            made: ticket_of(moved.made, step.index(), &mut self.newest),
             added,
         };
         leave(&self.core, &mut self.parked, left, &mut self.room, 0, works);
@@ -217,6 +221,7 @@ fn as_work<P: Program, J: Named<P>>(
 fn hand_with_room<P: Program, J: Named<P>>(
     alloc: Global,
     core: &mut Core<'_, P>,
+    newest: &mut Newest<P, J>,
     trace: &mut Vec<Noted>,
     room: &mut Room<P, J>,
     parked: usize,
@@ -231,10 +236,12 @@ fn hand_with_room<P: Program, J: Named<P>>(
     ensures woken_room { IfOk result (λ _. parked ≤ vec_capacity room.new.woken) }
     ensures concerned_room { IfOk result (λ _. 1 ≤ vec_capacity room.new.concerned) }
     ensures hands_room { IfOk result (λ _. 1 ≤ vec_capacity room.new.hands) }
+    ensures newest { newest.new ≡ newest.old }
     ensures kept { IfErr result (λ _. (core.new ≡ core.old) × (trace.new.items ≡ trace.old.items)) }
 {
     room.reserve(parked, 1)?;
     trace.reserve(1)?;
+    newest.reserve()?;
     has_all_variables(core);
     let (_done, moved) = core.step_hand(alloc, handler)?;
     has_all_variables(core);

@@ -12,13 +12,14 @@ use crate::asked::Asked;
 use crate::came::Came;
 use crate::list::{leave, left_by};
 use crate::named::Named;
+use crate::newest::Newest;
 use crate::noted::{Noted, Step};
 use crate::outcome::Outcome;
 use crate::room::Room;
 use crate::works::Works;
 use lvish_calculus::laws::lawful;
 use lvish_calculus::{ErrorKind, Meaning, Program};
-use lvish_core::laws::{passes_at_its_spot, waiting_tasks};
+use lvish_core::laws::{passes_at_its_spot, tasks_after, waiting_tasks};
 use lvish_core::{Core, CoreMeaning, Moved, StepFault, Stepped, TaskNumbers};
 use lvish_lattice::Lattice;
 use std::alloc::Global;
@@ -45,11 +46,14 @@ impl<'p, P: Program, J: Named<P>> Board<'p, P, J> {
         lawful::<P>();
         waiting_tasks::<P>();
         passes_at_its_spot::<P>();
+        tasks_after::<P>();
         let step = Step::Act(numbers.index);
         let parked = self.parked.len();
+        let next = self.core.tasks();
         let Ok((logged, stepped, moved)) = step_with_room(
             alloc,
             &mut self.core,
+            &mut self.newest,
             &mut self.trace,
             &mut self.room,
             parked,
@@ -59,15 +63,17 @@ impl<'p, P: Program, J: Named<P>> Board<'p, P, J> {
         ) else {
             return Came::Memory;
         };
+        self.core.each_task_once();
         match stepped {
             Stepped::Error(kind) => {
                 drop(moved);
+                self.newest.clear(numbers.index);
                 self.over = Some(error_outcome(&self.core, kind, asked));
                 works.empty(step);
                 Came::Gone
             }
             Stepped::Done => {
-                let left = left_by(step, asked, moved);
+                let left = left_by(step, asked, next, &mut self.newest, moved);
                 let goes_on = left.own.is_some();
                 leave(
                     &self.core,
@@ -102,6 +108,7 @@ fn next_or_gone(goes_on: bool) -> Came
 fn step_with_room<P: Program, J: Named<P>>(
     alloc: Global,
     core: &mut Core<'_, P>,
+    newest: &mut Newest<P, J>,
     trace: &mut Vec<Noted>,
     room: &mut Room<P, J>,
     parked: usize,
@@ -118,10 +125,12 @@ fn step_with_room<P: Program, J: Named<P>>(
     ensures concerned_room { IfOk result (λ _. length room.new.concerned.items + most_added ((P.functions J.program).request asked.old.from) ≤ vec_capacity room.new.concerned) }
     ensures hands_room { IfOk result (λ _. length room.new.concerned.items + most_added ((P.functions J.program).request asked.old.from) ≤ vec_capacity room.new.hands) }
     ensures kept { IfErr result (λ _. (core.new ≡ core.old) × (trace.new.items ≡ trace.old.items)) }
+    ensures newest { newest.new ≡ newest.old }
     ensures same { asked.new ≡ asked.old }
 {
     let logged = room.reserve_for(core, parked, asked)?;
     trace.reserve(1)?;
+    newest.reserve()?;
     has_all_variables(core);
     let (stepped, moved) = step(alloc, core, trace, worker, numbers, asked)?;
     has_all_variables(core);

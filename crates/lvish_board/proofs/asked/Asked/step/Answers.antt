@@ -6,12 +6,11 @@ use Rattle.lvish_core.specs.Changes.{IsMoved}
 use Rattle.lvish_core.specs.Core.{state}
 use Rattle.lvish_board.proofs.asked.Asked.step.Goals as goal
 
--- the place is that of before, whatever was taken out of it
 pub step_live-requires-clause-live : goal.step_live-requires-clause-live
 step_live-requires-clause-live g c =
-    (c.self.inside.ticket.from, rw (ap (λ a. a.ticket.task) c.self-inside.view_is) (rw (← c.self.view_is) at c.requires.live))
+    (c.self.inside.ticket.from, rw c.task.ensures (rw (← c.self.view_is) at c.requires.live))
 
 pub returns-clause-moved : goal.returns-clause-moved
 returns-clause-moved g c =
     let M = machine_of g.P.Lat.PartialEq.eq g.P.Lat.Event.PartialEq.eq g.P.Lat.Event.Ord.cmp g.P.Lat.Lattice.least g.P.Lat.Lattice.joined g.P.Lat.Lattice.events_of g.P.Lat.Reads.answer_of (g.P.Program.functions c.args.core.now.program) in
-    subst (λ t. IfOk c.step_live.result (λ s. IsMoved M (state M c.args.core.now) (Act t) s.1)) (ap (λ a. a.ticket.task) c.self-inside.view_is ∙ ap (λ a. a.task) c.self.view_is) c.step_live.ensures.moved
+    subst (λ t. IfOk c.step_live.result (λ s. IsMoved M (state M c.args.core.now) (Act t) s.1)) (c.task.ensures ∙ ap (λ a. a.task) c.self.view_is) c.step_live.ensures.moved

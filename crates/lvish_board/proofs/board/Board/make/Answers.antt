@@ -9,11 +9,12 @@ use Rattle.lvish_board.specs.Listed.{option_list}
 use Rattle.lvish_board.specs.Left.{most_added}
 use Rattle.lvish_board.specs.Noted.{entries_of, label_at}
 use Rattle.lvish_board.specs.Standing.{labels_of}
-use Rattle.lvish_board.proofs.Acting.{act_tickets, error_done, error_kept, error_listed, is_done, not_done}
+use Rattle.lvish_board.proofs.Acting.{act_tickets, error_done, error_kept, error_listed, is_done, not_done, stands}
 use Rattle.lvish_board.proofs.Blocked.{IsMade, is_listed, kept_made, still_current}
 use Rattle.lvish_board.proofs.Comes.{act_gone, act_left, left_kept}
 use Rattle.lvish_board.proofs.Concerned.{act_made, few_added}
 use Rattle.lvish_board.proofs.Handing.{seen_core, seen_parked}
+use Rattle.lvish_board.proofs.Knowing.{error_known, step_known}
 use Rattle.lvish_board.proofs.Noting.{acts_there, all_noted, written}
 use Rattle.lvish_board.proofs.board.Board.make.Goals.{In-Error, After-left_by-left}
 use Rattle.lvish_board.proofs.board.Board.make.Goals as goal
@@ -31,7 +32,8 @@ invariant_of-self-in-Error g c =
     let there = step.indices c.args.numbers.index c.args.asked.now.task live in
     let noted = all_noted (task_names c.self.inside.core.table.tasks) (task_names c.step_with_room.new.core.table.tasks) step.indices c.self.inside.trace.items c.step_with_room.new.trace.items c.args.worker (ActStep c.args.numbers.index) c.self.invariant.1 c.in-Ok.ensures.written (c.args.asked.now.task, there) in
     let longer = written (task_names c.self.inside.core.table.tasks) (task_names c.step_with_room.new.core.table.tasks) step.indices c.self.inside.trace.items c.step_with_room.new.trace.items c.args.worker (ActStep c.args.numbers.index) c.self.invariant.1 c.in-Ok.ensures.written (Act c.args.asked.now.task) (acts_there (task_names c.step_with_room.new.core.table.tasks) c.args.numbers.index c.args.asked.now.task there) in
-    (c.self.invariant.0, noted, error_kept _ _ _ _ _ step _ _ _ _ _ _ c.args.worker _ c.self.invariant.2 (rw (← c.self.view_is) at c.requires.room) longer (rw c.step_with_room.ensures.same at c.error_outcome.ensures))
+    let known = error_known _ (c.tasks_after.ensures.others g.J.Named.program) _ c.self.invariant.2.leads c.each_task_once.ensures c.args.asked.now.task c.args.numbers.index _ step live c.self.inside.newest c.clear.new.self c.self.invariant.3 (rw c.step_with_room.ensures.newest at c.clear.ensures) in
+    (c.self.invariant.0, noted, error_kept _ _ _ _ _ step _ _ _ _ _ _ c.args.worker _ c.self.invariant.2 (rw (← c.self.view_is) at c.requires.room) longer (rw c.step_with_room.ensures.same at c.error_outcome.ensures), known)
 
 pub returns-in-Error-clause-comes : goal.returns-in-Error-clause-comes
 returns-in-Error-clause-comes g c =
@@ -86,7 +88,10 @@ invariant_of-self-in-Done g c =
     let there = k.step.indices c.args.numbers.index c.args.asked.now.task live in
     let noted = all_noted (task_names c.self.inside.core.table.tasks) (task_names c.step_with_room.new.core.table.tasks) k.step.indices c.self.inside.trace.items c.step_with_room.new.trace.items c.args.worker (ActStep c.args.numbers.index) c.self.invariant.1 c.in-Ok.ensures.written (c.args.asked.now.task, there) in
     let longer = written (task_names c.self.inside.core.table.tasks) (task_names c.step_with_room.new.core.table.tasks) k.step.indices c.self.inside.trace.items c.step_with_room.new.trace.items c.args.worker (ActStep c.args.numbers.index) c.self.invariant.1 c.in-Ok.ensures.written (Act c.args.asked.now.task) (acts_there (task_names c.step_with_room.new.core.table.tasks) c.args.numbers.index c.args.asked.now.task there) in
-    (c.self.invariant.0, noted, kept_made (c.waiting_tasks.ensures.until_touched g.J.Named.program) k (c.passes_at_its_spot.ensures g.J.Named.program) sound.blocked c.leave.ensures.left _ _ _ _ _ c.args.worker sound going (rw (← c.self.view_is) at c.requires.room) longer (c.leave.ensures.once sound.once))
+    let newest = rw (c.step_with_room.ensures.same, c.step_with_room.ensures.newest) at c.left_by-left.ensures.newest in
+    let known = step_known _ (c.tasks_after.ensures.others g.J.Named.program) _ sound.leads c.each_task_once.ensures (c.tasks_after.ensures.made g.J.Named.program) c.in-Ok.moved c.args.asked.now.task c.args.numbers.index _ k.step k.told live
+    (stands (c.lawful.ensures g.J.Named.program) k) c.self.inside.newest c.left_by-left.new.newest c.self.invariant.3 newest.0 newest.1 c.tasks-next.result c.tasks-next.ensures newest.2 in
+    (c.self.invariant.0, noted, kept_made (c.waiting_tasks.ensures.until_touched g.J.Named.program) k (c.passes_at_its_spot.ensures g.J.Named.program) sound.blocked c.leave.ensures.left _ _ _ _ _ c.args.worker sound going (rw (← c.self.view_is) at c.requires.room) longer (c.leave.ensures.once sound.once), known)
 
 pub returns-in-Done-clause-comes : goal.returns-in-Done-clause-comes
 returns-in-Done-clause-comes g c =
@@ -110,3 +115,6 @@ returns-in-Done-clause-back g c = left_kept c.is_some-goes_on.result c.next_or_g
 
 pub returns-in-Done-clause-kept : goal.returns-in-Done-clause-kept
 returns-in-Done-clause-kept g c = left_kept c.is_some-goes_on.result c.next_or_gone.result c.next_or_gone.ensures.next c.next_or_gone.ensures.gone
+
+pub invariant_of-self : goal.invariant_of-self
+invariant_of-self g c = rw (c.in_default.ensures.kept.0, c.in_default.ensures.kept.1, c.step_with_room.ensures.newest) c.self.invariant

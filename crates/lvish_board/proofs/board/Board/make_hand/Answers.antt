@@ -11,6 +11,7 @@ use Rattle.lvish_board.specs.Standing.{labels_of}
 use Rattle.lvish_board.proofs.Blocked.{IsMade, is_listed, kept_made, still_current}
 use Rattle.lvish_board.proofs.Comes.{for_this, hand_memory, hand_next}
 use Rattle.lvish_board.proofs.Handing.{hand_made, hand_tickets, handed_event, handed_well, seen_core, seen_parked}
+use Rattle.lvish_board.proofs.Knowing.{hand_known}
 use Rattle.lvish_board.proofs.Noting.{all_noted, hands_there, written}
 use Rattle.lvish_board.proofs.board.Board.make_hand.Goals.{After-ticket_of}
 use Rattle.lvish_board.proofs.board.Board.make_hand.Goals as goal
@@ -48,7 +49,9 @@ invariant_of-self-2 g c =
     let going = ap (λ b. b.over) c.self.view_is ∙ c.requires.running in
     let noted = all_noted (task_names c.self.inside.core.table.tasks) (task_names c.hand_with_room.new.core.table.tasks) k.step.indices c.self.inside.trace.items c.hand_with_room.new.trace.items c.args.worker (HandStep c.tasks.result) c.self.invariant.1 c.in-Ok.ensures.written (c.in-Some.name.now, event, there) in
     let longer = written (task_names c.self.inside.core.table.tasks) (task_names c.hand_with_room.new.core.table.tasks) k.step.indices c.self.inside.trace.items c.hand_with_room.new.trace.items c.args.worker (HandStep c.tasks.result) c.self.invariant.1 c.in-Ok.ensures.written (Hand c.in-Some.name.now event) (hands_there (task_names c.hand_with_room.new.core.table.tasks) c.tasks.result c.in-Some.name.now event there) in
-    (c.self.invariant.0, noted, kept_made (c.waiting_tasks.ensures.until_touched g.J.Named.program) k (c.passes_at_its_spot.ensures g.J.Named.program) sound.blocked c.leave.ensures.left _ _ _ _ _ c.args.worker sound going (rw (← c.self.view_is) at c.requires.room) longer (c.leave.ensures.once sound.once))
+    let newest = rw (c.index.ensures, c.hand_with_room.ensures.newest) at c.ticket_of.ensures.newest in
+    let known = hand_known _ (c.tasks_after.ensures.others g.J.Named.program) _ sound.leads c.each_task_once.ensures (c.tasks_after.ensures.made g.J.Named.program) c.in-Ok.moved c.in-Some.name.now event _ k.step k.told c.self.inside.newest c.ticket_of.new.newest c.self.invariant.3 c.tasks.result c.tasks.ensures newest in
+    (c.self.invariant.0, noted, kept_made (c.waiting_tasks.ensures.until_touched g.J.Named.program) k (c.passes_at_its_spot.ensures g.J.Named.program) sound.blocked c.leave.ensures.left _ _ _ _ _ c.args.worker sound going (rw (← c.self.view_is) at c.requires.room) longer (c.leave.ensures.once sound.once), known)
 
 pub returns-in_default-hand_with_room-clause-comes : goal.returns-in_default-hand_with_room-clause-comes
 returns-in_default-hand_with_room-clause-comes g c = for_this _ _ _ c.in-Some.ensures.value (hand_memory c.requires.running (search rules))
@@ -73,6 +76,9 @@ returns-clause-comes g c =
     let longer = c.settle.ensures.trace ∙ written (task_names c.self.inside.core.table.tasks) (task_names c.hand_with_room.new.core.table.tasks) k.step.indices c.self.inside.trace.items c.hand_with_room.new.trace.items c.args.worker (HandStep c.tasks.result) c.self.invariant.1 c.in-Ok.ensures.written (Hand c.in-Some.name.now was.event) there
     ∙ ap (λ b. b.trace ++ entry_of c.args.worker (Hand c.in-Some.name.now was.event) ∷ []) c.self.view_is in
     for_this _ _ _ c.in-Some.ensures.value (hand_next c.leave.new.works was.event one c.requires.running longer
-    (is_listed (c.waiting_tasks.ensures.until_touched g.J.Named.program) k (c.passes_at_its_spot.ensures g.J.Named.program) c.self.invariant.2.blocked c.leave.ensures.left (hand_tickets c.in-Some.name.now was.event c.in-Ok.moved c.ticket_of.result c.ticket_of.ensures) c.args.self.now c.settle.new.self (seen_core c.self.view_is) (seen_parked c.self.view_is) c.settle.ensures.core c.settle.ensures.parked)
+    (is_listed (c.waiting_tasks.ensures.until_touched g.J.Named.program) k (c.passes_at_its_spot.ensures g.J.Named.program) c.self.invariant.2.blocked c.leave.ensures.left (hand_tickets c.in-Some.name.now was.event c.in-Ok.moved c.ticket_of.result c.ticket_of.ensures.ticket) c.args.self.now c.settle.new.self (seen_core c.self.view_is) (seen_parked c.self.view_is) c.settle.ensures.core c.settle.ensures.parked)
     (ap (λ z. label_at (task_names z.table.tasks) c.leave.new.works.step) c.settle.ensures.core ∙ ap (label_at _) c.leave.ensures.step ∙ there)
     c.leave.ensures.own)
+
+pub invariant_of-self : goal.invariant_of-self
+invariant_of-self g c = rw (c.in_default-hand_with_room.ensures.kept.0, c.in_default-hand_with_room.ensures.kept.1, c.hand_with_room.ensures.newest) c.self.invariant

@@ -1,5 +1,5 @@
 use Rattle.std.proofs.Common.{vec_len}
-use Rattle.lvish_run.proofs.worker.leave_woken.Given as goal
+use Rattle.lvish_run.proofs.queue.leave_woken.Given as goal
 
 abbrev pub decreases-loop-asked : goal.decreases-loop-asked
 decreases-loop-asked g l = vec_len l.woken
