@@ -6,7 +6,8 @@ use crate::lines::{bound_line, ok_line, refusal_line};
 use crate::order::Order;
 use crate::running::{pick_answer, run_answer};
 use crate::status::Status;
-use lvish_run::{MOST_STEPS, RunFault, RunMeaning, always_ends};
+use lvish_compound::{Any, Event};
+use lvish_run::{MOST_STEPS, Report, RunFault, RunMeaning, always_ends};
 use lvish_script::{Fault, ScriptFault, read_script};
 use lvish_syntax::Script;
 use std::alloc::{AllocError, Global};
@@ -18,6 +19,9 @@ use std::thread::Threads;
 pub struct Output {
     pub status: Status,
     pub text: String,
+    /// The report that the text tells of, if it tells of one. It stands here so that whoever has the
+    /// answer decides when its memory is given back.
+    pub report: Option<Report<Any, Event>>,
 }
 
 /// The answer to an order about the script that the input spells.
@@ -86,6 +90,7 @@ fn check_answer(
     Ok(Output {
         status: Status::Done,
         text,
+        report: None,
     })
 }
 
@@ -102,5 +107,6 @@ fn refusal_answer(alloc: Global, refused: ScriptFault) -> Result<Output, AllocEr
     Ok(Output {
         status: Status::Refused,
         text,
+        report: None,
     })
 }

@@ -9,7 +9,8 @@ use crate::order::Order;
 use crate::reading::{MOST_READ, ReadFault, read_text};
 use crate::status::Status;
 use crate::writing::write_answer;
-use lvish_run::{RunFault, RunMeaning};
+use lvish_compound::{Any, Event};
+use lvish_run::{Report, RunFault, RunMeaning};
 use lvish_syntax::Script;
 use std::alloc::Global;
 use std::io::{Read, Write};
@@ -31,17 +32,39 @@ pub fn perform<T: Threads + Wait + Sync, R: Read, W: Write>(
         (R.remaining reader.old) (W.contents writer.old) (W.contents writer.new) result }
     ensures reads { GivesUpTo MOST_READ (R.remaining reader.old) (R.remaining reader.new) }
 {
+    let (status, _report) = performed(rt, alloc, order, reader, writer);
+    status
+}
+
+/// Does what [`perform`] does, and answers the report of a run as well: a caller that goes on drops
+/// it, and a program that ends needn't.
+pub(crate) fn performed<T: Threads + Wait + Sync, R: Read, W: Write>(
+    rt: &T,
+    alloc: Global,
+    order: &Order,
+    reader: &mut R,
+    writer: &mut W,
+) -> (Status, Option<Report<Any, Event>>)
+    requires { IsInBounds order.now }
+    ensures performs { Performs ⟦<Script as RunMeaning>⟧ order.now
+        (R.remaining reader.old) (W.contents writer.old) (W.contents writer.new) result.0 }
+    ensures reads { GivesUpTo MOST_READ (R.remaining reader.old) (R.remaining reader.new) }
+{
     let input = match read_text(alloc, reader) {
         Ok(input) => input,
-        Err(ReadFault::Unreadable) => return Status::Unreadable,
-        Err(ReadFault::Memory) => return Status::Memory,
+        Err(ReadFault::Unreadable) => return (Status::Unreadable, None),
+        Err(ReadFault::Memory) => return (Status::Memory, None),
     };
     let answer = match answer_to(rt, alloc, order, input.as_slice()) {
         Ok(answer) => answer,
-        Err(fault) => return unanswered(fault),
+        Err(fault) => return (unanswered(fault), None),
     };
-    let Output { status, text } = answer;
-    write_answer(writer, text.as_bytes(), status)
+    let Output {
+        status,
+        text,
+        report,
+    } = answer;
+    (write_answer(writer, text.as_bytes(), status), report)
 }
 
 /// The status where a run met the fault.

@@ -33,7 +33,7 @@ pub fn run_answer<R: Threads + Wait + Sync>(
     ensures alone { workers ≡ 1 → result ≢ Err RunFault.NoThread }
 {
     let report = run(rt, alloc, script, workers, budget, &Open)?;
-    Ok(report_answer(alloc, script, &report, all)?)
+    Ok(report_answer(alloc, script, report, all)?)
 }
 
 /// The answer to a script that is run by picks: the trace comes before the text of the report.
@@ -50,11 +50,12 @@ pub fn pick_answer(
 {
     let report = run_picks(alloc, script, picks, budget)?;
     let mut text = trace_text(alloc, &report)?;
-    let answer = report_answer(alloc, script, &report, all)?;
+    let answer = report_answer(alloc, script, report, all)?;
     text.push_str(answer.text.as_str())?;
     Ok(Output {
         status: answer.status,
         text,
+        report: answer.report,
     })
 }
 
@@ -62,17 +63,18 @@ pub fn pick_answer(
 fn report_answer(
     alloc: Global,
     script: &Script,
-    report: &Report<Any, Event>,
+    report: Report<Any, Event>,
     all: bool,
 ) -> Result<Output, AllocError>
-    requires { report.now.outcome ≡ Ended → length report.now.states ≡ length (variables_of script.now.declarations) }
+    requires { report.outcome ≡ Ended → length report.states ≡ length (variables_of script.now.declarations) }
     ensures { IfOk result (λ answer.
-        IsReportAnswer script.now all report.now answer.status (string_bytes answer.text)) }
+        IsReportAnswer script.now all report answer.status (string_bytes answer.text)) }
 {
-    let text = report_text(alloc, script, report, all)?;
+    let text = report_text(alloc, script, &report, all)?;
     Ok(Output {
-        status: status_of(report),
+        status: status_of(&report),
         text,
+        report: Some(report),
     })
 }
 

@@ -3,7 +3,7 @@ use Rattle.std.proofs.KnownBytes.{Keeps-refl}
 use Rattle.lvish_run.specs.contracts.scripts.ScriptRunMeaning.TheImpl.{ghosts}
 use Rattle.lvish_cli.specs.declared.reading.TheConstants.{MOST_READ}
 use Rattle.lvish_cli.proofs.Orders.{answered, failed}
-use Rattle.lvish_cli.proofs.performing.perform.Goals as goal
+use Rattle.lvish_cli.proofs.performing.performed.Goals as goal
 
 pub returns-in-Err-clause-performs : goal.returns-in-Err-clause-performs
 returns-in-Err-clause-performs g c = rw c.unanswered.ensures (failed ghosts c.args.order.now (g.R.Read.remaining c.args.reader.now) (g.W.Write.contents c.args.writer.now) (g.W.Write.contents c.args.writer.now)
