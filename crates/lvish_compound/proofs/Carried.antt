@@ -1,9 +1,11 @@
 -- States that hold those of a lattice: what comparing, merging and fresh events are on them.
-use Rattle.std.specs.Prelude.{◌≡◌, ◌↔◌, Bool, not, IsTrue, List, [], filter, Option, Some, None, option_map, is_some, unwrap_or, Result, IfOk, true, ◌∷◌, refl}
+use Rattle.std.specs.Prelude.{◌≡◌, ◌↔◌, Bool, not, IsTrue, List, [], filter, map, Option, Some, None, option_map, is_some, unwrap_or, Result, IfOk, true, ◌∷◌, refl}
 use Rattle.std.proofs.Common.{sym, ◌∙◌, ap, subst}
 use Rattle.std.proofs.lemmas.Result.{IfOk-weaker}
 use Rattle.std.specs.Set.{is_member}
-use Rattle.lvish_lattice.specs.Lattice.{IsAtOrBelow, events_beyond, fresh_of}
+use Rattle.lvish_lattice.specs.Lattice.{IsAtOrBelow, IsMerged, IsOutcome, events_beyond, fresh_of, renamed}
+use Rattle.lvish_lattice.specs.declared.brought.Brought.{Brought}
+use Rattle.lvish_compound.proofs.Outcomes.{outcome_named}
 use Rattle.std.proofs.lemmas.Option.{same_Some}
 use Rattle.lvish_compound.specs.Vocabulary.{OrdGhosts, PartialEqGhosts, PartialOrdGhosts, HashGhosts, LatticeGhosts, Above}
 use Rattle.lvish_compound.specs.Above.{state_of, same_above}
@@ -52,11 +54,18 @@ module _ {L X S : Type 0} {put : X → S} {state : X → L} {of : L → S} {join
   grown x new (Some d) e = sym (c.back new) ∙ ap of e
   grown x new None e = ap put (c.same new x e)
 
+  pub carried_merged : (done : Bool) (s u : S) (x z new : X) → s ≡ put x → u ≡ put z → IsMerged (inner (state x) (state z)) (state x) (state new) done → IsMerged (join s u) s (put new) done
+  carried_merged done s u x z new es eu h = along (λ (v w : S). IsMerged (join v w) v (put new) done) s (put x) u (put z) es eu
+      (subst (λ (o : Option S). IsMerged o (put x) (put new) done) (sym (c.inside x z)) (some_after of done (inner (state x) (state z)) h.0, grown x new (inner (state x) (state z)) h.1))
+
   pub carried_merge : {T : Type 0} (r : Result Bool T) (s u : S) (x z new : X) → s ≡ put x → u ≡ put z → IfOk r (λ t. (t ≡ is_some (inner (state x) (state z))) × (state new ≡ unwrap_or (inner (state x) (state z)) (state x)))
       → IfOk r (λ t. (t ≡ is_some (join s u)) × (put new ≡ unwrap_or (join s u) s))
-  carried_merge r s u x z new es eu h = along (λ (v w : S). IfOk r (λ t. (t ≡ is_some (join v w)) × (put new ≡ unwrap_or (join v w) v))) s (put x) u (put z) es eu
-      (subst (λ (o : Option S). IfOk r (λ t. (t ≡ is_some o) × (put new ≡ unwrap_or o (put x)))) (sym (c.inside x z))
-      (IfOk-weaker r _ _ (λ t e. (some_after of t (inner (state x) (state z)) e.0, grown x new (inner (state x) (state z)) e.1)) h))
+  carried_merge r s u x z new es eu h = IfOk-weaker r _ _ (λ t m. carried_merged t s u x z new es eu m) h
+
+  -- what was brought to the state that is held was brought to the one that holds it, under other names
+  pub carried_outcome : {E N : Type 0} (f : E → N) (s u : S) (x z new : X) (xs : List E) (ys : List N) → s ≡ put x → u ≡ put z → map f xs ≡ ys → (t : Brought E) → IsOutcome (inner (state x) (state z)) xs (state x) (state new) t → IsOutcome (join s u) ys s (put new) (renamed f t)
+  carried_outcome f s u x z new xs ys es eu names = outcome_named f (inner (state x) (state z)) (join s u) xs ys (state x) (state new) s (put new)
+      (λ done m. carried_merged done s u x z new es eu m) (λ same. ap put (c.same new x same) ∙ sym es) (sym names)
 
   module _ {E N : Type 0} (ee : E → E → Bool) (ev_in : L → List E) (en : N → N → Bool) (ev : S → List N) (wrap : List E → List N) (none : wrap [] ≡ [])
       (beyond : (os zs : List E) → filter (λ n. not (is_member en (wrap os) n)) (wrap zs) ≡ wrap (filter (λ e. not (is_member ee os e)) zs))

@@ -4,6 +4,7 @@ pub mod Carried
 pub mod Clashes
 pub mod Few
 pub mod Maps
+pub mod Outcomes
 pub mod PairFresh
 pub mod PartCalls
 pub mod Parts

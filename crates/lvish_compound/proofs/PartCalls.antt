@@ -3,14 +3,15 @@ use Rattle.std.proofs.Common.{◌≡◌, ◌↔◌, ℤ, pos, Bool, true, false,
 use Rattle.std.specs.Set.{is_member}
 use Rattle.std.specs.Ordering.{int_eq}
 use Rattle.std.proofs.lemmas.Cmp.{int_cmp_total, int_eq_equiv}
-use Rattle.lvish_lattice.specs.Lattice.{IsAtOrBelow, fresh_of}
+use Rattle.lvish_lattice.specs.Lattice.{IsAtOrBelow, IsOutcome, fresh_of, renamed}
+use Rattle.lvish_lattice.specs.declared.brought.Brought.{Brought}
 use Rattle.lvish_compound.specs.Vocabulary.{MaxCounter, Part, Empty, Set, Max, SideOf, One, Two}
 use Rattle.lvish_lattice.specs.GrowSet as set
 use Rattle.lvish_lattice.specs.MaxCounter as max
 use Rattle.lvish_compound.specs.declared.kind.Kind.TheVariants as kind
 use Rattle.lvish_compound.specs.EventNames.{part_event, number_event}
 use Rattle.lvish_compound.specs.Held.{HeldState, held, held_agrees}
-use Rattle.lvish_compound.proofs.Carried.{carried_leq, carried_fresh, held_carried, none_beyond, all_beyond}
+use Rattle.lvish_compound.proofs.Carried.{carried_leq, carried_fresh, carried_outcome, held_carried, none_beyond, all_beyond}
 use Rattle.lvish_compound.specs.Parts.{joined, events_of, set_in, max_in}
 use Rattle.lvish_compound.specs.laws.PartLaws.{OfSet, OfMax, inside, sets_identical, maxes_identical, part_is_join, ties}
 use Rattle.lvish_compound.specs.Pair.{sides}
@@ -82,6 +83,17 @@ module _ (eq : SideOf ℤ (SideOf ℤ ℤ) → SideOf ℤ (SideOf ℤ ℤ) → B
 
   pub maxes_fresh : (xs : List ℤ) (s r : Part) (x z : _) (p q : MaxCounter) → s ≡ Max x → r ≡ Max z → p ≡ x.state → q ≡ z.state → xs ≡ fresh_of max.joined int_eq max.events_of p q → sides [] (sides [] xs) ≡ fresh_of joined eq events_of s r
   maxes_fresh = carried_fresh (held_carried Max Empty joined (λ x z. refl)) int_eq max.events_of eq events_of as_max refl max_beyond max_wraps
+
+  -- what a set or a counter was brought, named as events of a part that holds it
+  pub set_outcome : (s r u : Part) (x z new : _) → s ≡ Set x → r ≡ Set z → u ≡ Set new → (t : Brought ℤ) → IsOutcome (set.joined x.state z.state) (fresh_of set.joined int_eq set.items_of x.state z.state) x.state new.state t
+      → IsOutcome (joined s r) (map (part_event (pos 0)) (fresh_of joined eq events_of s r)) s u (renamed (number_event kind.Set) t)
+  set_outcome s r u x z new es er eu t m = rw eu (carried_outcome (held_carried Set Empty joined (λ x z. refl)) (number_event kind.Set) s r x z new (fresh_of set.joined int_eq set.items_of x.state z.state) (map (part_event (pos 0)) (fresh_of joined eq events_of s r)) es er
+      (set_names _ ∙ ap (map (part_event (pos 0))) (sets_fresh _ s r x z _ _ es er refl refl refl)) t m)
+
+  pub max_outcome : (s r u : Part) (x z new : _) → s ≡ Max x → r ≡ Max z → u ≡ Max new → (t : Brought ℤ) → IsOutcome (max.joined x.state z.state) (fresh_of max.joined int_eq max.events_of x.state z.state) x.state new.state t
+      → IsOutcome (joined s r) (map (part_event (pos 0)) (fresh_of joined eq events_of s r)) s u (renamed (number_event kind.Max) t)
+  max_outcome s r u x z new es er eu t m = rw eu (carried_outcome (held_carried Max Empty joined (λ x z. refl)) (number_event kind.Max) s r x z new (fresh_of max.joined int_eq max.events_of x.state z.state) (map (part_event (pos 0)) (fresh_of joined eq events_of s r)) es er
+      (max_names _ ∙ ap (map (part_event (pos 0))) (maxes_fresh _ s r x z _ _ es er refl refl refl)) t m)
 
   pub first_fresh : (s r : Part) → s ≡ Empty → events_of r ≡ fresh_of joined eq events_of s r
   first_fresh s r e = all_beyond eq (events_of r) ∙ ap (λ (v : Part). fresh_of joined eq events_of v r) (sym e)

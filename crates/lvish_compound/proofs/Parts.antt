@@ -11,7 +11,10 @@ use Rattle.std.specs.Ordering.{eq_by_cmp, is_eq, ordering_reverse, match_orderin
 use Rattle.std.specs.Cmp.{IsTotalOrder, Equal-is}
 use Rattle.std.specs.List.{AllByRecursion}
 use Rattle.std.specs.List.Sorted.{IsStrictlySortedBy}
-use Rattle.lvish_lattice.specs.Lattice.{IsJoin}
+use Rattle.lvish_lattice.specs.Lattice.{IsJoin, IsOutcome, fresh_of}
+use Rattle.lvish_lattice.specs.declared.brought.Brought.{Brought}
+use Rattle.lvish_lattice.specs.declared.brought.Brought.TheVariants.{Nothing, One, Top, Listed}
+use Rattle.lvish_compound.proofs.Outcomes.{outcome_as}
 use Rattle.lvish_lattice.specs.Ascending.{and_left, and_right}
 use Rattle.lvish_lattice.specs.Listed.{unless_some}
 use Rattle.std.proofs.lemmas.Option.{same_Some}
@@ -114,22 +117,50 @@ module _ {K L : Type 0} (R : K → K → Ordering) (least : L) (join : L → L �
         → IfOk q (λ b. (b ≡ is_some (join x v)) × (w ≡ unwrap_or (join x v) x)) → IfOk q (λ b. (b ≡ is_some (add R least join k v es)) × (fs ≡ unwrap_or (add R least join k v es) es))
     put_by k v x w es fs q s h new m = IfOk-weaker q _ _ (λ b p. put_found k v x w es fs b s h new p.0 p.1) m
 
-    kept_by : {Refused : Type 0} (k : K) (x w : L) (es fs : List (K × L)) (q : Result Bool Refused) → lookup (is_at (R k)) es ≡ Some x → fs ≡ set_value (is_at (R k)) es w → IfErr q (λ _. w ≡ x) → IfErr q (λ _. fs ≡ es)
+    kept_by : {T Refused : Type 0} (k : K) (x w : L) (es fs : List (K × L)) (q : Result T Refused) → lookup (is_at (R k)) es ≡ Some x → fs ≡ set_value (is_at (R k)) es w → IfErr q (λ _. w ≡ x) → IfErr q (λ _. fs ≡ es)
     kept_by k x w es fs q h new m = IfErr-weaker q _ _ (λ _ p. new ∙ ap (set_value (is_at (R k)) es) p ∙ set_same R k x es h) m
 
     -- the same of a part that is written at its key
-    module _ {Refused : Type 0} (k : K) (v x w : L) (es ns fs : List (K × L)) (q : Result Bool Refused) (s : S R es) (h : lookup (is_at (R k)) es ≡ Some x) (written : ns ≡ insert_entry R es k w) (new : fs ≡ ns) where
-      pub put_written : IfOk q (λ b. (b ≡ is_some (join x v)) × (w ≡ unwrap_or (join x v) x)) → IfOk q (λ b. (b ≡ is_some (add R least join k v es)) × (fs ≡ unwrap_or (add R least join k v es) es))
-      put_written = put_by k v x w es fs q s h (new ∙ written ∙ insert_found k x w es s h)
-
+    module _ {T Refused : Type 0} (k : K) (v x w : L) (es ns fs : List (K × L)) (q : Result T Refused) (s : S R es) (h : lookup (is_at (R k)) es ≡ Some x) (written : ns ≡ insert_entry R es k w) (new : fs ≡ ns) where
       pub kept_written : IfErr q (λ _. w ≡ x) → IfErr q (λ _. fs ≡ es)
       kept_written = kept_by k x w es fs q h (new ∙ written ∙ insert_found k x w es s h)
+
+    pub put_written : {Refused : Type 0} (k : K) (v x w : L) (es ns fs : List (K × L)) (q : Result Bool Refused) → S R es → lookup (is_at (R k)) es ≡ Some x → ns ≡ insert_entry R es k w → fs ≡ ns
+        → IfOk q (λ b. (b ≡ is_some (join x v)) × (w ≡ unwrap_or (join x v) x)) → IfOk q (λ b. (b ≡ is_some (add R least join k v es)) × (fs ≡ unwrap_or (add R least join k v es) es))
+    put_written k v x w es ns fs q s h written new = put_by k v x w es fs q s h (new ∙ written ∙ insert_found k x w es s h)
+
+    -- the same of a part that was joined in place, and of which it is told what it brought
+    pub outcome_written : {E Refused : Type 0} (eq : E → E → Bool) (ev : L → List E) (k : K) (v x w : L) (es ns fs : List (K × L)) (q : Result (Brought E) Refused) → S R es → lookup (is_at (R k)) es ≡ Some x → ns ≡ insert_entry R es k w → fs ≡ ns
+        → IfOk q (λ t. IsOutcome (join x v) (fresh_of join eq ev x v) x w t) → IfOk q (λ t. IsOutcome (add R least join k v es) (fresh_of join eq ev (at R least join es k) v) es fs t)
+    outcome_written eq ev k v x w es ns fs q s h written new m =
+        let stored : fs ≡ set_value (is_at (R k)) es w = new ∙ written ∙ insert_found k x w es s h in
+        IfOk-weaker q _ _ (outcome_as (join x v) (add R least join k v es) (fresh_of join eq ev x v) (fresh_of join eq ev (at R least join es k) v) x w es fs
+        (λ done p. put_found k v x w es fs done s h stored p.0 p.1)
+        (λ same. stored ∙ ap (set_value (is_at (R k)) es) same ∙ set_same R k x es h)
+        (ap (λ y. fresh_of join eq ev y v) (sym (lookup_at k es) ∙ ap (λ r. unwrap_or r least) h))) m
 
   -- the same where the key held none
   pub new_written : (k : K) (v w : L) (es ns fs : List (K × L)) → lookup (is_at (R k)) es ≡ None → ns ≡ insert_entry R es k w → w ≡ v → fs ≡ ns → (true ≡ is_some (add R least join k v es)) × (fs ≡ unwrap_or (add R least join k v es) es)
   new_written k v w es ns fs h written is new =
       let there : add R least join k v es ≡ Some (insert_entry R es k v) = add_new k v es h in
       (ap is_some (sym there), new ∙ written ∙ ap (insert_entry R es k) is ∙ ap (λ a. unwrap_or a es) (sym there))
+
+  -- what a part brings to a key that holds none is what it brings to bottom
+  module _ {E : Type 0} (eq : E → E → Bool) (ev : L → List E) (j : IsJoin least join) (k : K) (v w : L) (es ns fs : List (K × L)) (none : lookup (is_at (R k)) es ≡ None) (written : ns ≡ insert_entry R es k w) (new : fs ≡ ns) where
+    pub outcome_new : (t : Brought E) → (t ≡ Listed → ⊥) → IsOutcome (join least v) (fresh_of join eq ev least v) least w t → IsOutcome (add R least join k v es) (fresh_of join eq ev (at R least join es k) v) es fs t
+    outcome_new t listed m = by_outcome t listed m
+      where
+        put : w ≡ unwrap_or (join least v) least → (true ≡ is_some (add R least join k v es)) × (fs ≡ unwrap_or (add R least join k v es) es)
+        put h = new_written k v w es ns fs none written (h ∙ ap (λ r. unwrap_or r least) (j.unit v)) new
+
+        fresh : fresh_of join eq ev (at R least join es k) v ≡ fresh_of join eq ev least v
+        fresh = ap (λ y. fresh_of join eq ev y v) (sym (lookup_at k es) ∙ ap (λ r. unwrap_or r least) none)
+
+        by_outcome : (t : Brought E) → (t ≡ Listed → ⊥) → IsOutcome (join least v) (fresh_of join eq ev least v) least w t → IsOutcome (add R least join k v es) (fresh_of join eq ev (at R least join es k) v) es fs t
+        by_outcome Nothing _ m = (put m.0.1, fresh ∙ m.1)
+        by_outcome (One e) _ m = (put m.0.1, fresh ∙ m.1)
+        by_outcome Top _ m = absurd (true≢false (sym (m.0 ∙ ap is_some (j.unit v))))
+        by_outcome Listed n _ = absurd (n refl)
 
   -- one entry of the second list joined to the first
   pub joined_more : (all : Option (List (K × L))) (es fs xs ys : List (K × L)) (k : K) (p : L) (b : Bool) → add_all R least join es xs ≡ all → xs ≡ (k, p) ∷ ys → b ≡ true

@@ -1,11 +1,13 @@
 -- What comparing, merging and fresh events are on states of a script's variables.
 use Rattle.std.proofs.Common.{◌≡◌, ℤ, pos, Bool, false, not, cond, List, [], map, filter, refl, sym, ◌∙◌, ap}
 use Rattle.std.specs.Set.{is_member}
-use Rattle.lvish_lattice.specs.Lattice.{events_beyond, fresh_of}
+use Rattle.lvish_lattice.specs.Lattice.{IsOutcome, events_beyond, fresh_of, renamed}
+use Rattle.lvish_lattice.specs.declared.brought.Brought.{Brought}
 use Rattle.lvish_compound.specs.Vocabulary.{Event, Pair, Empty, SideOf, One, Two}
 use Rattle.lvish_compound.specs.declared.part.Part as part
 use Rattle.lvish_compound.specs.declared.sides.Sides as sides
-use Rattle.lvish_compound.proofs.Carried.{IsCarried, carried_fresh, held_carried, none_beyond, all_beyond}
+use Rattle.lvish_compound.proofs.Carried.{IsCarried, carried_fresh, carried_merged, carried_outcome, held_carried, none_beyond, all_beyond}
+use Rattle.lvish_compound.proofs.Outcomes.{outcome_as}
 use Rattle.lvish_compound.specs.EventNames.{PartEvent, part_event, entry_event, tally_event, side_event}
 use Rattle.lvish_compound.specs.laws.EventLaws.{apart, names_beyond}
 use Rattle.lvish_compound.specs.Held.{HeldState, state_in, held_agrees}
@@ -65,6 +67,11 @@ module _ (en : Event → Event → Bool) (by : TestsNames en) where
   pub maps_fresh : (xs : List (ℤ × ℤ)) (s r : Any) (x z : _) (p q : HeldState Map) → s ≡ Map x → r ≡ Map z → p ≡ x.state → q ≡ z.state → xs ≡ fresh_of map_of.joined entry_eq map_of.map_events_of p q → map entry_event xs ≡ fresh_of joined en events_of s r
   maps_fresh = carried_fresh maps_carried entry_eq map_of.map_events_of en events_of (map entry_event) refl entries_beyond map_wraps
 
+  -- what a map was brought, named as events of the state that holds it
+  pub map_outcome : (s r u : Any) (x z new : _) → s ≡ Map x → r ≡ Map z → u ≡ Map new → (t : Brought (ℤ × ℤ)) → IsOutcome (map_of.joined x.state z.state) (fresh_of map_of.joined entry_eq map_of.map_events_of x.state z.state) x.state new.state t
+      → IsOutcome (joined s r) (fresh_of joined en events_of s r) s u (renamed entry_event t)
+  map_outcome s r u x z new es er eu t m = rw eu (carried_outcome maps_carried entry_event s r x z new (fresh_of map_of.joined entry_eq map_of.map_events_of x.state z.state) (fresh_of joined en events_of s r) es er (maps_fresh _ s r x z _ _ es er refl refl refl) t m)
+
   pairs_fresh : (xs : List (SideOf PartEvent PartEvent)) (s r : Any) (x z : sides.Sides) (p q : Pair part.Part part.Part) → s ≡ Sides x → r ≡ Sides z → p ≡ x.pair → q ≡ z.pair → xs ≡ fresh_of parts.pairs_joined side_eq pair_events p q → map side_event xs ≡ fresh_of joined en events_of s r
   pairs_fresh = carried_fresh pairs_carried side_eq pair_events en events_of (map side_event) refl sides_beyond pair_wraps
 
@@ -120,6 +127,12 @@ same_side_test pe se k s (Two d) (Two e) = s.twos d e ∙ same_part_test pe k d 
 -- the same by tests that a part's and a pair's events have
 pub parts_fresh_by : (pe : PartEvent → PartEvent → Bool) (en : Event → Event → Bool) (xs : List PartEvent) (s r : Any) (p q : part.Part) → s ≡ Part p → r ≡ Part q → xs ≡ fresh_of parts.joined pe parts.events_of p q → IsByKind pe → TestsNames en → map (part_event (pos 0)) xs ≡ fresh_of joined en events_of s r
 parts_fresh_by pe en xs s r p q es er e k by = parts_fresh en by xs s r p q es er (e ∙ ap (λ (t : PartEvent → PartEvent → Bool). fresh_of parts.joined t parts.events_of p q) (λ i d e. same_part_test pe k d e i))
+
+-- what a part was brought was brought to the state that holds it
+pub part_outcome : (pe : PartEvent → PartEvent → Bool) (en : Event → Event → Bool) → IsByKind pe → TestsNames en → (s r : Any) (p q new : part.Part) → s ≡ Part p → r ≡ Part q → (t : Brought Event)
+    → IsOutcome (parts.joined p q) (map (part_event (pos 0)) (fresh_of parts.joined pe parts.events_of p q)) p new t → IsOutcome (joined s r) (fresh_of joined en events_of s r) s (Part new) t
+part_outcome pe en k by s r p q new es er = outcome_as (parts.joined p q) (joined s r) (map (part_event (pos 0)) (fresh_of parts.joined pe parts.events_of p q)) (fresh_of joined en events_of s r) p new s (Part new)
+    (λ done m. carried_merged parts_carried done s r p q new es er m) (λ same. ap (λ v. Part v) same ∙ sym es) (sym (parts_fresh_by pe en _ s r p q es er refl k by))
 
 pub pairs_fresh_by : (pe : PartEvent → PartEvent → Bool) (se : SideOf PartEvent PartEvent → SideOf PartEvent PartEvent → Bool) (en : Event → Event → Bool) (xs : List (SideOf PartEvent PartEvent)) (s r : Any) (x z : sides.Sides) (p q : Pair part.Part part.Part) → s ≡ Sides x → r ≡ Sides z → p ≡ x.pair → q ≡ z.pair
     → xs ≡ fresh_of parts.pairs_joined se (pair.events_of parts.events_of parts.events_of) p q → IsByKind pe → IsBySide pe se → TestsNames en → map side_event xs ≡ fresh_of joined en events_of s r

@@ -1,6 +1,7 @@
 ghost use Rattle.std.specs.Prelude.{◌≡◌, ◌↔◌, false, IfOk, IfErr, is_some, unwrap_or};
+ghost use Rattle.lvish_lattice.specs.Lattice.{fresh_of, IsOutcome};
 
-use lvish_lattice::Lattice;
+use lvish_lattice::{Brought, Lattice};
 use std::alloc::{AllocError, Global};
 
 /// A state that isn't bottom.
@@ -52,6 +53,18 @@ impl<L: Lattice> Above<L> {
         ensures refused { IfErr result (λ _. self.new ≡ self.old) }
     {
         self.state.merge(alloc, &put.state)
+    }
+
+    /// Joins a state to this one in place, and says what it brought, as `Lattice::merge_one` does.
+    pub fn merge_one(
+        &mut self,
+        alloc: Global,
+        put: &Above<L>,
+    ) -> Result<Brought<L::Event>, AllocError>
+        ensures merged { IfOk result (λ b. IsOutcome (L.joined (state_of self.old) (state_of put.now)) (fresh_of L.joined L.Event.eq L.events_of (state_of self.old) (state_of put.now)) (state_of self.old) (state_of self.new) b) }
+        ensures refused { IfErr result (λ _. self.new ≡ self.old) }
+    {
+        self.state.merge_one(alloc, &put.state)
     }
 }
 

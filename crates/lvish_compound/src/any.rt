@@ -6,8 +6,7 @@ ghost use Rattle.lvish_compound.specs.declared.amount_fault.AmountFault.TheVaria
 use crate::above::Above;
 use crate::amount_fault::AmountFault;
 use crate::any_events::{
-    brought_in_part, entry_brought, entry_events, fresh_in_part, part_events, side_events,
-    tally_events,
+    entry_brought, entry_events, fresh_in_part, merge_part, part_events, side_events, tally_events,
 };
 use crate::event::Event;
 use crate::map_of::MapOf;
@@ -278,20 +277,26 @@ impl Lattice for Any {
         }
     }
 
-    fn brought(old: &Any, put: &Any) -> Brought<Event> {
-        match (old, put) {
-            (Any::Part(a), Any::Part(b)) => brought_in_part(a, b),
-            (Any::Map(a), Any::Map(b)) => entry_brought(MapOf::brought(&a.state, &b.state)),
-            _ => Brought::Listed,
-        }
-    }
-
     fn copy(&self, alloc: Global) -> Result<Any, AllocError> {
         match self {
             Any::Part(a) => Ok(Any::Part(a.copy(alloc)?)),
             Any::Map(a) => Ok(Any::Map(a.copy(alloc)?)),
             Any::Sides(a) => Ok(Any::Sides(a.copy(alloc)?)),
             Any::Tally(a) => Ok(Any::Tally(a.copy(alloc)?)),
+        }
+    }
+
+    fn merge_one(&mut self, alloc: Global, put: &Any) -> Result<Brought<Event>, AllocError> {
+        match self {
+            Any::Part(a) => match put {
+                Any::Part(b) => merge_part(a, alloc, b),
+                _ => Ok(Brought::Listed),
+            },
+            Any::Map(a) => match put {
+                Any::Map(b) => Ok(entry_brought(a.merge_one(alloc, b)?)),
+                _ => Ok(Brought::Listed),
+            },
+            _ => Ok(Brought::Listed),
         }
     }
 

@@ -1,7 +1,7 @@
 //! The events of a script's variables, named by key, kind and number.
 
-ghost use Rattle.std.specs.Prelude.{◌≡◌, List, ℤ, IfOk, map, pos};
-ghost use Rattle.lvish_lattice.specs.Lattice.{fresh_of, IsBrought};
+ghost use Rattle.std.specs.Prelude.{◌≡◌, IfOk, IfErr, map, pos};
+ghost use Rattle.lvish_lattice.specs.Lattice.{fresh_of, IsOutcome, renamed};
 ghost use Rattle.lvish_compound.specs.EventNames.{part_event, number_event, entry_event, side_event, tally_event};
 ghost use Rattle.lvish_compound.specs.Parts.{joined, events_of};
 
@@ -136,39 +136,63 @@ pub(crate) fn tally_events(alloc: Global, events: &[(i64, i64)]) -> Result<Vec<E
 
 /// What is brought to a set or a counter by its number.
 fn number_brought(kind: Kind, brought: Brought<i64>) -> Brought<Event>
-    ensures { (numbers : List ℤ) → IsBrought brought numbers → IsBrought result (map (number_event kind) numbers) }
+    ensures { result ≡ renamed (number_event kind) brought }
 {
     match brought {
         Brought::Nothing => Brought::Nothing,
         Brought::One(number) => Brought::One(number_event(kind, number)),
+        Brought::Top => Brought::Top,
         Brought::Listed => Brought::Listed,
     }
 }
 
-/// What a put brings to a part, as far as that is told without a list.
-pub(crate) fn brought_in_part(old: &Part, put: &Part) -> Brought<Event>
-    ensures { IsBrought result (map (part_event (pos 0)) (fresh_of joined ⟦<PartEvent as PartialEq>⟧.eq events_of old.now put.now)) }
+/// Joins a part in place, and says what it brought, as `Lattice::merge_one`.
+pub(crate) fn merge_part(
+    old: &mut Part,
+    alloc: Global,
+    put: &Part,
+) -> Result<Brought<Event>, AllocError>
+    ensures merged { IfOk result (λ b. IsOutcome (joined old.old put.now) (map (part_event (pos 0)) (fresh_of joined ⟦<PartEvent as PartialEq>⟧.eq events_of old.old put.now)) old.old old.new b) }
+    ensures refused { IfErr result (λ _. old.new ≡ old.old) }
 {
-    match (old, put) {
-        (Part::Set(a), Part::Set(b)) => {
-            number_brought(Kind::Set, GrowSet::brought(&a.state, &b.state))
-        }
-        (Part::Max(a), Part::Max(b)) => {
-            number_brought(Kind::Max, MaxCounter::brought(&a.state, &b.state))
-        }
-        (Part::Empty, Part::Cell(number)) => Brought::One(part_event(0, SideOf::One(*number))),
-        (Part::Cell(_), Part::Cell(_)) => Brought::Nothing,
-        _ => Brought::Listed,
+    match old {
+        Part::Empty => match put {
+            Part::Cell(number) => {
+                let event = part_event(0, SideOf::One(*number));
+                *old = Part::Cell(*number);
+                Ok(Brought::One(event))
+            }
+            _ => Ok(Brought::Listed),
+        },
+        Part::Cell(a) => match put {
+            Part::Cell(b) => {
+                if *a == *b {
+                    Ok(Brought::Nothing)
+                } else {
+                    Ok(Brought::Top)
+                }
+            }
+            _ => Ok(Brought::Listed),
+        },
+        Part::Set(a) => match put {
+            Part::Set(b) => Ok(number_brought(Kind::Set, a.merge_one(alloc, b)?)),
+            _ => Ok(Brought::Listed),
+        },
+        Part::Max(a) => match put {
+            Part::Max(b) => Ok(number_brought(Kind::Max, a.merge_one(alloc, b)?)),
+            _ => Ok(Brought::Listed),
+        },
     }
 }
 
 /// What is brought to a map by its key and number.
 pub(crate) fn entry_brought(brought: Brought<(i64, i64)>) -> Brought<Event>
-    ensures { (entries : List (ℤ × ℤ)) → IsBrought brought entries → IsBrought result (map entry_event entries) }
+    ensures { result ≡ renamed entry_event brought }
 {
     match brought {
         Brought::Nothing => Brought::Nothing,
         Brought::One((key, number)) => Brought::One(entry_event(key, number)),
+        Brought::Top => Brought::Top,
         Brought::Listed => Brought::Listed,
     }
 }

@@ -3,12 +3,13 @@ ghost use Rattle.std.specs.Option.{option_copied};
 ghost use Rattle.std.specs.BTreeMap.{insert_entry};
 ghost use Rattle.std.specs.Cmp.Lexicographic.{pointwise};
 ghost use Rattle.std.specs.List.Sorted.{IsStrictlySortedBy};
+ghost use Rattle.lvish_lattice.specs.Lattice.{fresh_of, IsOutcome};
 ghost use Rattle.lvish_compound.specs.Keyed.{key, has_no, add, at};
 ghost use Rattle.lvish_compound.specs.Stored.{few, entries};
 
 use crate::entry_iter::EntryIter;
 use crate::tree::Tree;
-use lvish_lattice::{Lattice, Plain};
+use lvish_lattice::{Brought, Lattice, Plain};
 use std::alloc::{AllocError, Global};
 use std::marker::Model;
 
@@ -206,5 +207,47 @@ impl<K: Plain, L: Lattice> Entries<K, L> {
         ensures above { has_no L.eq L.least self.new ≡ true }
     {
         self.join_at(alloc, of, part)
+    }
+
+    /// Joins the part to what the key holds, and says what it brought there, as `Lattice::merge_one`.
+    fn merge_one_at(
+        &mut self,
+        alloc: Global,
+        of: K,
+        part: &L,
+    ) -> Result<Brought<L::Event>, AllocError>
+        ensures merged { IfOk result (λ b. IsOutcome (add K.cmp L.least L.joined of part.now self.old) (fresh_of L.joined L.Event.eq L.events_of (at K.cmp L.least L.joined self.old of) part.now) self.old self.new b) }
+        ensures refused { IfErr result (λ _. self.new ≡ self.old) }
+    {
+        match &mut self.stored {
+            Stored::Few(held) => match held {
+                None => Ok(Brought::Listed),
+                Some((key, held)) => {
+                    if of == *key {
+                        return held.merge_one(alloc, part);
+                    }
+                    Ok(Brought::Listed)
+                }
+            },
+            Stored::Tree(tree) => tree.merge_one_at(alloc, of, part),
+        }
+    }
+
+    /// The same of a part that isn't bottom, after which no key holds bottom.
+    pub fn add_one(
+        &mut self,
+        alloc: Global,
+        of: K,
+        part: &L,
+    ) -> Result<Brought<L::Event>, AllocError>
+        requires ascending { IsStrictlySortedBy K.cmp (map key self.old) }
+        requires above { has_no L.eq L.least self.old ≡ true }
+        requires part { L.eq part.now L.least ≡ false }
+        ensures merged { IfOk result (λ b. IsOutcome (add K.cmp L.least L.joined of part.now self.old) (fresh_of L.joined L.Event.eq L.events_of (at K.cmp L.least L.joined self.old of) part.now) self.old self.new b) }
+        ensures refused { IfErr result (λ _. self.new ≡ self.old) }
+        ensures ascending { IsStrictlySortedBy K.cmp (map key self.new) }
+        ensures above { has_no L.eq L.least self.new ≡ true }
+    {
+        self.merge_one_at(alloc, of, part)
     }
 }

@@ -2,7 +2,7 @@ ghost use Rattle.std.specs.Prelude.{◌≡◌, ◌&&◌, [], ◌∷◌, ⊤, Mat
 ghost use Rattle.std.specs.Option.{option_copied};
 ghost use Rattle.std.specs.List.Sorted.{IsStrictlySortedBy, IsStrictlySortedBy-prop};
 ghost use Rattle.lvish_compound.specs.Keyed.{key, has_no, of_key, single_entry};
-ghost use Rattle.lvish_lattice.specs.Lattice.{fresh_of, IsBrought};
+ghost use Rattle.lvish_lattice.specs.Lattice.{fresh_of, renamed};
 
 use crate::entries::Entries;
 use crate::entry_iter::EntryIter;
@@ -82,11 +82,12 @@ impl<K: Plain, L: Lattice> MapOf<K, L> {
 
 /// What is brought to a key.
 fn at_key<K: Copy, E: Copy>(key: K, brought: Brought<E>) -> Brought<(K, E)>
-    ensures { (events : List E) → IsBrought brought events → IsBrought result (of_key key events) }
+    ensures { result ≡ renamed (λ event. (key, event)) brought }
 {
     match brought {
         Brought::Nothing => Brought::Nothing,
         Brought::One(event) => Brought::One((key, event)),
+        Brought::Top => Brought::Top,
         Brought::Listed => Brought::Listed,
     }
 }
@@ -150,19 +151,21 @@ impl<K: Plain + Hash, L: Lattice> Lattice for MapOf<K, L> {
         keyed::fresh(alloc, &old.entries, &put.entries)
     }
 
-    fn brought(old: &MapOf<K, L>, put: &MapOf<K, L>) -> Brought<(K, L::Event)> {
-        let Some((key, part)) = put.entries.only() else {
-            return Brought::Listed;
-        };
-        match old.get(*key) {
-            Some(held) => at_key(*key, L::brought(held, part)),
-            None => at_key(*key, L::brought(&L::bottom(old.alloc()), part)),
-        }
-    }
-
     fn copy(&self, alloc: Global) -> Result<MapOf<K, L>, AllocError> {
         let entries = self.entries.copy(alloc)?;
         Ok(MapOf { entries })
+    }
+
+    fn merge_one(
+        &mut self,
+        alloc: Global,
+        put: &MapOf<K, L>,
+    ) -> Result<Brought<(K, L::Event)>, AllocError> {
+        let Some((key, part)) = put.entries.only() else {
+            return Ok(Brought::Listed);
+        };
+        let brought = self.entries.add_one(alloc, *key, part)?;
+        Ok(at_key(*key, brought))
     }
 
     fn merge(&mut self, alloc: Global, put: &MapOf<K, L>) -> Result<bool, AllocError> {

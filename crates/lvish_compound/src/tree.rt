@@ -2,9 +2,11 @@ ghost use Rattle.std.specs.Prelude.{◌≡◌, ◌∷◌, [], IfOk, IfErr, Match
 ghost use Rattle.std.specs.Option.{option_copied};
 ghost use Rattle.std.specs.BTreeMap.{insert_entry};
 ghost use Rattle.std.specs.List.Sorted.{IsStrictlySortedBy};
+ghost use Rattle.lvish_lattice.specs.Lattice.{fresh_of, IsOutcome};
+ghost use Rattle.lvish_lattice.specs.declared.brought.Brought.TheVariants.{Listed};
 ghost use Rattle.lvish_compound.specs.Keyed.{key, add, at};
 
-use lvish_lattice::{Lattice, Plain, Ranked};
+use lvish_lattice::{Brought, Lattice, Plain, Ranked};
 use std::alloc::{AllocError, Global};
 use std::collections::BTreeMap;
 use std::collections::btree_map::{Entry, Iter};
@@ -29,6 +31,18 @@ impl<K: Ord, L> Model for Tree<K, L> {
     ghost Value = { List (K × L) };
 
     ghost view = { λ t. t.parts.entries };
+}
+
+/// The part joined to bottom, and what that brought; bottom itself, and `Listed`, where it has to be
+/// listed, or memory was refused.
+fn first_part<L: Lattice>(alloc: Global, part: &L) -> (L, Brought<L::Event>)
+    ensures { IsOutcome (L.joined L.least part.now) (fresh_of L.joined L.Event.eq L.events_of L.least part.now) L.least result.0 result.1 }
+{
+    let mut bottom = L::bottom(alloc);
+    match bottom.merge_one(alloc, part) {
+        Ok(brought) => (bottom, brought),
+        Err(_) => (bottom, Brought::Listed),
+    }
 }
 
 impl<K: Ord, L> Tree<K, L> {
@@ -136,5 +150,38 @@ impl<K: Plain, L: Lattice> Tree<K, L> {
         { part.copy(alloc) };
         Entry::Vacant(room).or_try_insert_with(copied)?;
         Ok(true)
+    }
+
+    /// Joins the part to what the key holds, and says what it brought there, as `Lattice::merge_one`.
+    ///
+    /// There is one search for the key, whether it is there or not.
+    pub(crate) fn merge_one_at(
+        &mut self,
+        alloc: Global,
+        of: K,
+        part: &L,
+    ) -> Result<Brought<L::Event>, AllocError>
+        ensures merged { IfOk result (λ b. IsOutcome (add K.cmp L.least L.joined of part.now self.old) (fresh_of L.joined L.Event.eq L.events_of (at K.cmp L.least L.joined self.old of) part.now) self.old self.new b) }
+        ensures refused { IfErr result (λ _. self.new ≡ self.old) }
+    {
+        let place = self.parts.entry(Ranked::new(of))?;
+        let room = match place {
+            Entry::Occupied(held) => return held.into_mut().merge_one(alloc, part),
+            Entry::Vacant(room) => room,
+        };
+        let (first, brought) = first_part(alloc, part);
+        // Where a list has to say what is brought, no part is put, and the entries stay.
+        let told = || -> Result<L, AllocError>
+            ensures { IfOk result (λ p. (p ≡ first) × (brought ≡ Listed → ⊥)) }
+        {
+            match brought {
+                Brought::Listed => Err(AllocError),
+                _ => Ok(first),
+            }
+        };
+        let Ok(_) = Entry::Vacant(room).or_try_insert_with(told) else {
+            return Ok(Brought::Listed);
+        };
+        Ok(brought)
     }
 }

@@ -69,6 +69,11 @@ held_brings m x xs held only is h = ap (filter (λ e. not (m e))) only ∙ rw (s
 pub missing_brings : {K : Type 0} (m : K → Bool) (x : K) (xs : List K) (held : Bool) → xs ≡ x ∷ [] → held ≡ m x → held ≡ false → filter (λ e. not (m e)) xs ≡ x ∷ []
 missing_brings m x xs held only is h = ap (filter (λ e. not (m e))) only ∙ rw (sym is ∙ h) refl
 
+-- what was not put was held
+pub not_added : (added held : Bool) → added ≡ not held → added ≡ false → held ≡ true
+not_added added true e f = refl
+not_added added false e f = absurd (cc (sym e ∙ f))
+
 -- what a put of one element leaves, where it succeeds and where it is refused
 pub stays_rising : {K A E : Type 0} {R : K → K → Ordering} (o : IsTotalOrder R) (x : K) (xs ys : List K) (r : Result A E) → IfOk r (λ _. ys ≡ sorted_merge R true (x ∷ []) xs) → IfErr r (λ _. ys ≡ xs) → IsStrictlySortedBy R xs → IsStrictlySortedBy R ys
 stays_rising {R = R} o x xs ys (Ok a) put refused s = subst (IsStrictlySortedBy R) (sym put) (merge_rises o (x ∷ []) xs (one_rises R x) s)

@@ -1,10 +1,10 @@
 -- What a lattice with events and a threshold read are.
-use Rattle.std.specs.Prelude.{◌≡◌, ◌⊎◌, ◌↔◌, List, [], ◌∷◌, Bool, true, false, not, Option, Some, None, filter, option_and_then}
+use Rattle.std.specs.Prelude.{◌≡◌, ◌⊎◌, ◌↔◌, List, [], ◌∷◌, Bool, true, false, not, Option, Some, None, filter, option_and_then, is_some, unwrap_or}
 use Rattle.std.specs.Set.{is_member, IsUnion}
 use Rattle.std.specs.List.Sorted.{IsStrictlySortedBy}
 use Rattle.std.specs.declared.cmp.Ordering.{Ordering}
 use Rattle.lvish_lattice.specs.declared.brought.Brought.{Brought}
-use Rattle.lvish_lattice.specs.declared.brought.Brought.TheVariants.{Nothing, One, Listed}
+use Rattle.lvish_lattice.specs.declared.brought.Brought.TheVariants.{Nothing, One, Top, Listed}
 
 -- a test of equality that holds of identical values alone
 abbrev pub IsIdentity : {S : Type 0} → (S → S → Bool) → Type 0
@@ -37,11 +37,23 @@ events_beyond eq events old None = []
 abbrev pub fresh_of : {S E : Type 0} → (S → S → Option S) → (E → E → Bool) → (S → List E) → S → S → List E
 fresh_of join eq events old put = events_beyond eq events old (join old put)
 
--- the events that are brought are none, or one; a list has to say which they are, where that isn't told
-abbrev pub IsBrought : {E : Type 0} → Brought E → List E → Type 0
-IsBrought Nothing events = events ≡ []
-IsBrought (One event) events = events ≡ event ∷ []
-IsBrought Listed events = Unit {0}
+-- a state was joined in place, if the join is a state
+abbrev pub IsMerged : {S : Type 0} → Option S → S → S → Bool → Type 0
+IsMerged joined old new done = (done ≡ is_some joined) × (new ≡ unwrap_or joined old)
+
+-- what a put brought, by its join and its fresh events: it was joined and brought none, or one; or the join is top; or nothing was done
+abbrev pub IsOutcome : {S E : Type 0} → Option S → List E → S → S → Brought E → Type 0
+IsOutcome joined fresh old new Nothing = IsMerged joined old new true × (fresh ≡ [])
+IsOutcome joined fresh old new (One event) = IsMerged joined old new true × (fresh ≡ event ∷ [])
+IsOutcome joined fresh old new Top = IsMerged joined old new false
+IsOutcome joined fresh old new Listed = new ≡ old
+
+-- the same of events under other names
+abbrev pub renamed : {E F : Type 0} → (E → F) → Brought E → Brought F
+renamed f Nothing = Nothing
+renamed f (One event) = One (f event)
+renamed f Top = Top
+renamed f Listed = Listed
 
 -- A read is a set of groups, each a set of states with one answer, which names the group: member m a says that m is in the group of answer a.
 -- It is checked where any two members of different groups join to top.

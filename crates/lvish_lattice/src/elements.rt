@@ -61,12 +61,13 @@ impl<V: Ord> Model for Elements<V> {
 }
 
 /// Puts the value in its place in the tree.
-fn put_in_tree<V: Plain>(tree: &mut BTreeSet<Ranked<V>>, x: V) -> Result<(), AllocError>
+fn put_in_tree<V: Plain>(tree: &mut BTreeSet<Ranked<V>>, x: V) -> Result<bool, AllocError>
+    ensures added { IfOk result (λ added. added ≡ not (is_member V.eq tree.old.keys x)) }
     ensures put { IfOk result (λ _. tree.new.keys ≡ sorted_merge V.cmp true (x ∷ []) tree.old.keys) }
     ensures refused { IfErr result (λ _. tree.new ≡ tree.old) }
 {
-    tree.insert(Ranked::new(x))?;
-    Ok(())
+    let added = tree.insert(Ranked::new(x))?;
+    Ok(added)
 }
 
 /// A tree of two elements.
@@ -201,20 +202,22 @@ impl<V: Plain> Elements<V> {
         }
     }
 
-    /// Puts the value in its place.
-    pub fn put(&mut self, alloc: Global, x: V) -> Result<(), AllocError>
+    /// Puts the value in its place. Answers whether it wasn't there.
+    pub fn put(&mut self, alloc: Global, x: V) -> Result<bool, AllocError>
+        ensures added { IfOk result (λ added. added ≡ not (is_member V.eq self.old x)) }
         ensures put { IfOk result (λ _. self.new ≡ sorted_merge V.cmp true (x ∷ []) self.old) }
         ensures refused { IfErr result (λ _. self.new ≡ self.old) }
     {
         self.stored = match &mut self.stored {
             Stored::Nothing => Stored::One(x),
+            Stored::One(y) if x == *y => return Ok(false),
             Stored::One(y) => grown(alloc, *y, x)?,
             Stored::Row(row) if row.ends_below(x) => return row.push(x),
-            Stored::Row(row) if row.has(x) => return Ok(()),
+            Stored::Row(row) if row.has(x) => return Ok(false),
             Stored::Row(row) => broken(alloc, row, x)?,
             Stored::Tree(tree) => return put_in_tree(tree, x),
         };
-        Ok(())
+        Ok(true)
     }
 
     /// Puts all of the others in their places.

@@ -91,10 +91,20 @@ impl<V: Plain + Hash> Lattice for Flat<V> {
         }
     }
 
-    fn brought(old: &Flat<V>, put: &Flat<V>) -> Brought<V> {
-        match (*old, *put) {
-            (Flat::Bottom, Flat::Value(x)) => Brought::One(x),
-            _ => Brought::Nothing,
+    fn merge_one(&mut self, _alloc: Global, put: &Flat<V>) -> Result<Brought<V>, AllocError> {
+        match (*self, *put) {
+            (Flat::Bottom, Flat::Value(x)) => {
+                *self = *put;
+                Ok(Brought::One(x))
+            }
+            (Flat::Value(x), Flat::Value(y)) => {
+                if x == y {
+                    Ok(Brought::Nothing)
+                } else {
+                    Ok(Brought::Top)
+                }
+            }
+            _ => Ok(Brought::Nothing),
         }
     }
 

@@ -142,18 +142,21 @@ impl<V: Plain + Hash> Lattice for GrowSet<V> {
         old.items.beyond(alloc, &put.items)
     }
 
-    fn brought(old: &GrowSet<V>, put: &GrowSet<V>) -> Brought<V> {
-        match put.items.only() {
-            None => Brought::Listed,
-            Some(x) if old.items.has(x) => Brought::Nothing,
-            Some(x) => Brought::One(x),
-        }
-    }
-
     fn copy(&self, alloc: Global) -> Result<GrowSet<V>, AllocError> {
         Ok(GrowSet {
             items: self.items.copy(alloc)?,
         })
+    }
+
+    fn merge_one(&mut self, alloc: Global, put: &GrowSet<V>) -> Result<Brought<V>, AllocError> {
+        let Some(x) = put.items.only() else {
+            return Ok(Brought::Listed);
+        };
+        if self.items.put(alloc, x)? {
+            Ok(Brought::One(x))
+        } else {
+            Ok(Brought::Nothing)
+        }
     }
 
     fn merge(&mut self, alloc: Global, put: &GrowSet<V>) -> Result<bool, AllocError> {

@@ -1,5 +1,5 @@
 ghost use Rattle.std.specs.Prelude.{◌≡◌, ◌↔◌, List, Option, Some, IfOk, IfErr, is_some, unwrap_or, IsTrue};
-ghost use Rattle.lvish_lattice.specs.Lattice.{IsIdentity, IsJoin, IsAtOrBelow, HasEvents, IsBrought, IsChecked, IsAnswered, IsWatched, fresh_of};
+ghost use Rattle.lvish_lattice.specs.Lattice.{IsIdentity, IsJoin, IsAtOrBelow, HasEvents, IsOutcome, IsChecked, IsAnswered, IsWatched, fresh_of};
 
 use crate::brought::Brought;
 use std::alloc::{AllocError, Global};
@@ -47,14 +47,6 @@ pub trait Lattice: Eq + Drop {
     fn fresh(alloc: Global, old: &Self, put: &Self) -> Result<Vec<Self::Event>, AllocError>
         ensures { IfOk result (λ v. v.items ≡ fresh_of joined Self.Event.eq events_of old.now put.now) };
 
-    /// What the put brings to `old`, as far as that is told without a list: so a put of one event,
-    /// as most are, takes no memory for it.
-    fn brought(old: &Self, put: &Self) -> Brought<Self::Event>
-        ensures { IsBrought result (fresh_of joined Self.Event.eq events_of old.now put.now) }
-    {
-        Brought::Listed
-    }
-
     /// An equal state.
     fn copy(&self, alloc: Global) -> Result<Self, AllocError>
         ensures { IfOk result (λ r. r ≡ self.now) };
@@ -71,6 +63,15 @@ pub trait Lattice: Eq + Drop {
             }
             None => Ok(false),
         }
+    }
+
+    /// Joins `put` to this state in place, and says what it brought, where that is one event at most:
+    /// so a put of one event, as most are, takes one search and no list.
+    fn merge_one(&mut self, alloc: Global, put: &Self) -> Result<Brought<Self::Event>, AllocError>
+        ensures merged { IfOk result (λ b. IsOutcome (joined self.old put.now) (fresh_of joined Self.Event.eq events_of self.old put.now) self.old self.new b) }
+        ensures refused { IfErr result (λ _. self.new ≡ self.old) }
+    {
+        Ok(Brought::Listed)
     }
 
     ghost identical: { IsIdentity Self.eq };

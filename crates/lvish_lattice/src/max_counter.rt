@@ -117,14 +117,15 @@ impl Lattice for MaxCounter {
         between(alloc, old.value, put.value)
     }
 
-    fn brought(old: &MaxCounter, put: &MaxCounter) -> Brought<i64> {
-        if put.value <= old.value {
-            return Brought::Nothing;
+    fn merge_one(&mut self, _alloc: Global, put: &MaxCounter) -> Result<Brought<i64>, AllocError> {
+        if put.value <= self.value {
+            return Ok(Brought::Nothing);
         }
-        if put.value == old.value + 1 {
-            return Brought::One(i64::from(put.value));
+        if put.value == self.value + 1 {
+            *self = *put;
+            return Ok(Brought::One(i64::from(put.value)));
         }
-        Brought::Listed
+        Ok(Brought::Listed)
     }
 
     fn copy(&self, _alloc: Global) -> Result<MaxCounter, AllocError> {

@@ -1,4 +1,4 @@
-ghost use Rattle.std.specs.Prelude.{◌≡◌, ◌↔◌, [], ◌∷◌, IfOk, IfErr, IsTrue, length, true};
+ghost use Rattle.std.specs.Prelude.{◌≡◌, ◌↔◌, [], ◌∷◌, IfOk, IfErr, IsTrue, length, not, true};
 ghost use Rattle.std.specs.Set.{sorted_merge, is_member};
 ghost use Rattle.std.specs.declared.cmp.Ordering.TheVariants.{Less};
 ghost use Rattle.std.specs.List.Sorted.{IsStrictlySortedBy};
@@ -66,14 +66,15 @@ impl<V: Plain> Row<V> {
         }
     }
 
-    /// Puts an element behind all others.
-    pub fn push(&mut self, x: V) -> Result<(), AllocError>
+    /// Puts an element behind all others, and answers true, since it wasn't there.
+    pub fn push(&mut self, x: V) -> Result<bool, AllocError>
         requires { EndsBelow V.cmp x self.old }
+        ensures added { IfOk result (λ added. added ≡ not (is_member V.eq self.old x)) }
         ensures put { IfOk result (λ _. self.new ≡ sorted_merge V.cmp true (x ∷ []) self.old) }
         ensures refused { IfErr result (λ _. self.new ≡ self.old) }
     {
         self.items.push(x)?;
-        Ok(())
+        Ok(true)
     }
 
     /// Whether the element is there, so that a put of it changes nothing.

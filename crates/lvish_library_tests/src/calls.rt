@@ -1,9 +1,9 @@
 //! The calls of a lattice through its bound alone.
 
 ghost use Rattle.std.specs.Prelude.{◌≡◌, ◌↔◌, IfOk, IfErr, IsTrue, is_some, unwrap_or};
-ghost use Rattle.lvish_lattice.specs.Lattice.{IsAtOrBelow, IsChecked, fresh_of};
+ghost use Rattle.lvish_lattice.specs.Lattice.{IsAtOrBelow, IsChecked, IsOutcome, fresh_of};
 
-use lvish_lattice::{Lattice, Reads};
+use lvish_lattice::{Brought, Lattice, Reads};
 use std::alloc::{AllocError, Global};
 
 /// The join of two states, `None` where it is top.
@@ -54,6 +54,18 @@ pub fn merge_into<L: Lattice>(alloc: Global, a: &mut L, put: &L) -> Result<bool,
     ensures refused { IfErr result (λ _. a.new ≡ a.old) }
 {
     a.merge(alloc, put)
+}
+
+/// Joins a put to a state, and says what it brought, where that is one event at most.
+pub fn merge_one_into<L: Lattice>(
+    alloc: Global,
+    a: &mut L,
+    put: &L,
+) -> Result<Brought<L::Event>, AllocError>
+    ensures merged { IfOk result (λ b. IsOutcome (L.joined a.old put.now) (fresh_of L.joined L.Event.eq L.events_of a.old put.now) a.old a.new b) }
+    ensures refused { IfErr result (λ _. a.new ≡ a.old) }
+{
+    a.merge_one(alloc, put)
 }
 
 /// Whether any two members of different groups of a read join to top.

@@ -2,6 +2,7 @@
 //! N-th): what they were made on is as it was, and then they do what they do without a refusal.
 
 mod merges;
+mod outcomes;
 mod puts;
 
 use crate::calls::events_of;

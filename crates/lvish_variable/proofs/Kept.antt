@@ -1,5 +1,5 @@
 -- What a put leaves: a log that grows by the fresh events has each event of the join once.
-use Rattle.std.proofs.Common.{◌≡◌, ◌≢◌, ◌↔◌, inl, inr, ℕ, zero, suc, Bool, true, not, ◌&&◌, List, [], ◌∷◌, ◌++◌, Option, Some, refl, sym, ap, ◌∙◌, subst, arith, AllPairs, Contains, filter, get_or}
+use Rattle.std.proofs.Common.{◌≡◌, ◌≢◌, ◌↔◌, inl, inr, ℕ, zero, suc, Bool, true, not, ◌&&◌, List, [], ◌∷◌, ◌++◌, Option, Some, None, refl, sym, ap, ◌∙◌, subst, arith, AllPairs, Contains, filter, get_or}
 use Rattle.std.specs.Bool.{Decides}
 use Rattle.std.specs.Set.{is_member, IsUnion}
 use Rattle.std.specs.List.Sorted.{IsStrictlySortedBy}
@@ -12,7 +12,7 @@ use Rattle.std.proofs.lemmas.List.Elements.{Contains-append_left, Contains-appen
 use Rattle.std.proofs.lemmas.List.Kept.{AllPairs-filter}
 use Rattle.std.proofs.lemmas.Map.Keys.{Less-from_sorted}
 use Rattle.std.proofs.lemmas.Map.Made.{is_member-Decides, is_member-filter}
-use Rattle.lvish_lattice.specs.Lattice.{IsIdentity, HasEvents, fresh_of}
+use Rattle.lvish_lattice.specs.Lattice.{IsIdentity, IsMerged, HasEvents, fresh_of}
 use Rattle.lvish_names.specs.Names.{Name}
 use Rattle.lvish_variable.specs.declared.entry.Entry.{Entry}
 use Rattle.lvish_variable.specs.Variable.{VariableView, logged, entries, IsLogOf, IsPut}
@@ -124,3 +124,10 @@ module _ {E : Type 0} {eq : E → E → Bool} (same : IsIdentity eq) (laws : IsE
       allowed = λ _. refl;
       log = sym (append-nil v.log) ∙ ap (λ z. v.log ++ entries task number z) (sym (none_fresh v.state put j));
     }
+
+-- ---- the state after a put that says what it brought
+
+-- where it says that the put is joined, the join is the state that it left
+pub is_joined : {S : Type 0} (joined : Option S) (old new : S) → IsMerged joined old new true → joined ≡ Some new
+is_joined (Some s) old new h = ap Some (sym h.1)
+is_joined None old new h = absurd (cc h.0)

@@ -1,9 +1,8 @@
-ghost use Rattle.std.specs.Prelude.{◌≡◌, ◌⊎◌, [], ◌∷◌, false, true, Some, None, IsTrue, IfOk, IfErr};
+ghost use Rattle.std.specs.Prelude.{◌≡◌, ◌⊎◌, [], false, true, Some, None, IsTrue, IfOk, IfErr};
 ghost use Rattle.lvish_variable.specs.declared.put_fault.PutFault.TheVariants.{Conflict, Memory};
-ghost use Rattle.lvish_lattice.specs.Lattice.{fresh_of};
 ghost use Rattle.lvish_variable.specs.Variable.{IsLogOf, IsPut, IsPutRefused};
 
-use crate::entry::{Entry, note, note_one};
+use crate::entry::{Entry, note};
 use crate::put_fault::PutFault;
 use lvish_lattice::{Brought, Lattice, Reads};
 use lvish_names::TaskName;
@@ -72,39 +71,23 @@ impl<L: Lattice> Variable<L> {
         if self.frozen {
             return self.allow(alloc, put);
         }
-        match L::brought(&self.state, put) {
-            Brought::Nothing => {
-                raise(&mut self.state, alloc, put)?;
+        // The event's room and its task's name come first, since the state can't be cut back.
+        self.log.reserve(1)?;
+        let Ok(name) = task.copy() else {
+            return Err(PutFault::Memory);
+        };
+        match self.state.merge_one(alloc, put)? {
+            Brought::Nothing => Ok(()),
+            Brought::One(event) => {
+                self.log.push_reserved(Entry {
+                    event,
+                    task: name,
+                    number,
+                });
                 Ok(())
             }
-            Brought::One(event) => self.put_event(alloc, task, number, put, event),
+            Brought::Top => Err(PutFault::Conflict),
             Brought::Listed => self.put_listed(alloc, task, number, put),
-        }
-    }
-
-    /// Makes the put, which brings this event.
-    fn put_event(
-        &mut self,
-        alloc: Global,
-        task: &TaskName<L::Event>,
-        number: u64,
-        put: &L,
-        event: L::Event,
-    ) -> Result<(), PutFault>
-        requires open { self.old.frozen ≡ false }
-        requires fresh { fresh_of L.joined L.Event.eq L.events_of self.old.state put.now ≡ event ∷ [] }
-        ensures ok { IfOk result (λ _. IsPut L.joined L.Event.eq L.events_of task.now number put.now self.old self.new) }
-        ensures why { IfErr result (λ f. IsPutRefused L.joined put.now self.old f) }
-        ensures refused { IfErr result (λ _. self.new ≡ self.old) }
-    {
-        note_one(&mut self.log, event, task, number)?;
-        // The log goes first, since it can be cut back, and the state can't.
-        match raise(&mut self.state, alloc, put) {
-            Ok(()) => Ok(()),
-            Err(refused) => {
-                self.log.pop();
-                Err(refused)
-            }
         }
     }
 
@@ -125,7 +108,7 @@ impl<L: Lattice> Variable<L> {
         let fresh = L::fresh(alloc, &self.state, put)?;
         let before = self.log.len();
         note(&mut self.log, &fresh, task, number)?;
-        // As above, the log goes first.
+        // The log goes first, since it can be cut back, and the state can't.
         if let Err(refused) = raise(&mut self.state, alloc, put) {
             self.log.truncate(before);
             return Err(refused);

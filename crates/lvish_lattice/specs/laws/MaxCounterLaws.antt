@@ -38,6 +38,15 @@ value_of_most a b = elim (nat_le (level a) (level b)) as (λ t. nat_le (level a)
   | false ↦ λ t. let lt = leb-false (level a) (level b) t in omega arith
 ] refl
 
+-- the join with a counter that isn't higher, and with one that isn't lower
+pub stays_joined : (a b : MaxCounter) → level b ≤ level a → joined a b ≡ Some a
+unfolding most
+stays_joined a b h = ap Some (same_counter (most a b) a (value_of_most a b ∙ omega (arith, h)))
+
+pub rises_joined : (a b : MaxCounter) → level a ≤ level b → joined a b ≡ Some b
+unfolding most
+rises_joined a b h = ap Some (same_counter (most a b) b (value_of_most a b ∙ omega (arith, h)))
+
 pub counters_are_join : IsJoin none joined
 unfolding most
 counters_are_join = record {

@@ -7,4 +7,4 @@ use Rattle.lvish_lattice.proofs.elements.put_in_tree.Goals as goal
 pub returns-clause-put : goal.returns-clause-put
 returns-clause-put g c =
     let v = g.met.V in
-    c.in_ok-insert.ensures.keys ∙ ap (insert_key g.V.Ord.cmp c.args.tree.now.keys) c.new.ensures ∙ insert_is_merge (ties_are_same g.V.Ord.cmp v.Plain.identical v.Ord.matches_eq) c.args.x c.args.tree.now.keys
+    c.in_ok-added.ensures.keys ∙ ap (insert_key g.V.Ord.cmp c.args.tree.now.keys) c.new.ensures ∙ insert_is_merge (ties_are_same g.V.Ord.cmp v.Plain.identical v.Ord.matches_eq) c.args.x c.args.tree.now.keys
