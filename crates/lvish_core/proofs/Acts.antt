@@ -231,6 +231,10 @@ module _ {P S E R A L : Type 0} {M : Machine S E R A L} (ok : IsLawful M) {varia
       plainly law law2 room h.request h.acting own None Other old.table.handlers us h.does refl
       (on t h.acting.local _ f a p f a p h.acting.asking.live (omega arith) (omega arith) (omega arith)) nobody sets.each sets.indices (λ x e. absurd (cc e)) (rest (state M old) own None old.table.handlers (λ q. refl) (λ q. refl), refl)
 
+  -- a fork's child isn't there
+  pub child_is_new : {child_at : L} → IsActing M old t at f a p (Fork child_at) → NewTaskIsNew M → task_of M.event_same old.table.tasks (forked t (suc f)) ≡ Absent
+  child_is_new acts fresh = (fresh kept.standing.run old.table kept.standing.pictured).0 t acts.local f a p acts.asking.live
+
   module _ (known : (k v : ℕ) → M.pool_variable k ≡ Some v → v < variables) (law : ActKept IsPlainStep M) (law2 : PlainCounted M) (rest : RestIsFollowed M) {us : List (Name E × Task L)} {place : Option HandlerPlace} (place_is : IsPlaceOf M (state M old) t place) {hss : List (Handlers E)} where
     -- a fork
     pub forking : {child_at : L} → IsActing M old t at f a p (Fork child_at) → old.steps < MOST_STEPS → is_deep t ≡ false → StartIsFollowed M → NewTaskIsNew M → {mid : List (Name E × Task L)}

@@ -10,7 +10,7 @@ use Rattle.lvish_variable.specs.Variable.{VariableView as Variable}
 use Rattle.lvish_handlers.specs.Handlers.{HandlersView as Handlers, next_of}
 use Rattle.lvish_picture.specs.Picture.{Table, task_of}
 use Rattle.lvish_picture.specs.Steps.{AreTasks, IsHandStep}
-use Rattle.lvish_picture.specs.Laws.{HandKept, PostsAreHeld, NewTaskIsNew, IsHandlerSeated}
+use Rattle.lvish_picture.specs.Laws.{HandKept, HandsTheNext, PostsAreHeld, NewTaskIsNew, IsHandlerSeated}
 use Rattle.lvish_picture.specs.Counts.{AreCounts, HandCounted, StartIsFollowed, FewRun}
 use Rattle.lvish_picture.proofs.Slots.{contained, among_here}
 use Rattle.lvish_core.specs.Core.{CoreView, state}
@@ -22,6 +22,7 @@ use Rattle.lvish_core.specs.Kept.{IsKept}
 use Rattle.lvish_core.proofs.Counting.{can_start}
 use Rattle.lvish_core.proofs.Turns.{idle, child}
 use Rattle.lvish_core.proofs.Goes.{Moves, moves, same_log}
+use Rattle.lvish_core.proofs.Seated.{next_enabled}
 
 module _ {P S E R A L : Type 0} {M : Machine S E R A L} (ok : IsLawful M) {variables n : ℕ} {places : List (Handler E × HandlerPlace)} {old : CoreView P S E L} (kept : IsKept M variables n places old)
     (known : (k v : ℕ) → M.pool_variable k ≡ Some v → v < variables) {h : Handler E} {place : HandlerPlace} {e : E} (hands : IsHanding M old h place e) where
@@ -35,7 +36,18 @@ module _ {P S E R A L : Type 0} {M : Machine S E R A L} (ok : IsLawful M) {varia
     pool = can_start kept known law room place hands.own;
   }
 
-  module _ (room : old.steps < MOST_STEPS) (law : HandKept M) (law2 : HandCounted M) (posts : PostsAreHeld M) (follows : StartIsFollowed M) (fresh : NewTaskIsNew M) {us : List (Name E × Task L)}
+  -- the task that handles the event isn't there
+  pub not_there : PostsAreHeld M → HandsTheNext M → NewTaskIsNew M → task_of M.event_same old.table.tasks (handed h.adder h.number e) ≡ Absent
+  not_there posts next fresh = (fresh kept.standing.run old.table kept.standing.pictured).1 h e (next_enabled M variables n places old kept ok posts next h e (record {
+    variable = place.variable;
+    at = hands.at;
+    at_is = hands.at_is;
+    beside = hands.beside;
+    beside_is = hands.beside_is;
+    next = hands.next;
+  }))
+
+  module _ (room : old.steps < MOST_STEPS) (law : HandKept M) (law2 : HandCounted M) (posts : PostsAreHeld M) (follows : StartIsFollowed M) (absent : task_of M.event_same old.table.tasks (handed h.adder h.number e) ≡ Absent) {us : List (Name E × Task L)}
       (made : Sets M.event_same old.table.tasks (handed h.adder h.number e) (Live (M.start_handler place.procedure e) 0 0 0) us) {hss : List (Handlers E)} (w : HandedAt M.event_same old.table.variables h place old.table.handlers hss) where
     abbrev new : Table S E L
     new = record { variables = old.table.variables; handlers = hss; tasks = us }
@@ -80,10 +92,6 @@ module _ {P S E R A L : Type 0} {M : Machine S E R A L} (ok : IsLawful M) {varia
         (sym (w.is ∙ ap (λ r. slice_set old.table.handlers place.variable (record { held = w.to.held; running = slice_set r place.pool (slice_index r place.pool + 1) })) w.advanced.pools))
         (follows (state M old) None name t old.table.handlers place.variable w.from w.to.held place.pool (ap (option_map (λ (q : Post). q.pool)) hands.post) hands.own w.was c.0 (λ q. refl))
 
-    -- the task that handles the event wasn't there
-    pub not_there : task_of M.event_same old.table.tasks name ≡ Absent
-    not_there = (fresh kept.standing.run old.table kept.standing.pictured).1 h e ((law kept.standing.run old.table new h e kept.standing.pictured hand_step).enabled)
-
     pub handing : (task_of M.event_same old.table.tasks name ≡ Absent → IsAt us (length old.table.tasks) name) → Moves ok kept (Hand h e) change new places (Handed place.variable)
     handing added = moves ok kept (Hand h e) change new places (Handed place.variable) hands.no_fault room
         (record { variable = place.variable; at = hands.at; at_is = hands.at_is; beside = hands.beside; beside_is = hands.beside_is; next = hands.next })
@@ -91,12 +99,12 @@ module _ {P S E R A L : Type 0} {M : Machine S E R A L} (ok : IsLawful M) {varia
         (record {
           does = ap (hand_effect M h e) hands.post;
           turn = idle;
-          begins = child name (M.start_handler place.procedure e) not_there;
+          begins = child name (M.start_handler place.procedure e) absent;
           steps = λ xs r. law xs old.table new h e r hand_step;
           logs = same_log old.table.variables;
           long = refl;
           counted = law2 kept.standing.run old.table new h e kept.standing.pictured kept.counted hand_step (counts (Live (M.start_handler w.advanced.handler.procedure e) 0 0 0));
           index = record { posts = kept.index.posts; own = kept.index.own };
           indices = made.indices;
-          last = λ x e. subst (λ u. IsAt us (length old.table.tasks) u) (ap (λ y. y.0) (same_Some _ _ e)) (added not_there);
+          last = λ x e. subst (λ u. IsAt us (length old.table.tasks) u) (ap (λ y. y.0) (same_Some _ _ e)) (added absent);
         })

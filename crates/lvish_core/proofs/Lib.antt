@@ -1,6 +1,7 @@
 pub mod Crossing
 pub mod Maps
 pub mod Indices
+pub mod Indexing
 pub mod Ordered
 pub mod Gets
 pub mod Reading

@@ -4,6 +4,7 @@ pub mod Core
 pub mod Reads
 pub mod Labels
 pub mod Tasks
+pub mod Indexed
 pub mod Places
 pub mod Kept
 pub mod Acts

@@ -100,7 +100,7 @@ impl<'p, P: Program> Core<'p, P> {
         let handlers = no_handlers(alloc, count, pools)?;
         let mut tasks = Tasks::new(alloc);
         let main = Stage::started(program.start(alloc)?);
-        tasks.insert(TaskName::main(), main)?;
+        tasks.push(TaskName::main(), main)?;
         Ok(Core {
             program,
             variables,
@@ -129,7 +129,10 @@ impl<'p, P: Program> Core<'p, P> {
         ensures stepped { MatchResult result (λ s. ⟦<P as CoreMeaning>⟧.is_step self.old label.now self.new s) (λ e. ⟦<P as CoreMeaning>⟧.is_refused self.old label.now e × (self.new ≡ self.old)) }
     {
         match label {
-            Label::Act(name) => self.step_task(alloc, name),
+            Label::Act(name) => {
+                self.index_names();
+                self.step_task(alloc, name)
+            }
             Label::Hand(name, event) => self.step_event(alloc, name, event),
         }
     }

@@ -1,4 +1,4 @@
-ghost use Rattle.std.specs.Prelude.{◌≡◌, [], MatchResult, IfOk, IfSome, length, option_copied, slice_get};
+ghost use Rattle.std.specs.Prelude.{◌≡◌, [], MatchOption, MatchResult, IfOk, IfSome, length, option_copied, slice_get};
 ghost use Rattle.std.specs.Option.{option_map};
 ghost use Rattle.std.specs.List.{IsDistinct};
 ghost use Rattle.std.specs.List.Sorted.{IsStrictlySortedBy};
@@ -9,26 +9,33 @@ ghost use Rattle.lvish_picture.specs.Picture.{task_of};
 ghost use Rattle.lvish_core.specs.Tasks.{HasEachOnce, IsAt, Sets, SameTasks, standing, standing_at, standings, entries_at, task_names};
 
 use crate::stage::Stage;
-use indexmap::IndexMap;
-use indexmap::map::Iter;
 use lvish_lattice::Plain;
-use lvish_names::{TaskName, task_names_identical};
+use lvish_names::TaskName;
 use std::alloc::{AllocError, Global};
 use std::cmp::Ordering;
+use std::collections::HashMap;
 use std::hash::Hash;
 use std::marker::Model;
 
-/// The tasks of a core under their names.
+/// The tasks of a core, each under its name.
 ///
-/// A task keeps its index as long as there is the core.
+/// A task keeps its index as long as there is the core. A task that comes isn't hashed: a core whose
+/// tasks are found by their indices alone never needs it.
 pub(crate) struct Tasks<E: Eq + Hash, L> {
-    stages: IndexMap<TaskName<E>, Stage<L>>,
+    tasks: Vec<(TaskName<E>, Stage<L>)>,
+    // where the first `indexed` tasks stand; each task behind them is looked at
+    indices: HashMap<TaskName<E>, usize>,
+    indexed: usize,
 }
 
 // Written out, so that it is proved once, and not at each exit of a function that owns one.
 impl<E: Eq + Hash + Drop, L: Drop> Drop for Tasks<E, L> {
     fn drop(self) {
-        let Tasks { stages: _ } = self;
+        let Tasks {
+            tasks: _,
+            indices: _,
+            indexed: _,
+        } = self;
     }
 }
 
@@ -37,10 +44,13 @@ impl<E: Eq + Hash, L> Model for Tasks<E, L> {
     ghost use Rattle.lvish_calculus.specs.Calculus.{Task};
     ghost use Rattle.lvish_names.specs.Names.{Name};
     ghost use Rattle.lvish_core.specs.Tasks.{standings};
+    ghost use Rattle.lvish_core.specs.Indexed.{AreIndexed};
 
     ghost Value = { List (Name E × Task L) };
 
-    ghost view = { λ t. standings t.stages.entries };
+    ghost view = { λ t. standings t.tasks.items };
+
+    ghost invariant = { λ t. AreIndexed E.eq t.tasks.items t.indices t.indexed };
 }
 
 /// A task of a core: its name, and what runs under it.
@@ -57,7 +67,9 @@ impl<E: Plain + Hash, L: Drop> Tasks<E, L> {
         ensures { result ≡ [] }
     {
         Tasks {
-            stages: IndexMap::new(alloc),
+            tasks: Vec::new(alloc),
+            indices: HashMap::new(alloc),
+            indexed: 0,
         }
     }
 
@@ -65,22 +77,25 @@ impl<E: Plain + Hash, L: Drop> Tasks<E, L> {
     pub fn get(&self, name: &TaskName<E>) -> Option<&Stage<L>>
         ensures { task_of E.eq self.now name.now ≡ standing_at (option_copied result) }
     {
-        self.stages.get(name)
+        match self.find(name) {
+            Some((_index, stage)) => Some(stage),
+            None => None,
+        }
     }
 
-    /// The tasks, in any order.
-    pub fn iter(&self) -> Iter<'_, TaskName<E>, Stage<L>>
-        ensures all { standings result ≡ self.now }
+    /// The tasks, each at its index.
+    pub fn as_slice(&self) -> &[(TaskName<E>, Stage<L>)]
+        ensures all { standings result.now ≡ self.now }
         ensures once { IsDistinct (same_name E.eq) (task_names self.now) }
     {
-        self.stages.iter()
+        &self.tasks
     }
 
     /// No task is there under two indices.
     pub fn each_once(&self)
         ensures { HasEachOnce self.now }
     {
-        let _tasks = self.iter();
+        let _tasks = self.as_slice();
     }
 
     /// The tasks in the order of their names.
@@ -88,7 +103,7 @@ impl<E: Plain + Hash, L: Drop> Tasks<E, L> {
         ensures all { IfOk result (λ v. SameTasks E.eq self.now (standings (entries_at v.items))) }
         ensures ascending { IfOk result (λ v. IsStrictlySortedBy (name_cmp E.cmp) (task_names (standings (entries_at v.items)))) }
     {
-        let mut tasks: Vec<NamedStage<'_, E, L>> = self.stages.iter().collect(alloc)?;
+        let mut tasks = named_stages(&self.tasks, alloc)?;
         tasks.sort_unstable_by(by_name);
         Ok(tasks)
     }
@@ -98,10 +113,55 @@ impl<E: Plain + Hash, L: Drop> Tasks<E, L> {
         ensures task { task_of E.eq self.now name.now ≡ standing_at (option_map (λ f. f.1.now) result) }
         ensures at { IfSome result (λ f. IsAt self.now f.0 name.now) }
     {
-        task_names_identical::<E>();
-        match self.stages.get_full(name) {
-            Some((index, _name, stage)) => Some((index, stage)),
-            None => None,
+        let index = self.index_of(name)?;
+        let stage = self.stage_at(index)?;
+        Some((index, stage))
+    }
+
+    /// The index of the task of this name.
+    fn index_of(&self, name: &TaskName<E>) -> Option<usize>
+        ensures { MatchOption result (task_of E.eq self.now name.now ≡ Absent) (λ i. IsAt self.now i name.now) }
+    {
+        if let Some(index) = self.indices.get(name) {
+            return Some(*index);
+        }
+        for index in self.indexed..self.tasks.len() {
+            if self.tasks[index].0 == *name {
+                return Some(index);
+            }
+        }
+        None
+    }
+
+    /// Makes the index whole, so that look-ups by name don't look at each task. Where there is no room
+    /// for more of it, it goes as far as there is.
+    pub fn index_names(&mut self)
+        ensures { self.new ≡ self.old }
+    {
+        for _ in self.indexed..self.tasks.len() {
+            if !self.index_next() {
+                return;
+            }
+        }
+    }
+
+    /// Adds the first task that isn't there to the index. Answers false where there is none, or no room
+    /// for it.
+    fn index_next(&mut self) -> bool
+        ensures { self.new ≡ self.old }
+    {
+        let Some(entry) = self.tasks.get(self.indexed) else {
+            return false;
+        };
+        let Ok(name) = entry.0.copy() else {
+            return false;
+        };
+        match self.indices.insert(name, self.indexed) {
+            Ok(_) => {
+                self.indexed += 1;
+                true
+            }
+            Err(_) => false,
         }
     }
 
@@ -110,8 +170,8 @@ impl<E: Plain + Hash, L: Drop> Tasks<E, L> {
     pub fn replace_at(&mut self, index: usize, stage: Stage<L>)
         ensures { (t : Name E) → IsAt self.old index t → Sets E.eq self.old t (standing stage) self.new }
     {
-        if let Some(place) = self.stages.get_index_mut(index) {
-            *place = stage;
+        if let Some(entry) = self.tasks.get_mut(index) {
+            entry.1 = stage;
         }
     }
 
@@ -119,7 +179,7 @@ impl<E: Plain + Hash, L: Drop> Tasks<E, L> {
     pub fn len(&self) -> usize
         ensures { result ≡ length self.now }
     {
-        self.stages.len()
+        self.tasks.len()
     }
 
     /// What runs under the name of the task at the index.
@@ -128,16 +188,16 @@ impl<E: Plain + Hash, L: Drop> Tasks<E, L> {
         ensures task { (t : Name E) → IsAt self.now index t → task_of E.eq self.now t ≡ standing_at (option_copied result) }
         ensures at { IfSome result (λ _. (t : Name E) × IsAt self.now index t) }
     {
-        let (_name, stage) = self.stages.get_index(index)?;
-        Some(stage)
+        let entry = self.tasks.get(index)?;
+        Some(&entry.1)
     }
 
     /// The name of the task at the index.
     pub fn name_at(&self, index: usize) -> Option<&TaskName<E>>
         ensures { option_copied result ≡ slice_get (task_names self.now) index }
     {
-        match self.stages.get_index(index) {
-            Some((name, _stage)) => Some(name),
+        match self.tasks.get(index) {
+            Some(entry) => Some(&entry.0),
             None => None,
         }
     }
@@ -146,17 +206,39 @@ impl<E: Plain + Hash, L: Drop> Tasks<E, L> {
     pub fn into_names(self, alloc: Global) -> Result<Vec<TaskName<E>>, AllocError>
         ensures { IfOk result (λ v. v.items ≡ task_names self) }
     {
-        let Tasks { stages } = self;
-        let names: Vec<TaskName<E>> = stages.into_keys().collect(alloc)?;
+        let Tasks {
+            tasks,
+            indices: _,
+            indexed: _,
+        } = self;
+        let mut names = Vec::with_capacity(alloc, tasks.len())?;
+        for entry in tasks {
+            names.push(entry.0)?;
+        }
         Ok(names)
     }
 
-    /// Adds a task behind the others, or replaces the one that has its name.
-    pub fn insert(&mut self, name: TaskName<E>, stage: Stage<L>) -> Result<(), AllocError>
+    /// Adds a task behind the others.
+    pub fn push(&mut self, name: TaskName<E>, stage: Stage<L>) -> Result<(), AllocError>
+        requires absent { task_of E.eq self.old name ≡ Absent }
         ensures set { MatchResult result (λ _. Sets E.eq self.old name (standing stage) self.new) (λ _. self.new ≡ self.old) }
         ensures added { IfOk result (λ _. task_of E.eq self.old name ≡ Absent → IsAt self.new (length self.old) name) }
     {
-        self.stages.insert(name, stage)?;
+        self.tasks.push((name, stage))?;
         Ok(())
     }
+}
+
+/// References to the names of these tasks and to what runs under them.
+fn named_stages<'t, E, L>(
+    tasks: &'t [(TaskName<E>, Stage<L>)],
+    alloc: Global,
+) -> Result<Vec<NamedStage<'t, E, L>>, AllocError>
+    ensures { IfOk result (λ v. entries_at v.items ≡ tasks.now) }
+{
+    let mut named = Vec::with_capacity(alloc, tasks.len())?;
+    for entry in tasks {
+        named.push((&entry.0, &entry.1))?;
+    }
+    Ok(named)
 }

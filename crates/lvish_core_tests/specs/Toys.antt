@@ -87,6 +87,14 @@ climbing_asks low high l =
 abbrev pub climbing : MaxCounter → MaxCounter → Functions MaxCounter ℤ Levels ℤ At
 climbing low high = record { variables = 1; pool_variable = λ k. None; start = (0, pos 0); start_handler = λ k e. (0, pos 0); request = climbing_asks low high; at = λ l. l; resume = gone_on }
 
+-- each task forks below place 6 a task that starts at the next place
+abbrev pub spreading_asks : At → Request MaxCounter Levels At
+spreading_asks l = if nat_lt l.0 6 then Fork (l.0 + 1, pos 0) else End
+
+-- one counter, and no pool
+abbrev pub spreading : Functions MaxCounter ℤ Levels ℤ At
+spreading = record { variables = 1; pool_variable = λ k. None; start = (0, pos 0); start_handler = λ k e. (0, pos 0); request = spreading_asks; at = λ l. l; resume = gone_on }
+
 -- ---- their laws
 
 -- what a handler's task asks for
@@ -191,3 +199,6 @@ climbing_is_program low high =
   where
     f : Functions MaxCounter ℤ Levels ℤ At
     f = climbing low high
+
+pub spreading_is_program : IsProgram counters.joined counters.Member spreading
+spreading_is_program = are_there _ _ spreading (λ k v e. no_pools k v e) none_in_a_row (λ l. either _ _ spreading (nat_lt l.0 6) _ _ tt tt) (λ l. refl)

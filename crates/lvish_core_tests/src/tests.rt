@@ -7,6 +7,7 @@ mod bench;
 mod climbing;
 mod copying;
 mod freezing;
+mod spreading;
 
 use bench::Call;
 use lvish_calculus::{Label, Reply};

@@ -233,7 +233,22 @@ impl<E: Ord> Ord for TaskName<E> {
 
     ghost matches_eq = { name_ties E.cmp E.matches_eq };
 
+    #[inline(always)]
     fn cmp(&self, other: &TaskName<E>) -> Ordering {
+        // `main` alone has no link.
+        match (&self.path, &other.path) {
+            (None, None) => Ordering::Equal,
+            _ => self.order(other),
+        }
+    }
+}
+
+impl<E: Ord> TaskName<E> {
+    /// The order of two names, by their lengths and then part by part from the first.
+    #[inline(never)]
+    fn order(&self, other: &TaskName<E>) -> Ordering
+        ensures { result ≡ name_cmp E.cmp self.now other.now }
+    {
         let (own, others) = (self.link(), other.link());
         let (depth, others_depth) = (self.len(), other.len());
         match depth.cmp(&others_depth) {

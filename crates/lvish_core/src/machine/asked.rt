@@ -31,6 +31,22 @@ impl<'p, P: Program> Core<'p, P> {
         ensures stepped { MatchResult result (λ s. ⟦<P as CoreMeaning>⟧.is_step self.old (Act name.now) self.new s.0) (λ e. ⟦<P as CoreMeaning>⟧.is_refused self.old (Act name.now) e × (self.new ≡ self.old)) }
         ensures moved { IfOk result (λ s. ⟦<P as CoreMeaning>⟧.is_moved self.old (Act name.now) s.1) }
     {
+        self.index_names();
+        self.step_found(alloc, name, asks)
+    }
+
+    /// The same, with the task looked up in the index as it stands.
+    fn step_found(
+        &mut self,
+        alloc: Global,
+        name: &TaskName<<P::Lat as Lattice>::Event>,
+        asks: &Asks<P::Lat, <P::Lat as Reads>::Read, P::Local>,
+    ) -> Result<(Stepped, Moved<<P::Lat as Lattice>::Event, P::Local>), StepFault>
+        requires request { ⟦<P as CoreMeaning>⟧.is_its_request self.old name.now asks.now.request }
+        requires at { ⟦<P as CoreMeaning>⟧.is_its_place self.old name.now asks.now.at }
+        ensures stepped { MatchResult result (λ s. ⟦<P as CoreMeaning>⟧.is_step self.old (Act name.now) self.new s.0) (λ e. ⟦<P as CoreMeaning>⟧.is_refused self.old (Act name.now) e × (self.new ≡ self.old)) }
+        ensures moved { IfOk result (λ s. ⟦<P as CoreMeaning>⟧.is_moved self.old (Act name.now) s.1) }
+    {
         let Some(
             (
                 index,

@@ -50,7 +50,7 @@ impl<'p, P: Program> Core<'p, P> {
         };
         let next = TaskNumbers { forks, ..numbers };
         let (stage, own) = resumed(self.program, alloc, at, Reply::Done, next)?;
-        self.tasks.insert(started.name, started.stage)?;
+        self.tasks.push(started.name, started.stage)?;
         start_at(&mut self.handlers, place);
         self.running += 1;
         close(

@@ -78,6 +78,7 @@ impl<'p, P: Program> Core<'p, P> {
         ensures { Hands (⟦<P as Meaning>⟧.machine self.old.program) self.old name.now event self.new result }
     {
         lawful::<P>();
+        handed_next::<P>();
         hand_kept::<P>();
         handlers_are_held::<P>();
         counts_kept::<P>();
@@ -90,7 +91,7 @@ impl<'p, P: Program> Core<'p, P> {
             name: task.copy()?,
             local: self.program.copy_local(alloc, &local)?,
         };
-        self.tasks.insert(task, Stage::started(local))?;
+        self.tasks.push(task, Stage::started(local))?;
         hand_at(&mut self.handlers, &self.variables, name, place, at);
         self.running += 1;
         self.steps += 1;

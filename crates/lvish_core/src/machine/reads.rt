@@ -152,8 +152,8 @@ impl<'p, P: Program> Core<'p, P> {
         ensures { IfOk result (λ b. IsTrue b ↔ NoneIsReady (⟦<P as Meaning>⟧.machine self.now.program) self.now) }
     {
         lawful::<P>();
-        for (_task, stage) in self.tasks.iter() {
-            if self.is_at_ready(alloc, stage)? {
+        for entry in self.tasks.as_slice() {
+            if self.is_at_ready(alloc, &entry.1)? {
                 return Ok(false);
             }
         }

@@ -37,6 +37,14 @@ impl<'p, P: Program> Core<'p, P> {
         self.tasks.each_once();
     }
 
+    /// Makes the index of the tasks' names whole, so that the calls that find a task by its name don't
+    /// look at each task that came since. Where there is no room for it, they still find each task.
+    pub fn index_names(&mut self)
+        ensures { self.new ≡ self.old }
+    {
+        self.tasks.index_names();
+    }
+
     /// The task's local state; `None` where it has ended or isn't there.
     pub fn local_of(&self, name: &TaskName<<P::Lat as Lattice>::Event>) -> Option<&P::Local>
         ensures { option_copied result ≡ ⟦<P as CoreMeaning>⟧.local_in self.now name.now }

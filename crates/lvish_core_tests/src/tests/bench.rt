@@ -281,6 +281,63 @@ where
         writeln!(text, " |{}", self.seen_at_last(alloc)?)?;
         Ok(text)
     }
+
+    /// The step with the label in the middle of those that the core can take.
+    fn middle(
+        &self,
+        alloc: Global,
+        asked: bool,
+    ) -> Result<Option<Call<<P::Lat as Lattice>::Event>>, AllocError> {
+        let labels = self.core.labels(alloc)?;
+        match labels.get(labels.len() / 2) {
+            Some(Label::Act(name)) if asked => Ok(Some(Call::Asked(name.copy()?))),
+            Some(Label::Act(name)) => Ok(Some(Call::Step(Label::Act(name.copy()?)))),
+            Some(Label::Hand(name, _)) => Ok(Some(Call::Hand(name.copy()?))),
+            None => Ok(None),
+        }
+    }
+
+    /// Each task is found by its name where it stands.
+    fn finds_each(&self, rt: &impl Abort) {
+        for index in 0..self.core.tasks() {
+            let found = self.core.numbers_at(index);
+            let Some(name) = self.core.name_at(index) else {
+                panic!(rt; "no task stands at {index}")
+            };
+            let standing = match self.core.standing_of(name) {
+                Some((_, numbers)) => Some(numbers),
+                None => None,
+            };
+            assert_eq!(rt; standing, found);
+            assert_eq!(rt; self.core.local_of(name).is_some(), found.is_some());
+        }
+    }
+}
+
+/// A run to its end, of at most so many steps: how many tasks there are then. After each step each task
+/// is found by its name: the one that the step made behind those in the index, the others in it.
+pub fn run_to_the_end<P: Program>(
+    rt: &impl Abort,
+    alloc: Global,
+    program: &P,
+    most: u64,
+) -> Result<usize, AllocError>
+where
+    <P::Lat as Lattice>::Event: Numbered,
+{
+    let mut bench = Bench::new_at_last(alloc, program)?;
+    for step in 0..most {
+        let call = match bench.middle(alloc, step % 2 == 0) {
+            Ok(call) => call,
+            Err(_) => bench.middle(alloc, step % 2 == 0)?,
+        };
+        let Some(call) = call else { break };
+        let _line = bench.line(rt, alloc, &call)?;
+        bench.finds_each(rt);
+    }
+    bench.core.index_names();
+    bench.finds_each(rt);
+    Ok(bench.core.tasks())
 }
 
 /// The run by these calls, from a new core.

@@ -10,21 +10,27 @@ hand_at-requires-clause-fits g c =
 pub hand_at-requires-clause-there : goal.hand_at-requires-clause-there
 hand_at-requires-clause-there g c = rw c.deref_mut.ensures.value (rw (← c.self.view_is) at c.requires.at)
 
+pub push-requires : goal.push-requires
+push-requires g c = record {
+  absent = rw c.in_ok-task.ensures
+      (not_there (c.lawful.ensures c.self.inside.program.now) c.self.invariant (g.met.P.Program.lawful c.self.inside.program.now).known (rw (← c.self.view_is) at c.requires.handing) (c.handlers_are_held.ensures.posts c.self.inside.program.now) (c.handed_next.ensures.next c.self.inside.program.now) (c.names_are_new.ensures.tasks c.self.inside.program.now));
+}
+
 pub invariant_of-self-2 : goal.invariant_of-self-2
 invariant_of-self-2 g c =
-    let made = rw (c.started.ensures, c.in_ok-local.ensures, c.in_ok-task.ensures) at c.in_ok-insert.ensures.set in
+    let made = rw (c.started.ensures, c.in_ok-local.ensures, c.in_ok-task.ensures) at c.in_ok-push.ensures.set in
     let handed = handed_written c.deref.ensures.value c.deref_mut.ensures.value c.self.inside.handlers.ok.0 c.hand_at.ensures in
+    let absent = not_there (c.lawful.ensures c.self.inside.program.now) c.self.invariant (g.met.P.Program.lawful c.self.inside.program.now).known (rw (← c.self.view_is) at c.requires.handing) (c.handlers_are_held.ensures.posts c.self.inside.program.now) (c.handed_next.ensures.next c.self.inside.program.now) (c.names_are_new.ensures.tasks c.self.inside.program.now) in
     (handing (c.lawful.ensures c.self.inside.program.now) c.self.invariant (g.met.P.Program.lawful c.self.inside.program.now).known (rw (← c.self.view_is) at c.requires.handing) (rw (← c.self.view_is) at c.requires.room) (c.hand_kept.ensures c.self.inside.program.now) (c.counts_kept.ensures.hand c.self.inside.program.now)
-    (c.handlers_are_held.ensures.posts c.self.inside.program.now) (c.counts_follow.ensures.start c.self.inside.program.now) (c.names_are_new.ensures.tasks c.self.inside.program.now) made handed (rw c.in_ok-task.ensures at c.in_ok-insert.ensures.added)).1
+    (c.handlers_are_held.ensures.posts c.self.inside.program.now) (c.counts_follow.ensures.start c.self.inside.program.now) absent made handed (rw c.in_ok-task.ensures at c.in_ok-push.ensures.added)).1
 
 pub returns : goal.returns
 returns g c =
-    let made = rw (c.started.ensures, c.in_ok-local.ensures, c.in_ok-task.ensures) at c.in_ok-insert.ensures.set in
+    let made = rw (c.started.ensures, c.in_ok-local.ensures, c.in_ok-task.ensures) at c.in_ok-push.ensures.set in
     let handed = handed_written c.deref.ensures.value c.deref_mut.ensures.value c.self.inside.handlers.ok.0 c.hand_at.ensures in
-    let there = not_there (c.lawful.ensures c.self.inside.program.now) c.self.invariant (g.met.P.Program.lawful c.self.inside.program.now).known (rw (← c.self.view_is) at c.requires.handing) (rw (← c.self.view_is) at c.requires.room) (c.hand_kept.ensures c.self.inside.program.now) (c.counts_kept.ensures.hand c.self.inside.program.now)
-    (c.handlers_are_held.ensures.posts c.self.inside.program.now) (c.counts_follow.ensures.start c.self.inside.program.now) (c.names_are_new.ensures.tasks c.self.inside.program.now) made handed in
+    let absent = not_there (c.lawful.ensures c.self.inside.program.now) c.self.invariant (g.met.P.Program.lawful c.self.inside.program.now).known (rw (← c.self.view_is) at c.requires.handing) (c.handlers_are_held.ensures.posts c.self.inside.program.now) (c.handed_next.ensures.next c.self.inside.program.now) (c.names_are_new.ensures.tasks c.self.inside.program.now) in
     rw (← c.self.view_is, c.in_ok-copy_local.ensures, c.in_ok-copy.ensures, c.in_ok-local.ensures, c.in_ok-task.ensures) (
       (handing (c.lawful.ensures c.self.inside.program.now) c.self.invariant (g.met.P.Program.lawful c.self.inside.program.now).known (rw (← c.self.view_is) at c.requires.handing) (rw (← c.self.view_is) at c.requires.room) (c.hand_kept.ensures c.self.inside.program.now) (c.counts_kept.ensures.hand c.self.inside.program.now)
-          (c.handlers_are_held.ensures.posts c.self.inside.program.now) (c.counts_follow.ensures.start c.self.inside.program.now) (c.names_are_new.ensures.tasks c.self.inside.program.now) made handed (rw c.in_ok-task.ensures at c.in_ok-insert.ensures.added)).0,
-      (rw c.in_ok-task.ensures at c.in_ok-insert.ensures.added) there,
+          (c.handlers_are_held.ensures.posts c.self.inside.program.now) (c.counts_follow.ensures.start c.self.inside.program.now) absent made handed (rw c.in_ok-task.ensures at c.in_ok-push.ensures.added)).0,
+      (rw c.in_ok-task.ensures at c.in_ok-push.ensures.added) absent,
     )

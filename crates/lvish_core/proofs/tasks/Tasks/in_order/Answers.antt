@@ -1,4 +1,4 @@
-use Rattle.std.proofs.Common.{◌≡◌, rules, ap, ◌∙◌, is_lt}
+use Rattle.std.proofs.Common.{◌≡◌, rules, ◌∙◌, is_lt}
 use Rattle.std.proofs.lemmas.List.MinMax.{ranks_by}
 use Rattle.std.proofs.lemmas.Fn.{always_returns_same}
 use Rattle.lvish_names.specs.NameOrder.{name_cmp}
@@ -8,19 +8,17 @@ use Rattle.lvish_core.specs.Tasks.{entries_at}
 use Rattle.lvish_core.proofs.Ordered.{sorted_tasks, sorted_names}
 use Rattle.lvish_core.proofs.tasks.Tasks.in_order.Goals as goal
 
--- what is collected are the map's entries
-all : (g : _) (c : goal.After-sort_unstable_by g) → entries_at c.in_ok-tasks.tasks.items ≡ c.self.inside.stages.entries
-all g c =
-    let run = c.in_ok-tasks.ensures.runs tt in
-    ap entries_at run.3.0 ∙ (c.iter.ensures.runs run.0 run.0.seen).4 run.2 ∙ run.1 ∙ c.iter.ensures.rest
+-- what is listed are the tasks
+all : (g : _) (c : goal.After-sort_unstable_by g) → entries_at c.in_ok-tasks.tasks.items ≡ c.self.inside.tasks.items
+all g c = c.in_ok-tasks.ensures ∙ c.deref.ensures.value
 
 pub returns-clause-all : goal.returns-clause-all
 returns-clause-all g c = rw (← c.self.view_is)
-    (sorted_tasks g.E.PartialEq.eq (name_equiv g.met.E.Eq.laws) c.self.inside.stages.entries c.iter.ensures.unique c.in_ok-tasks.tasks.items c.sort_unstable_by.new.self.items (all g c) c.sort_unstable_by.ensures.permutation
+    (sorted_tasks g.E.PartialEq.eq (name_equiv g.met.E.Eq.laws) c.self.inside.tasks.items c.self.invariant.once c.in_ok-tasks.tasks.items c.sort_unstable_by.new.self.items (all g c) c.sort_unstable_by.ensures.permutation
     (same_name-true g.met.E.Plain.identical))
 
 pub returns-clause-ascending : goal.returns-clause-ascending
 returns-clause-ascending g c =
-    sorted_names g.E.PartialEq.eq (name_equiv g.met.E.Eq.laws) c.self.inside.stages.entries c.iter.ensures.unique c.in_ok-tasks.tasks.items c.sort_unstable_by.new.self.items (all g c) c.sort_unstable_by.ensures.permutation
+    sorted_names g.E.PartialEq.eq (name_equiv g.met.E.Eq.laws) c.self.inside.tasks.items c.self.invariant.once c.in_ok-tasks.tasks.items c.sort_unstable_by.new.self.items (all g c) c.sort_unstable_by.ensures.permutation
     g.E.Ord.cmp (name_total g.met.E.Ord.total) (name_ties g.E.Ord.cmp g.met.E.Ord.matches_eq)
     (c.sort_unstable_by.ensures.sorted (λ x y. is_lt (name_cmp g.E.Ord.cmp x.0.now y.0.now)) (ranks_by (name_total g.met.E.Ord.total) (λ r. r.0.now)) (always_returns_same _ _ _ (λ a r after called. search rules)))

@@ -5,7 +5,7 @@ use Rattle.std.specs.Ordering.{ordering_then}
 use Rattle.lvish_names.specs.NameOrder.{name_cmp}
 use Rattle.lvish_names.specs.Path.{path_parts}
 use Rattle.lvish_names.proofs.Paths.{name_cmp-shorter, name_cmp-longer}
-use Rattle.lvish_names.proofs.task_name.TaskNameOrd.cmp.Goals as goal
+use Rattle.lvish_names.proofs.task_name.TaskName.order.Goals as goal
 
 pub returns-in-Less : goal.returns-in-Less
 returns-in-Less g c =

@@ -1,0 +1,5 @@
+use Rattle.lvish_core.proofs.Indexing.{none_indexed}
+use Rattle.lvish_core.proofs.tasks.Tasks.new.Goals as goal
+
+pub invariant_of-result : goal.invariant_of-result
+invariant_of-result g c = none_indexed g.E.PartialEq.eq _ _ c.new.ensures.items c.new-2.ensures.empty
