@@ -10,4 +10,5 @@ mod Strides
 mod Pairs
 mod Left
 mod ByNumbers
+mod Changes
 mod AtOnce

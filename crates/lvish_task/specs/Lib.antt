@@ -1,5 +1,6 @@
 pub mod Vocabulary
 pub mod Remaining
+pub mod Changes
 pub mod Numbers
 pub mod Below
 pub mod Arithmetic

@@ -7,3 +7,4 @@ use Rattle.lvish_task.specs.declared.values.Numbers.TheVariants as numbers
 abbrev pub numbers_in : Numbers → List ℤ
 numbers_in (numbers.Few ns) = ns
 numbers_in (numbers.Many ns) = ns.items
+numbers_in (numbers.Shared ns) = ns

@@ -28,7 +28,7 @@ pub fn value_of(values: &[i64], operand: Operand) -> i64
 }
 
 /// The values of operands in their order.
-pub fn values_of(alloc: Global, values: &[i64], operands: &[Operand]) -> Result<Values, AllocError>
+pub fn values_of(alloc: Global, values: &Values, operands: &[Operand]) -> Result<Values, AllocError>
     ensures { IfOk result (λ v. v ≡ map (operand_value values.now) operands.now) }
 {
     if operands.len() > IN_PLACE {
@@ -36,18 +36,22 @@ pub fn values_of(alloc: Global, values: &[i64], operands: &[Operand]) -> Result<
     }
     let mut found = InPlace::new();
     for operand in operands {
-        found.push(value_of(values, *operand));
+        found.push(values.operand(*operand));
     }
     Ok(Values::few(found))
 }
 
 /// The values of many operands in their order.
-fn many_values_of(alloc: Global, values: &[i64], operands: &[Operand]) -> Result<Values, AllocError>
+fn many_values_of(
+    alloc: Global,
+    values: &Values,
+    operands: &[Operand],
+) -> Result<Values, AllocError>
     ensures { IfOk result (λ v. v ≡ map (operand_value values.now) operands.now) }
 {
     let mut found = Vec::with_capacity(alloc, operands.len())?;
     for operand in operands {
-        found.push(value_of(values, *operand))?;
+        found.push(values.operand(*operand))?;
     }
     Ok(Values::many(found))
 }
@@ -77,28 +81,28 @@ fn side_kind(kind: SimpleKind) -> Kind
 }
 
 /// Where in its variable a target is, where the locals have these values.
-pub fn place_of(values: &[i64], target: Target) -> Place
+pub fn place_of(values: &Values, target: Target) -> Place
     ensures { result ≡ target_place values.now target }
 {
     match target {
         Target::Whole(SimpleKind::Cell) => Place::Cell,
         Target::Whole(SimpleKind::Set) => Place::Set,
         Target::Whole(SimpleKind::Max) => Place::Max,
-        Target::Entry(key) => Place::Key(value_of(values, key)),
+        Target::Entry(key) => Place::Key(values.operand(key)),
         Target::Side(Side::First, kind) => Place::Side(1, side_kind(kind)),
         Target::Side(Side::Second, kind) => Place::Side(2, side_kind(kind)),
-        Target::Amount(key) => Place::Amount(value_of(values, key)),
+        Target::Amount(key) => Place::Amount(values.operand(key)),
         Target::Total => Place::Total,
     }
 }
 
 /// What a get waits for, where the locals have these values.
-pub fn test_of(alloc: Global, values: &[i64], wanted: &Wanted) -> Result<Test, AllocError>
+pub fn test_of(alloc: Global, values: &Values, wanted: &Wanted) -> Result<Test, AllocError>
     ensures { IfOk result (λ t. t ≡ wanted_test values.now wanted.now) }
 {
     match wanted {
         Wanted::Any => Ok(Test::Any),
         Wanted::In(numbers) => Ok(Test::In(Items::new(numbers.as_slice().to_vec(alloc)?))),
-        Wanted::At(operand) => Ok(Test::At(value_of(values, *operand))),
+        Wanted::At(operand) => Ok(Test::At(values.operand(*operand))),
     }
 }

@@ -1,5 +1,5 @@
 ghost use Rattle.std.specs.Prelude.{◌≡◌, ◌<◌, ◌≤◌, ◌++◌, ◌∷◌, ◌-◌, [], length, replicate, pos};
-ghost use Rattle.std.specs.List.{slice_set};
+ghost use Rattle.std.specs.List.{slice_index_or, slice_set};
 ghost use Rattle.lvish_task.specs.Jumps.{AllLand};
 ghost use Rattle.lvish_task.specs.Stride.{KeepsAsking};
 
@@ -35,6 +35,17 @@ impl Model for InPlace {
     ghost view = { λ p. take p.count p.numbers };
 
     ghost invariant = { λ p. (p.count ≤ IN_PLACE) × (drop p.count p.numbers ≡ replicate (IN_PLACE - p.count) (pos 0)) };
+}
+
+/// The value of a local, 0 where there is no such local.
+#[inline(always)]
+pub(crate) fn value_at(values: &[i64], local: usize) -> i64
+    ensures { result ≡ slice_index_or values.now local (pos 0) }
+{
+    match values.get(local) {
+        Some(value) => *value,
+        None => 0,
+    }
 }
 
 /// Gives a local a value; nothing where there is no such local.

@@ -3,6 +3,7 @@
 
 mod arithmetic;
 mod at_once;
+mod beside;
 mod equal;
 mod evaluate;
 mod fits;
@@ -18,6 +19,7 @@ mod remaining;
 mod resume;
 mod run;
 mod script_code;
+mod shared_numbers;
 mod stack;
 mod states;
 mod step;

@@ -3,7 +3,6 @@ ghost use Rattle.lvish_calculus.specs.declared.request.Request.TheVariants.{End}
 ghost use Rattle.lvish_task.specs.Run.{AsksBy, answered, asked, resumed, resumed_top, run, stack_fits};
 
 use crate::at_once::{read_at_once, state_at_once};
-use crate::evaluate::value_of;
 use crate::frame::Frame;
 use crate::limits::TURNS;
 use crate::local::Local;
@@ -28,10 +27,12 @@ impl Frame {
         ensures { OnOk result (self.new ≡ answered self.old action.now reply) }
     {
         match (action, &reply) {
-            (Action::Get(local, _, _, _), Reply::Answer(n)) => self.values.set(*local, *n),
+            (Action::Get(local, _, _, _), Reply::Answer(n)) => {
+                self.values.set(alloc, *local, *n)?;
+            }
             (Action::Freeze(local, _, _, each), Reply::Content(state)) => {
                 let events = events_below(alloc, state)?;
-                self.values.set(*local, events.len() as i64);
+                self.values.set(alloc, *local, events.len() as i64)?;
                 if let Some(procedure) = each {
                     self.each = *procedure;
                     self.events = Remaining::of(alloc, events)?;
@@ -113,10 +114,10 @@ impl ScriptCode {
     {
         match instruction {
             Instruction::Ask(action) => {
-                let values = at.stack().top.values.as_slice();
+                let values = &at.stack().top.values;
                 match action {
                     Action::Put(variable, target, operand) => {
-                        let n = value_of(values, *operand);
+                        let n = values.operand(*operand);
                         if let Some(state) = state_at_once(alloc, values, *target, n) {
                             let request = Request::Put(*variable, state);
                             return Ok(Asks { request, at });

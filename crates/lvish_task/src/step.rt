@@ -1,9 +1,8 @@
-ghost use Rattle.std.specs.Prelude.{◌≡◌, ◌<◌, ◌+◌, ◌-◌, ◌^◌, IfOk, IfSome};
+ghost use Rattle.std.specs.Prelude.{◌≡◌, ◌<◌, ◌+◌, ◌-◌, ◌^◌, IfOk, IfSome, OnOk};
 ghost use Rattle.lvish_task.specs.Run.{AsksBy, operand_value, expression_value, assigned, placed, instruction_turn, flat_turn, requested, moved, run};
 ghost use Rattle.lvish_task.specs.Jumps.{HasPlaces};
 ghost use Rattle.lvish_task.specs.Meaning.{chosen};
 
-use crate::evaluate::evaluate;
 use crate::script_code::ScriptCode;
 use crate::stack::Stack;
 use crate::stride::choose;
@@ -14,19 +13,28 @@ use std::alloc::{AllocError, Global};
 
 impl Stack {
     /// A `let`, which fails or gives its local a value.
-    fn assign(&mut self, local: usize, expression: &Expression) -> Option<Ask>
+    ///
+    /// Statements that come here from numbers that copies share are many, or change many of them.
+    /// So they are made its own first.
+    fn assign(
+        &mut self,
+        alloc: Global,
+        local: usize,
+        expression: &Expression,
+    ) -> Result<Option<Ask>, AllocError>
         requires left { 0 < self.old.left }
         requires within { self.old.top.place + 1 < 2 ^ 64 }
-        ensures asks { result ≡ requested (assigned self.old.top self.old.below local (expression_value self.old.top.values expression.now)) }
-        ensures moves { self.new ≡ moved self.old (assigned self.old.top self.old.below local (expression_value self.old.top.values expression.now)) }
+        ensures asks { IfOk result (λ r. r ≡ requested (assigned self.old.top self.old.below local (expression_value self.old.top.values expression.now))) }
+        ensures moves { OnOk result (self.new ≡ moved self.old (assigned self.old.top self.old.below local (expression_value self.old.top.values expression.now))) }
     {
-        match evaluate(self.top.values.as_slice(), expression) {
-            Err(kind) => Some(Request::Fault(kind)),
+        match self.top.values.evaluate(expression) {
+            Err(kind) => Ok(Some(Request::Fault(kind))),
             Ok(value) => {
+                self.top.values.own(alloc)?;
+                self.top.values.set(alloc, local, value)?;
                 self.top.place += 1;
-                self.top.values.set(local, value);
                 self.left -= 1;
-                None
+                Ok(None)
             }
         }
     }
@@ -36,7 +44,7 @@ impl Stack {
         requires { 0 < self.old.left }
         ensures { self.new ≡ record { left = self.old.left - 1; top = placed self.old.top (chosen (operand_value self.old.top.values operand) if_not if_zero); below = self.old.below } }
     {
-        self.top.place = choose(self.top.values.as_slice(), operand, if_not, if_zero);
+        self.top.place = choose(self.top.values.operand(operand), if_not, if_zero);
         self.left -= 1;
     }
 }
@@ -58,10 +66,10 @@ impl ScriptCode {
         match instruction {
             Instruction::Ask(action) => {
                 let mut request = Request::End;
-                self.ask_for(alloc, local.top.values.as_slice(), action, &mut request)?;
+                self.ask_for(alloc, &local.top.values, action, &mut request)?;
                 Ok(Some(request))
             }
-            Instruction::Let(x, expression) => Ok(local.assign(*x, expression)),
+            Instruction::Let(x, expression) => local.assign(alloc, *x, expression),
             Instruction::Call(procedure, operands) => {
                 self.call(alloc, local, *procedure, operands.as_slice())
             }
@@ -111,12 +119,13 @@ impl ScriptCode {
     }
 
     /// Runs local statements up to the next request, for as many as are left.
+    ///
+    /// The first is one that a stride doesn't take, or leaves.
     #[inline(never)]
     pub(crate) fn run(&self, alloc: Global, local: &mut Stack) -> Result<Ask, AllocError>
         ensures request { IfOk result (λ r. r ≡ (run self.now.flat local.old.left local.old.top local.old.below).request) }
         ensures at { IfOk result (λ _. local.new ≡ (run self.now.flat local.old.left local.old.top local.old.below).at) }
     {
-        self.stride(local);
         self.settle(alloc, local)?;
         while local.left > 0 {
             if let Some(request) = self.turn(alloc, local)? {

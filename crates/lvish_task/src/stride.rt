@@ -34,16 +34,12 @@ pub fn next(instructions: &[Instruction], place: usize) -> Option<&Instruction>
     at(instructions, place)
 }
 
-/// The one place where the operand isn't 0, and the other where it is.
+/// The one place where the value isn't 0, and the other where it is.
 #[inline(always)]
-pub fn choose(values: &[i64], operand: Operand, if_not: usize, if_zero: usize) -> usize
-    ensures { result ≡ chosen (operand_value values.now operand) if_not if_zero }
+pub fn choose(value: i64, if_not: usize, if_zero: usize) -> usize
+    ensures { result ≡ chosen value if_not if_zero }
 {
-    if value_of(values, operand) == 0 {
-        if_zero
-    } else {
-        if_not
-    }
+    if value == 0 { if_zero } else { if_not }
 }
 
 /// A `let`. `None` where it fails; then nothing is changed.
@@ -76,7 +72,7 @@ fn take_let(
 // jump through a table, which takes longer than most of them wherever the processor can't foresee it.
 
 /// Whether an instruction is a test.
-fn is_test(instruction: &Instruction) -> bool
+pub fn is_test(instruction: &Instruction) -> bool
     ensures { result ≡ is_test instruction.now }
 {
     matches!(
@@ -119,7 +115,7 @@ fn take_test(values: &[i64], test: &Instruction, from: Progress) -> Progress
 
 /// Passes a jump. `None` where none stands there.
 #[inline(always)]
-fn pass(instruction: &Instruction, from: Progress) -> Option<Progress>
+pub fn pass(instruction: &Instruction, from: Progress) -> Option<Progress>
     requires { HasPlaces from.place instruction.now }
     ensures { result ≡ jump_taken from instruction.now }
 {
@@ -168,6 +164,22 @@ pub(crate) fn strides(instructions: &[Instruction], values: &mut [i64], from: Pr
         }
     }
     reached
+}
+
+/// The same, of many values.
+///
+/// It isn't inlined, so that its loop has all registers to itself.
+#[inline(never)]
+pub(crate) fn strides_apart(
+    instructions: &[Instruction],
+    values: &mut [i64],
+    from: Progress,
+) -> Progress
+    requires { AllLand instructions.now }
+    ensures same { KeepsAsking instructions.now from values.old result values.new }
+    ensures fewer { result.left ≤ from.left }
+{
+    strides(instructions, values, from)
 }
 
 impl ScriptCode {

@@ -2,7 +2,7 @@ ghost use Rattle.std.specs.Prelude.{◌≡◌, ◌<◌, ◌-◌, ◌∷◌, [], 
 ghost use Rattle.lvish_task.specs.Run.{Asks, operand_value, callee, started, called, placed, action_turn, instruction_turn, instruction, flat_turn, frame_turn, requested, moved};
 ghost use Rattle.lvish_compound.specs.declared.event.Event.{Event};
 
-use crate::evaluate::{evaluate, place_of, test_of, value_of, values_of};
+use crate::evaluate::{place_of, test_of, values_of};
 use crate::frame::Frame;
 use crate::frames::Frames;
 use crate::in_place::InPlace;
@@ -97,7 +97,7 @@ impl ScriptCode {
     fn forked(
         &self,
         alloc: Global,
-        values: &[i64],
+        values: &Values,
         procedure: usize,
         operands: &[Operand],
     ) -> Result<Local, AllocError>
@@ -112,7 +112,7 @@ impl ScriptCode {
     pub(crate) fn ask_for(
         &self,
         alloc: Global,
-        values: &[i64],
+        values: &Values,
         action: &Action,
         into: &mut Ask,
     ) -> Result<(), AllocError>
@@ -127,7 +127,7 @@ impl ScriptCode {
     pub(crate) fn request(
         &self,
         alloc: Global,
-        values: &[i64],
+        values: &Values,
         action: &Action,
     ) -> Result<Ask, AllocError>
         ensures { IfOk result (λ r. Asks r ≡ action_turn self.now.flat values.now action.now) }
@@ -135,7 +135,7 @@ impl ScriptCode {
         Ok(match action {
             Action::Put(variable, target, operand) => {
                 let place = place_of(values, *target);
-                match put_at(alloc, place, value_of(values, *operand))? {
+                match put_at(alloc, place, values.operand(*operand))? {
                     Some(state) => Request::Put(*variable, state),
                     None => Request::Fault(ErrorKind::Range),
                 }
@@ -174,7 +174,7 @@ impl ScriptCode {
         if local.below.len() >= MOST_BELOW {
             return Ok(Some(Request::Fault(ErrorKind::Deep)));
         }
-        let arguments = values_of(alloc, local.top.values.as_slice(), operands)?;
+        let arguments = values_of(alloc, &local.top.values, operands)?;
         match self.callee(alloc, procedure, arguments)? {
             None => Ok(Some(Request::End)),
             Some(callee) => {

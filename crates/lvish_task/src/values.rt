@@ -1,22 +1,30 @@
-ghost use Rattle.std.specs.Prelude.{◌≡◌, IfOk, OnOk, ◌++◌, replicate, length, pos, ◌-◌, ◌≤◌};
-ghost use Rattle.std.specs.List.{slice_set};
+ghost use Rattle.std.specs.Prelude.{◌≡◌, IfOk, OnOk, IfSome, ◌++◌, replicate, length, pos, ◌-◌, ◌≤◌};
+ghost use Rattle.std.specs.List.{slice_index_or, slice_set};
+ghost use Rattle.std.specs.Ordering.{int_eq};
+ghost use Rattle.std.specs.Cmp.Lexicographic.{pointwise};
 ghost use Rattle.lvish_task.specs.Jumps.{AllLand};
 ghost use Rattle.lvish_task.specs.Stride.{KeepsAsking};
 ghost use Rattle.lvish_task.specs.Numbers.{numbers_in};
+ghost use Rattle.lvish_task.specs.Run.{expression_value, operand_value};
 
 use crate::equal::are_equal;
-use crate::in_place::{InPlace, give};
-use crate::limits::IN_PLACE;
-use crate::stride::{Progress, strides};
-use lvish_code::Instruction;
+use crate::evaluate::evaluate;
+use crate::in_place::{InPlace, give, value_at};
+use crate::limits::{IN_PLACE, MOST_COPIED};
+use crate::shared_numbers::SharedNumbers;
+use crate::stride::{Progress, strides_apart};
+use lvish_calculus::ErrorKind;
+use lvish_code::{Expression, Instruction, Operand};
 use std::alloc::{AllocError, Global};
 use std::marker::Model;
 
-/// Numbers in order: a few of them in place, or many in memory of their own.
+/// Numbers in order: a few of them in place, many in memory of their own, or so many that copies
+/// share them.
 #[derive(Debug)]
 pub enum Numbers {
     Few(InPlace),
     Many(Vec<i64>),
+    Shared(SharedNumbers),
 }
 
 // Written out, so that it is proved once, and not at each exit of a function that owns one.
@@ -26,6 +34,7 @@ impl Drop for Numbers {
         match self {
             Numbers::Few(_) => {}
             Numbers::Many(_) => {}
+            Numbers::Shared(_) => {}
         }
     }
 }
@@ -64,7 +73,10 @@ impl PartialEq for Values {
 
     #[inline(always)]
     fn eq(&self, other: &Values) -> bool {
-        are_equal(self.as_slice(), other.as_slice())
+        match (self.plain(), other.plain()) {
+            (Some(own), Some(others)) => are_equal(own, others),
+            _ => self.is_equal(other),
+        }
     }
 }
 
@@ -99,6 +111,16 @@ fn spread(alloc: Global, numbers: &[i64], count: usize) -> Result<Vec<i64>, Allo
 }
 
 impl Numbers {
+    /// These many numbers.
+    fn of(alloc: Global, numbers: Vec<i64>) -> Result<Numbers, AllocError>
+        ensures { IfOk result (λ n. numbers_in n ≡ numbers.items) }
+    {
+        if numbers.len() <= MOST_COPIED {
+            return Ok(Numbers::Many(numbers));
+        }
+        Ok(Numbers::Shared(SharedNumbers::new(alloc, numbers)?))
+    }
+
     /// These numbers, and zeros after them, `count` in all.
     #[inline(always)]
     fn filled(self, alloc: Global, count: usize) -> Result<Numbers, AllocError>
@@ -112,11 +134,16 @@ impl Numbers {
                 }
                 // Moved here, so that the other way has them in no memory that a call could see.
                 let few = few;
-                Ok(Numbers::Many(spread(alloc, few.as_slice(), count)?))
+                Numbers::of(alloc, spread(alloc, few.as_slice(), count)?)
             }
             Numbers::Many(mut numbers) => {
                 numbers.resize(count, 0)?;
-                Ok(Numbers::Many(numbers))
+                Numbers::of(alloc, numbers)
+            }
+            Numbers::Shared(shared) => {
+                let mut numbers = shared.flat(alloc)?;
+                numbers.resize(count, 0)?;
+                Numbers::of(alloc, numbers)
             }
         }
     }
@@ -132,6 +159,7 @@ impl Numbers {
                 let numbers = numbers.as_slice();
                 Ok(Numbers::Many(many(alloc, numbers, numbers.len())?))
             }
+            Numbers::Shared(shared) => Ok(Numbers::Shared(shared.copy(alloc)?)),
         }
     }
 }
@@ -162,11 +190,11 @@ impl Values {
     fn copy_from_many(&mut self, alloc: Global, other: &Values) -> Result<(), AllocError>
         ensures { OnOk result (self.new ≡ other.now) }
     {
-        let numbers = other.as_slice();
-        match &mut self.numbers {
-            Numbers::Many(own) if own.len() == numbers.len() => {
-                own.as_mut_slice().copy_from_slice(numbers);
+        match (&mut self.numbers, &other.numbers) {
+            (Numbers::Many(own), Numbers::Many(numbers)) if own.len() == numbers.len() => {
+                own.as_mut_slice().copy_from_slice(numbers.as_slice());
             }
+            (Numbers::Shared(own), Numbers::Shared(shared)) => own.copy_from(shared)?,
             _ => self.numbers = other.numbers.copy(alloc)?,
         }
         Ok(())
@@ -211,32 +239,107 @@ impl Values {
         match &self.numbers {
             Numbers::Few(few) => few.len(),
             Numbers::Many(numbers) => numbers.len(),
+            Numbers::Shared(shared) => shared.len(),
         }
     }
 
-    /// The values as a slice.
+    /// The values as a slice, where they aren't shared.
     #[inline(always)]
-    pub fn as_slice(&self) -> &[i64]
-        ensures { result.now ≡ self.now }
+    fn plain(&self) -> Option<&[i64]>
+        ensures { IfSome result (λ s. s.now ≡ self.now) }
     {
         match &self.numbers {
-            Numbers::Few(few) => few.as_slice(),
-            Numbers::Many(numbers) => numbers.as_slice(),
+            Numbers::Few(few) => Some(few.as_slice()),
+            Numbers::Many(numbers) => Some(numbers.as_slice()),
+            Numbers::Shared(_) => None,
         }
+    }
+
+    /// The value of a local, 0 where there is none.
+    #[inline(always)]
+    pub fn value(&self, local: usize) -> i64
+        ensures { result ≡ slice_index_or self.now local (pos 0) }
+    {
+        match &self.numbers {
+            Numbers::Few(few) => value_at(few.as_slice(), local),
+            Numbers::Many(numbers) => value_at(numbers.as_slice(), local),
+            Numbers::Shared(shared) => shared.value(local),
+        }
+    }
+
+    /// The value of an operand.
+    #[inline(always)]
+    pub fn operand(&self, operand: Operand) -> i64
+        ensures { result ≡ operand_value self.now operand }
+    {
+        match operand {
+            Operand::Local(local) => self.value(local),
+            Operand::Number(n) => n,
+        }
+    }
+
+    /// What a `let` gives its local, or how it fails.
+    pub fn evaluate(&self, expression: &Expression) -> Result<i64, ErrorKind>
+        ensures { result ≡ expression_value self.now expression.now }
+    {
+        match &self.numbers {
+            Numbers::Few(few) => evaluate(few.as_slice(), expression),
+            Numbers::Many(numbers) => evaluate(numbers.as_slice(), expression),
+            Numbers::Shared(shared) => shared.evaluate(expression),
+        }
+    }
+
+    /// Whether the other has equal values.
+    ///
+    /// It isn't inlined, since local states are seldom compared whose numbers are shared.
+    #[inline(never)]
+    fn is_equal(&self, other: &Values) -> bool
+        ensures { result ≡ pointwise int_eq self.now other.now }
+    {
+        if self.len() != other.len() {
+            return false;
+        }
+        let mut same = true;
+        for local in 0..self.len() {
+            let here = self.value(local) == other.value(local);
+            same = here && same;
+        }
+        same
     }
 
     /// Gives a local a value; nothing where there is no such local.
+    ///
+    /// # Errors
+    ///
+    /// Where there is no room for it.
     #[inline(always)]
-    pub fn set(&mut self, local: usize, value: i64)
-        ensures { self.new ≡ slice_set self.old local value }
+    pub fn set(&mut self, alloc: Global, local: usize, value: i64) -> Result<(), AllocError>
+        ensures { OnOk result (self.new ≡ slice_set self.old local value) }
     {
         match &mut self.numbers {
             Numbers::Few(few) => few.set(local, value),
             Numbers::Many(numbers) => give(numbers.as_mut_slice(), local, value),
+            Numbers::Shared(shared) => shared.set(alloc, local, value)?,
+        }
+        Ok(())
+    }
+
+    /// Makes its own what copies share.
+    ///
+    /// # Errors
+    ///
+    /// Where there is no room for it.
+    #[inline(always)]
+    pub fn own(&mut self, alloc: Global) -> Result<(), AllocError>
+        ensures { OnOk result (self.new ≡ self.old) }
+    {
+        match &mut self.numbers {
+            Numbers::Shared(shared) => shared.own(alloc),
+            _ => Ok(()),
         }
     }
 
-    /// Takes statements of a frame with these values, as [`strides`] does.
+    /// Takes statements of a frame with these values, as [`strides_apart`] does, or some of them.
     #[inline(always)]
     pub(crate) fn stride(&mut self, instructions: &[Instruction], from: Progress) -> Progress
         requires { AllLand instructions.now }
@@ -245,7 +348,8 @@ impl Values {
     {
         match &mut self.numbers {
             Numbers::Few(few) => few.stride(instructions, from),
-            Numbers::Many(numbers) => strides(instructions, numbers.as_mut_slice(), from),
+            Numbers::Many(numbers) => strides_apart(instructions, numbers.as_mut_slice(), from),
+            Numbers::Shared(shared) => shared.stride(instructions, from),
         }
     }
 

@@ -35,6 +35,13 @@ fn after_done(alloc: Global, code: &ScriptCode, local: &Local) -> Result<Local, 
     resumed_beside(alloc, code, &at, Reply::Done)
 }
 
+/// Whether the local state in which a task makes its third request equals that of its second.
+pub fn round_answer(alloc: Global, code: &ScriptCode, start: &Local) -> Result<String, AllocError> {
+    let second = at_of(alloc, code, &after_done(alloc, code, start)?)?;
+    let third = at_of(alloc, code, &after_done(alloc, code, &second)?)?;
+    String::from_str(alloc, equality(is_equal(&third, &second)))
+}
+
 /// What a task asks for that doesn't fit, and stays as it is.
 pub fn stays(alloc: Global, code: &ScriptCode, local: &Local) -> Result<String, AllocError> {
     if fits(code, local) {

@@ -3,7 +3,7 @@
 use crate::asked::{Replies, asked};
 use crate::calls::{handled, request_of, start_of};
 use crate::event::{event_of, number_of};
-use crate::same::{copy_answer, stays};
+use crate::same::{copy_answer, round_answer, stays};
 use crate::state::state_of;
 use crate::text::no_such_question;
 use lvish_calculus::{Program, Request};
@@ -26,6 +26,7 @@ fn answer_about(alloc: Global, code: &ScriptCode, words: &[&str]) -> Result<Stri
         ["asks", kind, key, number, "freezing", state @ ..] => {
             asks_answer(alloc, code, event_of(kind, key, number), state)
         }
+        ["round", kind, key, number] => round_of(alloc, code, event_of(kind, key, number)),
         ["nowhere", procedure, kind, key, number] => {
             nowhere_answer(
                 alloc,
@@ -110,6 +111,15 @@ fn replies_of(alloc: Global, state: &[&str]) -> Result<Option<Replies>, AllocErr
     match state_of(alloc, state)? {
         Some(frozen) => Ok(Some(Replies { answer: 9, frozen })),
         None => Ok(None),
+    }
+}
+
+/// Whether a task of the script's first procedure, begun as a handler's on an event, makes its third
+/// request in the local state of its second.
+fn round_of(alloc: Global, code: &ScriptCode, event: Option<Event>) -> Result<String, AllocError> {
+    match event {
+        Some(event) => round_answer(alloc, code, &handled(alloc, code, 0, &event)?),
+        None => no_such_question(alloc),
     }
 }
 

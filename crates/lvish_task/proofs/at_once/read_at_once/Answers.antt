@@ -18,5 +18,5 @@ returns-in-Whole-Set c =
 
 pub returns-in-Entry : goal.returns-in-Entry
 returns-in-Entry c =
-    let fits : SFits w64 c.value_of.result = search rules in
-    read_of _ _ _ _ _ (ap (target_place c.args.values.now) c.in-Entry.is ∙ ap place.Key (sym c.value_of.ensures ∙ sym (to_z-of_z w64 c.value_of.result fits))) c.in_ok-test.ensures
+    let fits : SFits w64 c.operand.result = search rules in
+    read_of _ _ _ _ _ (ap (target_place c.args.values.now) c.in-Entry.is ∙ ap place.Key (sym c.operand.ensures ∙ sym (to_z-of_z w64 c.operand.result fits))) c.in_ok-test.ensures

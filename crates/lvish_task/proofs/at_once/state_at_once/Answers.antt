@@ -34,6 +34,6 @@ pub returns-in-Entry : goal.returns-in-Entry
 unfolding put_at
 returns-in-Entry c =
     let fits : SFits w64 c.args.n = c.ranges.n in
-    let key : SFits w64 c.value_of.result = search rules in
-    let is : IfOk c.entry.result (λ s. s ≡ entry c.value_of.result c.args.n) = simp to_z-of_z at c.entry.ensures in
-    subst (λ t. IfSome c.ok-in-Entry.result (λ s. put_at (target_place c.args.values.now t) c.args.n ≡ Some s)) (sym c.in-Entry.is) (subst (λ k. IfSome c.ok-in-Entry.result (λ s. Some (entry k c.args.n) ≡ Some s)) c.value_of.ensures (given c.entry.result c.ok-in-Entry.result (entry c.value_of.result c.args.n) c.ok-in-Entry.ensures.value is))
+    let key : SFits w64 c.operand.result = search rules in
+    let is : IfOk c.entry.result (λ s. s ≡ entry c.operand.result c.args.n) = simp to_z-of_z at c.entry.ensures in
+    subst (λ t. IfSome c.ok-in-Entry.result (λ s. put_at (target_place c.args.values.now t) c.args.n ≡ Some s)) (sym c.in-Entry.is) (subst (λ k. IfSome c.ok-in-Entry.result (λ s. Some (entry k c.args.n) ≡ Some s)) c.operand.ensures (given c.entry.result c.ok-in-Entry.result (entry c.operand.result c.args.n) c.ok-in-Entry.ensures.value is))

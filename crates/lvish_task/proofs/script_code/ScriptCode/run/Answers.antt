@@ -27,16 +27,16 @@ module _ (c : flat.Code) where
       by (Asks r) e = absurd cc
 
 pub loop-local-init : goal.loop-local-init
-loop-local-init c = pending_settled c.args.self.now.flat c.stride.new.local c.settle.new.local c.in_ok-settle.ensures ∙ c.stride.ensures.same
+loop-local-init c = pending_settled c.args.self.now.flat c.args.local.now c.settle.new.local c.in_ok-settle.ensures
 
 pub loop-local-smaller : goal.loop-local-smaller
 loop-local-smaller c =
     let code = c.args.self.now.flat in
     let none : requested (flat_turn code c.loop-local.local) ≡ None = sym c.in_ok-request.ensures.asks ∙ c.in_default.is in
-    let strode = c.stride-in-loop-local.new.local in
+    let strode = c.stride.new.local in
     let left = returned_left code strode.top strode.below strode.left in
     let settled : c.settle-in-loop-local.new.local.left ≡ strode.left = ap (λ l. l.left) c.in_ok-settle-2.ensures ∙ left in
-    let fewer : strode.left ≤ c.turn.new.local.left = c.stride-in-loop-local.ensures.fewer in
+    let fewer : strode.left ≤ c.turn.new.local.left = c.stride.ensures.fewer in
     let less = goes_down code c.loop-local.local c.turn.new.local none c.in_ok-request.ensures.moves in
     let some : 0 < c.loop-local.local.left = c.loop-local-test.true in
     omega arith
@@ -45,7 +45,7 @@ pub loop-local-preserved : goal.loop-local-preserved
 loop-local-preserved c =
     let code = c.args.self.now.flat in
     let none : requested (flat_turn code c.loop-local.local) ≡ None = sym c.in_ok-request.ensures.asks ∙ c.in_default.is in
-    pending_settled code c.stride-in-loop-local.new.local c.settle-in-loop-local.new.local c.in_ok-settle-2.ensures
-    ∙ c.stride-in-loop-local.ensures.same
+    pending_settled code c.stride.new.local c.settle-in-loop-local.new.local c.in_ok-settle-2.ensures
+    ∙ c.stride.ensures.same
     ∙ goes_on code c.loop-local.local c.turn.new.local c.loop-local-test.true none c.in_ok-request.ensures.moves
     ∙ c.loop-local.invariant
