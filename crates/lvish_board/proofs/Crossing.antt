@@ -37,7 +37,7 @@ use Rattle.lvish_board.specs.contracts.asked.Asked as Asked
 use Rattle.lvish_board.specs.contracts.asked.Asked.TheInside as inside_asked
 use Rattle.lvish_board.specs.contracts.board.Board as Board
 use Rattle.lvish_board.specs.contracts.board.Board.TheInside as inside_board
-use Rattle.lvish_board.specs.contracts.by_name.ByName as ByName
+use Rattle.lvish_board.specs.contracts.by_index.ByIndex as ByIndex
 use Rattle.lvish_board.specs.contracts.newest.Newest as Newest
 use Rattle.lvish_board.specs.contracts.noted.Noted as Noted
 use Rattle.lvish_board.specs.contracts.outcome.Outcome as Outcome
@@ -101,17 +101,17 @@ module _ (E : RattleType) (s : IsSend E) (y : IsSync E) where
     room_send : IsSend (Room.the_row P J S L R A W E p s3 s1 s2 e1 e3 e4 e5 w1 w2 w3 w4 l1 n o)
     room_send = search (asked_send, handler, crosses, sendable) depth 24
 
-    by_name_send : IsSend (ByName.the_row P J S L R A W E p s3 s1 s2 e1 e2 e3 e4 e5 w1 w2 w3 w4 l1 n o)
-    by_name_send = search (asked_send, name, crosses, maps.crosses, sendable) depth 30
+    by_index_send : IsSend (ByIndex.the_row P J S L R A W E p s3 s1 s2 e1 e3 e4 e5 w1 w2 w3 w4 l1 n o)
+    by_index_send = search (asked_send, crosses, sendable) depth 30
 
     module _ (sW : IsSend W) (w0 : equal.Ghosts W.Denot) where
-      parked_send : IsSend (Parked.the_row P J S L R A W E p s3 s1 s2 e1 e2 e3 e4 e5 w1 w0 w2 w3 w4 l1 n o)
+      parked_send : IsSend (Parked.the_row P J S L R A W E p s3 s1 s2 e1 e3 e4 e5 w1 w0 w2 w3 w4 l1 n o)
       parked_send =
           let key : IsSend (Tuple (usize ∷ Option.the_row W ∷ [])) = search sendable depth 20 in
           let place : IsSend usize = search sendable depth 20 in
-          view_send (inside_parked.the_row P J S L R A W E p s3 s1 s2 e1 e2 e3 e4 e5 w1 w0 w2 w3 w4 l1 n o) _ _ _ _
-          (declared_send (inside_parked.the_type P J S L R A W E p s3 s1 s2 e1 e2 e3 e4 e5 w1 w0 w2 w3 w4 l1 n o)
-          (as_row_send (ByName.the_field P J S L R A W E p s3 s1 s2 e1 e2 e3 e4 e5 w1 w2 w3 w4 l1 n o) by_name_send, (shelves_send _ _ key name _ _, (shelves_send _ _ place name _ _, tt))))
+          view_send (inside_parked.the_row P J S L R A W E p s3 s1 s2 e1 e3 e4 e5 w1 w0 w2 w3 w4 l1 n o) _ _ _ _
+          (declared_send (inside_parked.the_type P J S L R A W E p s3 s1 s2 e1 e3 e4 e5 w1 w0 w2 w3 w4 l1 n o)
+          (as_row_send (ByIndex.the_field P J S L R A W E p s3 s1 s2 e1 e3 e4 e5 w1 w2 w3 w4 l1 n o) by_index_send, (shelves_send _ _ key place _ _, (shelves_send _ _ place place _ _, tt))))
 
       newest_send : IsSend (Newest.the_row P J S L R A W E p s3 s1 s2 e1 e3 e4 e5 w1 w2 w3 w4 l1 n o)
       newest_send = search (history_send, stamp_send, crosses, sendable) depth 30
@@ -120,7 +120,7 @@ module _ (E : RattleType) (s : IsSend E) (y : IsSync E) where
       board_send a yP =
           let core = as_row_send (Core.the_field a P S L R A W E p s3 s1 s2 e1 e2 e3 e4 e5 w1 w2 w3 w4 l1) (core_send E s y S sS e1 e2 e3 e4 e5 s1 s2 P L R A W p s3 w1 w2 w3 w4 l1 a yP sL) in
           let newest = as_row_send (Newest.the_field P J S L R A W E p s3 s1 s2 e1 e3 e4 e5 w1 w2 w3 w4 l1 n o) newest_send in
-          let parked = as_row_send (Parked.the_field P J S L R A W E p s3 s1 s2 e1 e2 e3 e4 e5 w1 w0 w2 w3 w4 l1 n o) parked_send in
+          let parked = as_row_send (Parked.the_field P J S L R A W E p s3 s1 s2 e1 e3 e4 e5 w1 w0 w2 w3 w4 l1 n o) parked_send in
           view_send (inside_board.the_row a P J S L R A W E p s3 s1 s2 e1 e2 e3 e4 e5 w1 w0 w2 w3 w4 l1 n o) _ _ _ _
           (declared_send (inside_board.the_type a P J S L R A W E p s3 s1 s2 e1 e2 e3 e4 e5 w1 w0 w2 w3 w4 l1 n o)
           (core, (newest, (trace_send, (number_send, (over_send, (parked, (room_send, tt))))))))

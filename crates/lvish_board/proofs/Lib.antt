@@ -8,7 +8,7 @@ pub mod Handing
 pub mod Knowing
 pub mod Listing
 pub mod Lists
-pub mod Naming
+pub mod Seating
 pub mod Noting
 pub mod Parking
 pub mod Shelving
@@ -16,6 +16,7 @@ pub mod Sorting
 pub mod Steps
 mod Opening
 pub mod Sweeping
+pub mod Taking
 pub mod Those
 pub mod Waking
 pub mod Woken

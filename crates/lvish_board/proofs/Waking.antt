@@ -157,6 +157,24 @@ module _ {E L : Type 0} (Can : TaskPlace E L → Type 0) where
         once = λ n. once_permuted laws exact (tasks_of (after ++ new)) (tasks_of (after ++ others)) (IsPermutation-map (λ p. p.task) (after ++ new) (after ++ others) all) (w.once n);
       }
 
+  -- or where those of before do
+  pub wakes_from : {eq : Name E → Name E → Bool} → IsEquivalence eq → ((t u : Name E) → eq t u ≡ true → t ≡ u) → (May : TaskPlace E L → Type 0) (old others new before after : List (TaskPlace E L)) → IsPermutation old others → Wakes Can May old new before after → Wakes Can May others new before after
+  wakes_from laws exact May old others new before after to w =
+      let back = IsPermutation-sym old others to in
+      let all = IsPermutation-append_right before others old back in
+      record {
+        more = w.more;
+        adds = w.adds;
+        woken = record {
+          were = λ p i. let r = w.woken.were p i in (among_permuted p old others to r.0, r.1);
+          stay = λ p i. let r = w.woken.stay p i in (among_permuted p old others to r.0, r.1);
+          split = λ p i. w.woken.split p (among_permuted p others old back i);
+          left = w.woken.left;
+        };
+        count = let same = length_permutation old others to in let count = w.count in omega arith;
+        once = λ n. w.once (once_permuted laws exact (tasks_of (before ++ others)) (tasks_of (before ++ old)) (IsPermutation-map (λ p. p.task) (before ++ others) (before ++ old) all) n);
+      }
+
   -- of equal lists
   pub wakes_at : (May : TaskPlace E L → Type 0) (old new left before none after woken : List (TaskPlace E L)) → left ≡ new → before ≡ none → woken ≡ after → Wakes Can May old new before after → Wakes Can May old left none woken
   wakes_at May old new left before none after woken n b a w =

@@ -5,6 +5,7 @@ pub mod Listed
 pub mod Noted
 pub mod Place
 pub mod Newest
+pub mod Seated
 pub mod Shelved
 pub mod Standing
 pub mod Traced

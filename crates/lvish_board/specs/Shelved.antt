@@ -4,7 +4,6 @@ use Rattle.std.specs.Global.{Vec}
 use Rattle.std.specs.HashMap.{HashMap, get}
 use Rattle.std.specs.Option.{option_eq}
 use Rattle.lvish_board.specs.Vocabulary.{Request, Get, Freeze}
-use Rattle.lvish_names.specs.Names.{Name}
 use Rattle.lvish_calculus.specs.Handing.{IsAmong}
 
 -- what lies in a list: nothing where there is none
@@ -20,8 +19,8 @@ shelf eq lists k = list_items (get eq lists k)
 abbrev pub same_spot : {W : Type 0} → (W → W → Bool) → (ℕ × Option W) → (ℕ × Option W) → Bool
 same_spot eq x y = nat_eq x.0 y.0 && option_eq eq x.1 y.1
 
--- the name is on the list of what the request waits for: a get's by its variable and its spot, a freeze's by its variable
-abbrev pub IsOnItsList : {S E R L W H : Type 0} → (W → W → Bool) → (R → Option W) → HashMap (ℕ × Option W) (Vec (Name E)) H → HashMap ℕ (Vec (Name E)) H → Request S R L → Name E → Type 0
+-- the index is on the list of what the request waits for: a get's by its variable and its spot, a freeze's by its variable
+abbrev pub IsOnItsList : {S R L W H : Type 0} → (W → W → Bool) → (R → Option W) → HashMap (ℕ × Option W) (Vec ℕ) H → HashMap ℕ (Vec ℕ) H → Request S R L → ℕ → Type 0
 IsOnItsList eq watched gets freezes (Get v r) t = IsAmong t (shelf (same_spot eq) gets (v, watched r))
 IsOnItsList eq watched gets freezes (Freeze v pools) t = IsAmong t (shelf nat_eq freezes v)
 IsOnItsList eq watched gets freezes _ t = ⊥

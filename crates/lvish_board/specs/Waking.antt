@@ -1,15 +1,9 @@
--- Waking one task after another, by their names.
+-- Waking one task after another.
 use Rattle.std.specs.Prelude.{◌≡◌, ◌+◌, List, ◌++◌, length}
-use Rattle.std.specs.List.{AllByRecursion}
-use Rattle.lvish_names.specs.Names.{Name}
 use Rattle.lvish_calculus.specs.Handing.{NoRepeats}
 use Rattle.lvish_board.specs.Place.{TaskPlace}
 use Rattle.lvish_board.specs.Standing.{tasks_of}
 use Rattle.lvish_board.specs.Woken.{IsWoken}
-
--- each lies under the name of its task
-abbrev pub AreNamed : {E L : Type 0} → List (Name E × TaskPlace E L) → Type 0
-AreNamed entries = AllByRecursion (λ e. e.0 ≡ e.1.task) entries
 
 -- the parked tasks that may be woken and can go on were moved behind those woken before
 pub record Wakes {E L : Type 0} (Can : TaskPlace E L → Type 0) (May : TaskPlace E L → Type 0) (old new before after : List (TaskPlace E L)) : Type 0 where

@@ -16,7 +16,8 @@ use std::marker::Model;
 pub struct Asked<P: Program, J: Named<P>> {
     ticket: Ticket<P, J>,
     request: Request<P::Lat, <P::Lat as Reads>::Read, P::Local>,
-    // the local state in which it asks, in which a step goes on; `None` after a step that was refused
+    // the local state in which it asks, in which a step goes on; `None` while it is parked, until it is made
+    // anew, and after a step that was refused
     at: Option<P::Local>,
 }
 
@@ -125,6 +126,36 @@ impl<P: Program, J: Named<P>> Asked<P, J> {
             &self.request,
             &mut self.at,
         )
+    }
+
+    /// Gives back the local state in which it asks, of which no use is made as long as it is blocked.
+    pub(crate) fn rest(&mut self)
+        ensures { self.new ≡ self.old }
+    {
+        self.at = None;
+    }
+
+    /// Makes the local state in which it asks anew, where it was given back, so that its step needn't. It
+    /// may lie in the memory of `spare`, a local state that nobody needs any more.
+    ///
+    /// # Errors
+    ///
+    /// Where there is no room for it.
+    #[inline(always)]
+    pub fn prepare(
+        &mut self,
+        alloc: Global,
+        program: &P,
+        spare: Option<P::Local>,
+    ) -> Result<(), AllocError>
+        requires program { program.now ≡ J.program }
+        ensures { self.new ≡ self.old }
+    {
+        if self.at.is_none() {
+            let Asks { request: _, at } = program.ask_with(alloc, self.ticket.from(), spare)?;
+            self.at = Some(at);
+        }
+        Ok(())
     }
 
     /// The local state in which it asked, which is of no more use than its memory.

@@ -63,13 +63,14 @@ impl<'p, P: Program, J: Named<P>> Model for Board<'p, P, J> {
     ghost use Rattle.lvish_core.specs.Tasks.{task_names};
     ghost use Rattle.lvish_board.specs.Noted.{IsNoted, entries_of};
     ghost use Rattle.lvish_board.specs.Newest.{AreKnown};
+    ghost use Rattle.lvish_board.specs.Seated.{AreIndexed, places_of};
     ghost use Rattle.lvish_board.specs.Standing.{Standing, IsBoardSound};
 
     ghost Value = { Standing P P.Lat P.Lat.Event P.Local };
 
-    ghost view = { λ b. record { trace = entries_of (task_names b.core.table.tasks) b.trace.items; core = b.core; over = b.over; parked = b.parked } };
+    ghost view = { λ b. record { trace = entries_of (task_names b.core.table.tasks) b.trace.items; core = b.core; over = b.over; parked = places_of b.parked } };
 
-    ghost invariant = { λ b. (b.budget ≡ J.budget) × AllByRecursion (IsNoted (task_names b.core.table.tasks)) b.trace.items × IsBoardSound (machine_of P.Lat.eq P.Lat.Event.eq P.Lat.Event.cmp P.Lat.least P.Lat.joined P.Lat.events_of P.Lat.answer_of (P.functions J.program)) J.program J.budget (record { trace = entries_of (task_names b.core.table.tasks) b.trace.items; core = b.core; over = b.over; parked = b.parked }) × AreKnown (machine_of P.Lat.eq P.Lat.Event.eq P.Lat.Event.cmp P.Lat.least P.Lat.joined P.Lat.events_of P.Lat.answer_of (P.functions J.program)) b.core b.newest };
+    ghost invariant = { λ b. (b.budget ≡ J.budget) × AllByRecursion (IsNoted (task_names b.core.table.tasks)) b.trace.items × IsBoardSound (machine_of P.Lat.eq P.Lat.Event.eq P.Lat.Event.cmp P.Lat.least P.Lat.joined P.Lat.events_of P.Lat.answer_of (P.functions J.program)) J.program J.budget (record { trace = entries_of (task_names b.core.table.tasks) b.trace.items; core = b.core; over = b.over; parked = places_of b.parked }) × AreKnown (machine_of P.Lat.eq P.Lat.Event.eq P.Lat.Event.cmp P.Lat.least P.Lat.joined P.Lat.events_of P.Lat.answer_of (P.functions J.program)) b.core b.newest × AreIndexed b.core.table.tasks b.parked };
 }
 
 impl<'p, P: Program, J: Named<P>> Board<'p, P, J> {

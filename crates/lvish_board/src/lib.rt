@@ -21,7 +21,7 @@
 mod acted;
 mod asked;
 mod board;
-mod by_name;
+mod by_index;
 mod came;
 mod list;
 mod named;

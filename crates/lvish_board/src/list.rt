@@ -8,6 +8,7 @@ ghost use Rattle.lvish_calculus.specs.Handing.{IsAmong, NoRepeats};
 ghost use Rattle.lvish_board.specs.Place.{TaskPlace};
 ghost use Rattle.lvish_board.specs.Newest.{IsSetAt, IsSetIf};
 ghost use Rattle.lvish_board.specs.Noted.{index_of};
+ghost use Rattle.lvish_board.specs.Seated.{AreWithin, places_of};
 ghost use Rattle.lvish_board.specs.Standing.{tasks_of};
 ghost use Rattle.lvish_board.specs.Listed.{HasNext, works_of, option_list};
 ghost use Rattle.lvish_board.specs.Left.{AreThose, IsLeft, IsLogged, candidates, fresh_in, own_ticket, made_ticket};
@@ -125,15 +126,17 @@ pub(crate) fn leave<P: Program, J: Named<P>>(
 )
     requires program { core.now.program ≡ J.program }
     requires logged { IsLogged core.now.table.variables logged core.now.touched }
-    requires current { (p : TaskPlace P.Lat.Event P.Local) → IsAmong p parked.old → ⟦<P as CoreMeaning>⟧.local_in core.now p.task ≡ Some p.from }
+    requires current { (p : TaskPlace P.Lat.Event P.Local) → IsAmong p (places_of parked.old) → ⟦<P as CoreMeaning>⟧.local_in core.now p.task ≡ Some p.from }
+    requires once { NoRepeats (tasks_of (places_of parked.old)) }
     requires empty { (room.old.woken.items ≡ []) × (room.old.hands.items ≡ []) }
     requires woken_room { length parked.old ≤ vec_capacity room.old.woken }
     requires concerned_room { length room.old.concerned.items + length (option_list left.added) ≤ vec_capacity room.old.concerned }
     requires hands_room { length room.old.concerned.items + length (option_list left.added) ≤ vec_capacity room.old.hands }
-    ensures left { IsLeft P.Lat.Event.cmp (⟦<P as Meaning>⟧.machine J.program) P.Lat.spot_of P.Lat.watched core.now logged left.own left.made left.added room.old.concerned.items parked.old parked.new (works_of works.new) }
+    ensures left { IsLeft P.Lat.Event.cmp (⟦<P as Meaning>⟧.machine J.program) P.Lat.spot_of P.Lat.watched core.now logged left.own left.made left.added room.old.concerned.items (places_of parked.old) (places_of parked.new) (works_of works.new) }
     ensures own { works.new.own ≡ left.own }
     ensures step { works.new.step ≡ left.step }
-    ensures once { NoRepeats (tasks_of parked.old) → NoRepeats (tasks_of parked.new) }
+    ensures once { NoRepeats (tasks_of (places_of parked.new)) }
+    ensures within { AreWithin parked.new parked.old }
 {
     let entries = fresh(core, logged);
     parked.wake(core, entries, &mut room.woken);

@@ -1,12 +1,13 @@
 //! The parked tasks.
 
-ghost use Rattle.std.specs.Prelude.{◌≡◌, ◌+◌, ◌≤◌, ◌⊎◌, [], None, Some, Option, IfOk, IfErr, OnOk, length, vec_len, vec_capacity};
+ghost use Rattle.std.specs.Prelude.{◌≡◌, ◌+◌, ◌≤◌, ◌⊎◌, ◌↔◌, [], ℕ, None, Some, Option, IfOk, IfErr, OnOk, length, vec_len, vec_capacity};
 ghost use Rattle.std.specs.List.Sorted.{IsPermutation, IsSortedBy, IsStrictlySortedBy};
 ghost use Rattle.std.specs.Ordering.{is_lt};
 ghost use Rattle.lvish_names.specs.NameOrder.{name_cmp};
 ghost use Rattle.lvish_calculus.specs.declared.label.Label.TheVariants.{Act};
 ghost use Rattle.lvish_calculus.specs.Handing.{IsAmong, NoRepeats};
 ghost use Rattle.lvish_board.specs.Place.{TaskPlace};
+ghost use Rattle.lvish_board.specs.Seated.{AreWithin, places_of};
 ghost use Rattle.lvish_board.specs.Standing.{tasks_of};
 ghost use Rattle.lvish_board.specs.Waking.{Wakes};
 ghost use Rattle.lvish_board.specs.Shelved.{WaitsAt};
@@ -14,7 +15,7 @@ ghost use Rattle.lvish_core.specs.declared.touched.Touched.TheVariants.{Put, Han
 ghost use Rattle.lvish_board.specs.Woken.{IsWaiting, IsParkedBeside, IsWoken, MayWake};
 
 use crate::asked::Asked;
-use crate::by_name::ByName;
+use crate::by_index::ByIndex;
 use crate::named::Named;
 use crate::shelves::Shelves;
 use lvish_calculus::{Program, Request};
@@ -28,11 +29,11 @@ use std::marker::Model;
 
 /// The parked tasks, each once, and on one list each.
 pub(crate) struct Parked<P: Program, J: Named<P>> {
-    tasks: ByName<P, J>,
+    tasks: ByIndex<P, J>,
     /// By the variable and the spot at which they wait.
-    gets: Shelves<(usize, Option<<P::Lat as Reads>::Spot>), TaskName<<P::Lat as Lattice>::Event>>,
+    gets: Shelves<(usize, Option<<P::Lat as Reads>::Spot>), usize>,
     /// By the variable.
-    freezes: Shelves<usize, TaskName<<P::Lat as Lattice>::Event>>,
+    freezes: Shelves<usize, usize>,
 }
 
 // Written out, so that it is proved once, and not at each exit of a function that owns one.
@@ -47,16 +48,16 @@ impl<P: Program, J: Named<P>> Drop for Parked<P, J> {
 }
 
 impl<P: Program, J: Named<P>> Model for Parked<P, J> {
-    ghost use Rattle.std.specs.Prelude.{List};
+    ghost use Rattle.std.specs.Prelude.{List, ℕ};
     ghost use Rattle.lvish_calculus.specs.Handing.{IsAmong};
     ghost use Rattle.lvish_board.specs.Place.{TaskPlace};
     ghost use Rattle.lvish_board.specs.Shelved.{IsOnItsList};
 
-    ghost Value = { List (TaskPlace P.Lat.Event P.Local) };
+    ghost Value = { List (ℕ × TaskPlace P.Lat.Event P.Local) };
 
     ghost view = { λ p. p.tasks };
 
-    ghost invariant = { λ p. (q : TaskPlace P.Lat.Event P.Local) → IsAmong q p.tasks → IsOnItsList P.Lat.Spot.eq P.Lat.watched p.gets.lists p.freezes.lists ((P.functions J.program).request q.from) q.task };
+    ghost invariant = { λ p. (e : ℕ × TaskPlace P.Lat.Event P.Local) → IsAmong e p.tasks → IsOnItsList P.Lat.Spot.eq P.Lat.watched p.gets.lists p.freezes.lists ((P.functions J.program).request e.1.from) e.0 };
 }
 
 impl<P: Program, J: Named<P>> Parked<P, J> {
@@ -65,7 +66,7 @@ impl<P: Program, J: Named<P>> Parked<P, J> {
         ensures { result ≡ [] }
     {
         Parked {
-            tasks: ByName::new(alloc),
+            tasks: ByIndex::new(alloc),
             gets: Shelves::new(alloc),
             freezes: Shelves::new(alloc),
         }
@@ -83,36 +84,40 @@ impl<P: Program, J: Named<P>> Parked<P, J> {
     /// # Errors
     ///
     /// Where there is no room for it, what was to be parked; nothing has changed.
-    pub(crate) fn park(&mut self, alloc: Global, asked: Asked<P, J>) -> Result<(), Asked<P, J>>
+    pub(crate) fn park(
+        &mut self,
+        alloc: Global,
+        index: usize,
+        asked: Asked<P, J>,
+    ) -> Result<(), Asked<P, J>>
         requires waiting { IsWaiting ((P.functions J.program).request asked.from) }
-        requires same { (q : TaskPlace P.Lat.Event P.Local) → IsAmong q self.old → q.task ≡ asked.task → q ≡ asked }
-        ensures ok { IfOk result (λ _. IsParkedBeside self.old asked self.new) }
-        ensures once { NoRepeats (tasks_of self.old) → NoRepeats (tasks_of self.new) }
+        requires same { (q : TaskPlace P.Lat.Event P.Local) → IsAmong q (places_of self.old) → q.task ≡ asked.task → q ≡ asked }
+        requires theirs { (e : ℕ × TaskPlace P.Lat.Event P.Local) → IsAmong e self.old → (e.1.task ≡ asked.task) ↔ (e.0 ≡ index) }
+        requires once { NoRepeats (tasks_of (places_of self.old)) }
+        ensures ok { IfOk result (λ _. IsParkedBeside (places_of self.old) asked (places_of self.new)) }
+        ensures entries { (e : ℕ × TaskPlace P.Lat.Event P.Local) → IsAmong e self.new → (e ≡ (index, asked)) ⊎ IsAmong e self.old }
+        ensures once { NoRepeats (tasks_of (places_of self.new)) }
         ensures err { IfErr result (λ a. (a ≡ asked) × (self.new ≡ self.old)) }
     {
-        self.tasks.each_waits_once();
-        if self.tasks.has(asked.task()) {
+        if self.tasks.has(index) {
             return Ok(());
         }
-        let Ok(name) = asked.task().copy() else {
-            return Err(asked);
-        };
         match asked.request() {
             Request::Get(variable, read) => {
                 let key = (*variable, <P::Lat as Reads>::watch(read));
-                let Ok(()) = self.gets.push(alloc, key, name) else {
+                let Ok(()) = self.gets.push(alloc, key, index) else {
                     return Err(asked);
                 };
             }
             Request::Freeze(variable, _) => {
-                let Ok(()) = self.freezes.push(alloc, *variable, name) else {
+                let Ok(()) = self.freezes.push(alloc, *variable, index) else {
                     return Err(asked);
                 };
             }
             _ => return Ok(()),
         }
         // Where this is refused the name stays on its list, and is dropped when a step looks there.
-        self.tasks.insert(asked)
+        self.tasks.insert(index, asked)
     }
 
     /// Takes out the tasks that the last step woke, in the order of their names: these entries are
@@ -125,12 +130,14 @@ impl<P: Program, J: Named<P>> Parked<P, J> {
         woken: &mut Vec<Asked<P, J>>,
     )
         requires program { core.now.program ≡ J.program }
-        requires current { (p : TaskPlace P.Lat.Event P.Local) → IsAmong p self.old → ⟦<P as CoreMeaning>⟧.local_in core.now p.task ≡ Some p.from }
+        requires current { (p : TaskPlace P.Lat.Event P.Local) → IsAmong p (places_of self.old) → ⟦<P as CoreMeaning>⟧.local_in core.now p.task ≡ Some p.from }
+        requires once { NoRepeats (tasks_of (places_of self.old)) }
         requires empty { woken.old.items ≡ [] }
         requires room { length self.old ≤ vec_capacity woken.old }
-        ensures woken { IsWoken (λ p. ⟦<P as CoreMeaning>⟧.can_take core.now (Act p.task)) (λ p. MayWake P.Lat.spot_of P.Lat.watched core.now.touched fresh.now ((P.functions core.now.program).request p.from)) self.old self.new woken.new.items }
+        ensures woken { IsWoken (λ p. ⟦<P as CoreMeaning>⟧.can_take core.now (Act p.task)) (λ p. MayWake P.Lat.spot_of P.Lat.watched core.now.touched fresh.now ((P.functions core.now.program).request p.from)) (places_of self.old) (places_of self.new) woken.new.items }
         ensures by_name { IsStrictlySortedBy (name_cmp P.Lat.Event.cmp) (tasks_of woken.new.items) }
-        ensures once { NoRepeats (tasks_of self.old) → NoRepeats (tasks_of self.new) }
+        ensures once { NoRepeats (tasks_of (places_of self.new)) }
+        ensures within { AreWithin self.new self.old }
         ensures few { vec_len woken.new ≤ length self.old }
     {
         // (small, so that a step while nothing is parked asks for no more)
@@ -148,15 +155,16 @@ impl<P: Program, J: Named<P>> Parked<P, J> {
         woken: &mut Vec<Asked<P, J>>,
     )
         requires program { core.now.program ≡ J.program }
-        requires current { (p : TaskPlace P.Lat.Event P.Local) → IsAmong p self.old → ⟦<P as CoreMeaning>⟧.local_in core.now p.task ≡ Some p.from }
+        requires current { (p : TaskPlace P.Lat.Event P.Local) → IsAmong p (places_of self.old) → ⟦<P as CoreMeaning>⟧.local_in core.now p.task ≡ Some p.from }
+        requires once { NoRepeats (tasks_of (places_of self.old)) }
         requires empty { woken.old.items ≡ [] }
         requires room { length self.old ≤ vec_capacity woken.old }
-        ensures woken { IsWoken (λ p. ⟦<P as CoreMeaning>⟧.can_take core.now (Act p.task)) (λ p. MayWake P.Lat.spot_of P.Lat.watched core.now.touched fresh.now ((P.functions core.now.program).request p.from)) self.old self.new woken.new.items }
+        ensures woken { IsWoken (λ p. ⟦<P as CoreMeaning>⟧.can_take core.now (Act p.task)) (λ p. MayWake P.Lat.spot_of P.Lat.watched core.now.touched fresh.now ((P.functions core.now.program).request p.from)) (places_of self.old) (places_of self.new) woken.new.items }
         ensures by_name { IsStrictlySortedBy (name_cmp P.Lat.Event.cmp) (tasks_of woken.new.items) }
-        ensures once { NoRepeats (tasks_of self.old) → NoRepeats (tasks_of self.new) }
+        ensures once { NoRepeats (tasks_of (places_of self.new)) }
+        ensures within { AreWithin self.new self.old }
         ensures few { vec_len woken.new ≤ length self.old }
     {
-        self.tasks.each_waits_once();
         match core.last_touched() {
             Some(Touched::Put(variable)) => self.wake_gets(core, variable, fresh, woken),
             Some(Touched::Handed(variable)) => self.wake_freezes(core, variable, woken),
@@ -176,9 +184,12 @@ impl<P: Program, J: Named<P>> Parked<P, J> {
         woken: &mut Vec<Asked<P, J>>,
     )
         requires program { core.now.program ≡ J.program }
-        requires current { (p : TaskPlace P.Lat.Event P.Local) → IsAmong p self.old → ⟦<P as CoreMeaning>⟧.local_in core.now p.task ≡ Some p.from }
+        requires current { (p : TaskPlace P.Lat.Event P.Local) → IsAmong p (places_of self.old) → ⟦<P as CoreMeaning>⟧.local_in core.now p.task ≡ Some p.from }
+        requires once { NoRepeats (tasks_of (places_of self.old)) }
         requires room { vec_len woken.old + length self.old ≤ vec_capacity woken.old }
-        ensures { Wakes (λ p. ⟦<P as CoreMeaning>⟧.can_take core.now (Act p.task)) (λ p. MayWake P.Lat.spot_of P.Lat.watched (Some (Put variable)) fresh.now ((P.functions core.now.program).request p.from)) self.old self.new woken.old.items woken.new.items }
+        ensures wakes { Wakes (λ p. ⟦<P as CoreMeaning>⟧.can_take core.now (Act p.task)) (λ p. MayWake P.Lat.spot_of P.Lat.watched (Some (Put variable)) fresh.now ((P.functions core.now.program).request p.from)) (places_of self.old) (places_of self.new) woken.old.items woken.new.items }
+        ensures once { NoRepeats (tasks_of (places_of self.new)) }
+        ensures within { AreWithin self.new self.old }
     {
         // A run in which no get ever waited hashes no key.
         if self.gets.lists.is_empty() {
@@ -199,22 +210,28 @@ impl<P: Program, J: Named<P>> Parked<P, J> {
         woken: &mut Vec<Asked<P, J>>,
     )
         requires program { core.now.program ≡ J.program }
-        requires current { (p : TaskPlace P.Lat.Event P.Local) → IsAmong p self.old → ⟦<P as CoreMeaning>⟧.local_in core.now p.task ≡ Some p.from }
+        requires current { (p : TaskPlace P.Lat.Event P.Local) → IsAmong p (places_of self.old) → ⟦<P as CoreMeaning>⟧.local_in core.now p.task ≡ Some p.from }
+        requires once { NoRepeats (tasks_of (places_of self.old)) }
         requires room { vec_len woken.old + length self.old ≤ vec_capacity woken.old }
-        ensures wakes { Wakes (λ p. ⟦<P as CoreMeaning>⟧.can_take core.now (Act p.task)) (λ p. WaitsAt P.Lat.watched key ((P.functions core.now.program).request p.from)) self.old self.new woken.old.items woken.new.items }
+        ensures wakes { Wakes (λ p. ⟦<P as CoreMeaning>⟧.can_take core.now (Act p.task)) (λ p. WaitsAt P.Lat.watched key ((P.functions core.now.program).request p.from)) (places_of self.old) (places_of self.new) woken.old.items woken.new.items }
+        ensures once { NoRepeats (tasks_of (places_of self.new)) }
+        ensures within { AreWithin self.new self.old }
         ensures capacity { vec_capacity woken.new ≡ vec_capacity woken.old }
     {
-        if let Some(names) = self.gets.lists.get_mut(&key) {
-            self.tasks.wake_each(core, names, woken);
+        if let Some(indices) = self.gets.lists.get_mut(&key) {
+            self.tasks.wake_each(core, indices, woken);
         }
     }
 
     /// Takes out the freezes of the variable that can go on.
     fn wake_freezes(&mut self, core: &Core<'_, P>, variable: usize, woken: &mut Vec<Asked<P, J>>)
         requires program { core.now.program ≡ J.program }
-        requires current { (p : TaskPlace P.Lat.Event P.Local) → IsAmong p self.old → ⟦<P as CoreMeaning>⟧.local_in core.now p.task ≡ Some p.from }
+        requires current { (p : TaskPlace P.Lat.Event P.Local) → IsAmong p (places_of self.old) → ⟦<P as CoreMeaning>⟧.local_in core.now p.task ≡ Some p.from }
+        requires once { NoRepeats (tasks_of (places_of self.old)) }
         requires room { vec_len woken.old + length self.old ≤ vec_capacity woken.old }
-        ensures { Wakes (λ p. ⟦<P as CoreMeaning>⟧.can_take core.now (Act p.task)) (λ p. MayWake P.Lat.spot_of P.Lat.watched (Some (Handed variable)) [] ((P.functions core.now.program).request p.from)) self.old self.new woken.old.items woken.new.items }
+        ensures wakes { Wakes (λ p. ⟦<P as CoreMeaning>⟧.can_take core.now (Act p.task)) (λ p. MayWake P.Lat.spot_of P.Lat.watched (Some (Handed variable)) [] ((P.functions core.now.program).request p.from)) (places_of self.old) (places_of self.new) woken.old.items woken.new.items }
+        ensures once { NoRepeats (tasks_of (places_of self.new)) }
+        ensures within { AreWithin self.new self.old }
     {
         // A run in which no freeze ever waited hashes no key.
         if self.freezes.lists.is_empty() {
@@ -224,8 +241,8 @@ impl<P: Program, J: Named<P>> Parked<P, J> {
         if !core.is_drained_at(variable) {
             return;
         }
-        if let Some(names) = self.freezes.lists.get_mut(&variable) {
-            self.tasks.wake_each(core, names, woken);
+        if let Some(indices) = self.freezes.lists.get_mut(&variable) {
+            self.tasks.wake_each(core, indices, woken);
         }
     }
 }

@@ -55,7 +55,9 @@ impl<P: Program, J: Named<P>> Room<P, J> {
         ensures concerned { IfOk result (λ _. (self.new.concerned.items ≡ []) × (handlers ≤ vec_capacity self.new.concerned)) }
         ensures hands { IfOk result (λ _. (self.new.hands.items ≡ []) × (handlers ≤ vec_capacity self.new.hands)) }
     {
-        self.woken.clear();
+        if !self.woken.is_empty() {
+            self.woken.clear();
+        }
         self.woken.reserve(parked)?;
         self.concerned.clear();
         self.concerned.reserve(handlers)?;
@@ -107,7 +109,9 @@ impl<P: Program, J: Named<P>> Room<P, J> {
 pub(crate) fn give<T: Drop>(buffer: &mut Vec<T>, list: &mut Vec<T>)
     ensures { list.new.items ≡ buffer.old.items }
 {
-    list.clear();
+    if !list.is_empty() {
+        list.clear();
+    }
     if !buffer.is_empty() {
         give_some(buffer, list);
     }

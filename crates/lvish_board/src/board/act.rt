@@ -4,6 +4,7 @@ ghost use Rattle.std.specs.Prelude.{◌≡◌, ◌≢◌, ◌++◌, ◌∷◌, �
 ghost use Rattle.lvish_calculus.specs.declared.label.Label.TheVariants.{Act};
 ghost use Rattle.lvish_board.specs.declared.work.Work.TheVariants.{Act as ActOn};
 ghost use Rattle.lvish_board.specs.Acts.{entry_of, is_step, is_gone, is_over, is_stale, is_parked, GivesBack, ComesOfAct, ComesOfNoAct, IsDone, HasOwn, ListsWork, KeepsAtMemory, NotesStep, with_work};
+ghost use Rattle.lvish_core.specs.Tasks.{IsAt};
 ghost use Rattle.lvish_board.specs.Place.{TaskPlace};
 ghost use Rattle.lvish_board.specs.Woken.{IsParkedBeside};
 
@@ -62,6 +63,44 @@ impl<'p, P: Program, J: Named<P>> Board<'p, P, J> {
         // Where memory was refused the task is in its place.
         ensures back { result ≡ Came.Memory → asked.new ≡ asked.old }
     {
+        self.index_for(asked);
+        self.act_indexed(alloc, worker, asked, works)
+    }
+
+    /// Makes the index of names whole for a ticket whose stamp doesn't say where its task stands.
+    #[inline(always)]
+    fn index_for(&mut self, asked: &Option<Asked<P, J>>)
+        ensures { self.new ≡ self.old }
+    {
+        if let Some(asked) = asked {
+            if !self.newest.is(asked.index(), asked.stamp()) {
+                self.index_names();
+            }
+        }
+    }
+
+    /// Makes the index of the names of its tasks whole. It isn't inlined, since only old tickets and those
+    /// of other boards need it.
+    #[inline(never)]
+    fn index_names(&mut self)
+        ensures { self.new ≡ self.old }
+    {
+        self.core.index_names();
+    }
+
+    /// The same, where the names are indexed if one of them is to be found.
+    #[inline(always)]
+    fn act_indexed(
+        &mut self,
+        alloc: Global,
+        worker: usize,
+        asked: &mut Option<Asked<P, J>>,
+        works: &mut Works<P, J>,
+    ) -> Came
+        requires there { IsSome asked.old }
+        ensures comes { (a : TaskPlace P.Lat.Event P.Local) → asked.old ≡ Some a → ComesOfAct P.Lat.Event.cmp (⟦<P as Meaning>⟧.machine J.program) (⟦<P as CoreMeaning>⟧.local_in self.old.core a.task ≡ Some a.from) (⟦<P as CoreMeaning>⟧.can_take self.old.core (Act a.task)) worker a self.old self.new (with_work result (ActOn a) works.new) }
+        ensures back { result ≡ Came.Memory → asked.new ≡ asked.old }
+    {
         if self.over.is_some() {
             return Came::Over;
         }
@@ -72,10 +111,10 @@ impl<'p, P: Program, J: Named<P>> Board<'p, P, J> {
             return Came::Stale;
         };
         if self.trace.len() as u64 >= self.budget {
-            return self.act_no_more(alloc, asked);
+            return self.act_no_more(alloc, numbers.index, asked);
         }
         match self.make(alloc, worker, numbers, task, works) {
-            Came::Memory => self.not_made(alloc, asked),
+            Came::Memory => self.not_made(alloc, numbers.index, asked),
             came => came,
         }
     }
@@ -83,11 +122,12 @@ impl<'p, P: Program, J: Named<P>> Board<'p, P, J> {
     /// What comes of an act where the budget is used up: the task is parked where it is blocked, else
     /// the board is over.
     #[inline(never)]
-    fn act_no_more(&mut self, alloc: Global, place: &mut Option<Asked<P, J>>) -> Came
+    fn act_no_more(&mut self, alloc: Global, index: usize, place: &mut Option<Asked<P, J>>) -> Came
         requires running { self.old.over ≡ None }
         requires used { length self.old.trace ≡ J.budget }
         requires there { IsSome place.old }
         requires current { (a : TaskPlace P.Lat.Event P.Local) → place.old ≡ Some a → ⟦<P as CoreMeaning>⟧.local_in self.old.core a.task ≡ Some a.from }
+        requires at { (a : TaskPlace P.Lat.Event P.Local) → place.old ≡ Some a → IsAt self.old.core.table.tasks index a.task }
         ensures trace { self.new.trace ≡ self.old.trace }
         ensures core { self.new.core ≡ self.old.core }
         ensures came { (a : TaskPlace P.Lat.Event P.Local) → place.old ≡ Some a → ComesOfNoAct (⟦<P as CoreMeaning>⟧.can_take self.old.core (Act a.task)) a self.old self.new result }
@@ -97,7 +137,7 @@ impl<'p, P: Program, J: Named<P>> Board<'p, P, J> {
             unreachable!()
         };
         if !self.can_go_on(asked) {
-            return self.park(alloc, place);
+            return self.park(alloc, index, place);
         }
         self.over = Some(Outcome::Budget);
         Came::Over
@@ -105,10 +145,11 @@ impl<'p, P: Program, J: Named<P>> Board<'p, P, J> {
 
     /// What comes of an act whose step isn't made: the task is blocked, or there is no memory for it.
     #[inline(never)]
-    fn not_made(&mut self, alloc: Global, place: &mut Option<Asked<P, J>>) -> Came
+    fn not_made(&mut self, alloc: Global, index: usize, place: &mut Option<Asked<P, J>>) -> Came
         requires running { self.old.over ≡ None }
         requires there { IsSome place.old }
         requires current { (a : TaskPlace P.Lat.Event P.Local) → place.old ≡ Some a → ⟦<P as CoreMeaning>⟧.local_in self.old.core a.task ≡ Some a.from }
+        requires at { (a : TaskPlace P.Lat.Event P.Local) → place.old ≡ Some a → IsAt self.old.core.table.tasks index a.task }
         ensures trace { self.new.trace ≡ self.old.trace }
         ensures core { self.new.core ≡ self.old.core }
         ensures came { (a : TaskPlace P.Lat.Event P.Local) → place.old ≡ Some a → ComesOfNoAct (⟦<P as CoreMeaning>⟧.can_take self.old.core (Act a.task)) a self.old self.new result }
@@ -120,7 +161,7 @@ impl<'p, P: Program, J: Named<P>> Board<'p, P, J> {
         if self.can_go_on(asked) {
             return Came::Memory;
         }
-        self.park(alloc, place)
+        self.park(alloc, index, place)
     }
 
     /// The task's numbers, where it is there in the local state in which it asks.
@@ -158,10 +199,11 @@ impl<'p, P: Program, J: Named<P>> Board<'p, P, J> {
 
     /// Parks a blocked task.
     #[inline(never)]
-    fn park(&mut self, alloc: Global, place: &mut Option<Asked<P, J>>) -> Came
+    fn park(&mut self, alloc: Global, index: usize, place: &mut Option<Asked<P, J>>) -> Came
         requires running { self.old.over ≡ None }
         requires there { IsSome place.old }
         requires current { (a : TaskPlace P.Lat.Event P.Local) → place.old ≡ Some a → ⟦<P as CoreMeaning>⟧.local_in self.old.core a.task ≡ Some a.from }
+        requires at { (a : TaskPlace P.Lat.Event P.Local) → place.old ≡ Some a → IsAt self.old.core.table.tasks index a.task }
         requires blocked { (a : TaskPlace P.Lat.Event P.Local) → place.old ≡ Some a → ⟦<P as CoreMeaning>⟧.can_take self.old.core (Act a.task) → ⊥ }
         ensures trace { self.new.trace ≡ self.old.trace }
         ensures core { self.new.core ≡ self.old.core }
@@ -171,7 +213,7 @@ impl<'p, P: Program, J: Named<P>> Board<'p, P, J> {
         let Some(asked) = place.take() else {
             unreachable!()
         };
-        match self.park_asked(alloc, asked) {
+        match self.park_asked(alloc, index, asked) {
             Ok(()) => Came::Parked,
             Err(asked) => {
                 *place = Some(asked);
@@ -185,16 +227,25 @@ impl<'p, P: Program, J: Named<P>> Board<'p, P, J> {
     /// # Errors
     ///
     /// Where there is no room for it, the task; nothing has changed.
-    fn park_asked(&mut self, alloc: Global, asked: Asked<P, J>) -> Result<(), Asked<P, J>>
+    fn park_asked(
+        &mut self,
+        alloc: Global,
+        index: usize,
+        asked: Asked<P, J>,
+    ) -> Result<(), Asked<P, J>>
         requires running { self.old.over ≡ None }
         requires current { ⟦<P as CoreMeaning>⟧.local_in self.old.core asked.task ≡ Some asked.from }
+        requires at { IsAt self.old.core.table.tasks index asked.task }
         requires blocked { ⟦<P as CoreMeaning>⟧.can_take self.old.core (Act asked.task) → ⊥ }
         ensures trace { self.new.trace ≡ self.old.trace }
         ensures core { self.new.core ≡ self.old.core }
         ensures ok { IfOk result (λ _. IsParkedBeside self.old.parked asked self.new.parked) }
         ensures err { IfErr result (λ a. (a ≡ asked) × (self.new ≡ self.old)) }
     {
-        match self.parked.park(alloc, asked) {
+        self.core.each_task_once();
+        let mut asked = asked;
+        asked.rest();
+        match self.parked.park(alloc, index, asked) {
             Ok(()) => {
                 self.settle();
                 Ok(())

@@ -15,6 +15,7 @@ use Rattle.lvish_board.proofs.Comes.{act_gone, act_left, left_kept}
 use Rattle.lvish_board.proofs.Concerned.{act_made, few_added}
 use Rattle.lvish_board.proofs.Handing.{seen_core, seen_parked}
 use Rattle.lvish_board.proofs.Knowing.{error_known, step_known}
+use Rattle.lvish_board.proofs.Parking.{still_indexed}
 use Rattle.lvish_board.proofs.Noting.{acts_there, all_noted, written}
 use Rattle.lvish_board.proofs.board.Board.make.Goals.{In-Error, After-left_by-left}
 use Rattle.lvish_board.proofs.board.Board.make.Goals as goal
@@ -33,7 +34,7 @@ invariant_of-self-in-Error g c =
     let noted = all_noted (task_names c.self.inside.core.table.tasks) (task_names c.step_with_room.new.core.table.tasks) step.indices c.self.inside.trace.items c.step_with_room.new.trace.items c.args.worker (ActStep c.args.numbers.index) c.self.invariant.1 c.in-Ok.ensures.written (c.args.asked.now.task, there) in
     let longer = written (task_names c.self.inside.core.table.tasks) (task_names c.step_with_room.new.core.table.tasks) step.indices c.self.inside.trace.items c.step_with_room.new.trace.items c.args.worker (ActStep c.args.numbers.index) c.self.invariant.1 c.in-Ok.ensures.written (Act c.args.asked.now.task) (acts_there (task_names c.step_with_room.new.core.table.tasks) c.args.numbers.index c.args.asked.now.task there) in
     let known = error_known _ (c.tasks_after.ensures.others g.J.Named.program) _ c.self.invariant.2.leads c.each_task_once.ensures c.args.asked.now.task c.args.numbers.index _ step live c.self.inside.newest c.clear.new.self c.self.invariant.3 (rw c.step_with_room.ensures.newest at c.clear.ensures) in
-    (c.self.invariant.0, noted, error_kept _ _ _ _ _ step _ _ _ _ _ _ c.args.worker _ c.self.invariant.2 (rw (← c.self.view_is) at c.requires.room) longer (rw c.step_with_room.ensures.same at c.error_outcome.ensures), known)
+    (c.self.invariant.0, noted, error_kept _ _ _ _ _ step _ _ _ _ _ _ c.args.worker _ c.self.invariant.2 (rw (← c.self.view_is) at c.requires.room) longer (rw c.step_with_room.ensures.same at c.error_outcome.ensures), known, still_indexed _ _ step.indices _ _ c.self.invariant.4 (λ e i. i))
 
 pub returns-in-Error-clause-comes : goal.returns-in-Error-clause-comes
 returns-in-Error-clause-comes g c =
@@ -67,6 +68,9 @@ leave-requires-clause-logged g c = (made g (goal.at.leave-requires-clause-logged
 pub leave-requires-clause-current : goal.leave-requires-clause-current
 leave-requires-clause-current g c = λ p i. still_current (c.waiting_tasks.ensures.until_touched g.J.Named.program) (made g (goal.at.leave-requires-clause-current g c).After-left_by-left).0 p (c.self.invariant.2.blocked p i)
 
+pub leave-requires-clause-once : goal.leave-requires-clause-once
+leave-requires-clause-once g c = c.self.invariant.2.once
+
 pub leave-requires-clause-empty : goal.leave-requires-clause-empty
 leave-requires-clause-empty g c = c.in-Ok.ensures.empty
 
@@ -91,7 +95,7 @@ invariant_of-self-in-Done g c =
     let newest = rw (c.step_with_room.ensures.same, c.step_with_room.ensures.newest) at c.left_by-left.ensures.newest in
     let known = step_known _ (c.tasks_after.ensures.others g.J.Named.program) _ sound.leads c.each_task_once.ensures (c.tasks_after.ensures.made g.J.Named.program) c.in-Ok.moved c.args.asked.now.task c.args.numbers.index _ k.step k.told live
     (stands (c.lawful.ensures g.J.Named.program) k) c.self.inside.newest c.left_by-left.new.newest c.self.invariant.3 newest.0 newest.1 c.tasks-next.result c.tasks-next.ensures newest.2 in
-    (c.self.invariant.0, noted, kept_made (c.waiting_tasks.ensures.until_touched g.J.Named.program) k (c.passes_at_its_spot.ensures g.J.Named.program) sound.blocked c.leave.ensures.left _ _ _ _ _ c.args.worker sound going (rw (← c.self.view_is) at c.requires.room) longer (c.leave.ensures.once sound.once), known)
+    (c.self.invariant.0, noted, kept_made (c.waiting_tasks.ensures.until_touched g.J.Named.program) k (c.passes_at_its_spot.ensures g.J.Named.program) sound.blocked c.leave.ensures.left _ _ _ _ _ c.args.worker sound going (rw (← c.self.view_is) at c.requires.room) longer c.leave.ensures.once, known, still_indexed _ _ k.step.indices _ _ c.self.invariant.4 c.leave.ensures.within)
 
 pub returns-in-Done-clause-comes : goal.returns-in-Done-clause-comes
 returns-in-Done-clause-comes g c =

@@ -12,6 +12,7 @@ use Rattle.lvish_board.proofs.Blocked.{IsMade, is_listed, kept_made, still_curre
 use Rattle.lvish_board.proofs.Comes.{for_this, hand_memory, hand_next}
 use Rattle.lvish_board.proofs.Handing.{hand_made, hand_tickets, handed_event, handed_well, seen_core, seen_parked}
 use Rattle.lvish_board.proofs.Knowing.{hand_known}
+use Rattle.lvish_board.proofs.Parking.{still_indexed}
 use Rattle.lvish_board.proofs.Noting.{all_noted, hands_there, written}
 use Rattle.lvish_board.proofs.board.Board.make_hand.Goals.{After-ticket_of}
 use Rattle.lvish_board.proofs.board.Board.make_hand.Goals as goal
@@ -40,6 +41,9 @@ leave-requires-clause-program g c = (made g (goal.at.leave-requires-clause-progr
 pub leave-requires-clause-current : goal.leave-requires-clause-current
 leave-requires-clause-current g c = λ p i. still_current (c.waiting_tasks.ensures.until_touched g.J.Named.program) (made g (goal.at.leave-requires-clause-current g c).After-ticket_of) p (c.self.invariant.2.blocked p i)
 
+pub leave-requires-clause-once : goal.leave-requires-clause-once
+leave-requires-clause-once g c = c.self.invariant.2.once
+
 pub invariant_of-self-2 : goal.invariant_of-self-2
 invariant_of-self-2 g c =
     let sound = c.self.invariant.2 in
@@ -51,7 +55,7 @@ invariant_of-self-2 g c =
     let longer = written (task_names c.self.inside.core.table.tasks) (task_names c.hand_with_room.new.core.table.tasks) k.step.indices c.self.inside.trace.items c.hand_with_room.new.trace.items c.args.worker (HandStep c.tasks.result) c.self.invariant.1 c.in-Ok.ensures.written (Hand c.in-Some.name.now event) (hands_there (task_names c.hand_with_room.new.core.table.tasks) c.tasks.result c.in-Some.name.now event there) in
     let newest = rw (c.index.ensures, c.hand_with_room.ensures.newest) at c.ticket_of.ensures.newest in
     let known = hand_known _ (c.tasks_after.ensures.others g.J.Named.program) _ sound.leads c.each_task_once.ensures (c.tasks_after.ensures.made g.J.Named.program) c.in-Ok.moved c.in-Some.name.now event _ k.step k.told c.self.inside.newest c.ticket_of.new.newest c.self.invariant.3 c.tasks.result c.tasks.ensures newest in
-    (c.self.invariant.0, noted, kept_made (c.waiting_tasks.ensures.until_touched g.J.Named.program) k (c.passes_at_its_spot.ensures g.J.Named.program) sound.blocked c.leave.ensures.left _ _ _ _ _ c.args.worker sound going (rw (← c.self.view_is) at c.requires.room) longer (c.leave.ensures.once sound.once), known)
+    (c.self.invariant.0, noted, kept_made (c.waiting_tasks.ensures.until_touched g.J.Named.program) k (c.passes_at_its_spot.ensures g.J.Named.program) sound.blocked c.leave.ensures.left _ _ _ _ _ c.args.worker sound going (rw (← c.self.view_is) at c.requires.room) longer c.leave.ensures.once, known, still_indexed _ _ k.step.indices _ _ c.self.invariant.4 c.leave.ensures.within)
 
 pub returns-in_default-hand_with_room-clause-comes : goal.returns-in_default-hand_with_room-clause-comes
 returns-in_default-hand_with_room-clause-comes g c = for_this _ _ _ c.in-Some.ensures.value (hand_memory c.requires.running (search rules))

@@ -1,64 +1,70 @@
-use Rattle.std.proofs.Common.{◌≡◌, inl, inr, ℕ, Option, IfOk, true, refl, sym, subst, ◌∙◌, nat_eq, true≢false}
-use Rattle.lvish_names.specs.Names.{Name}
+use Rattle.std.proofs.Common.{◌≡◌, ◌++◌, ◌∷◌, [], inl, inr, ℕ, Option, IfOk, IfErr, true, refl, sym, subst, ◌∙◌, true≢false}
 use Rattle.lvish_board.specs.Place.{TaskPlace}
 use Rattle.lvish_calculus.specs.declared.request.Request.TheVariants.{Get, Freeze}
-use Rattle.lvish_calculus.specs.Handing.{IsAmong, NoRepeats}
+use Rattle.lvish_calculus.specs.Handing.{IsAmong}
 use Rattle.lvish_board.specs.Shelved.{IsOnItsList, shelf, same_spot}
+use Rattle.lvish_board.specs.Seated.{indices_of, places_of}
 use Rattle.lvish_board.specs.Standing.{tasks_of}
 use Rattle.lvish_board.proofs.Lists.{stays_on}
-use Rattle.lvish_board.proofs.Parking.{beside_itself, beside_if_ok, parked_or_before}
-use Rattle.lvish_board.specs.Woken.{IsParkedBeside}
-use Rattle.lvish_board.proofs.parked.Parked.park.Goals.{in-Get+in-Ok-push, in-Freeze+in-Ok-push-2}
+use Rattle.lvish_board.proofs.Parking.{beside_itself, beside_if_ok, is_parked_at, not_parked, once_beside, parked_or_before}
+use Rattle.lvish_board.proofs.parked.Parked.park.Goals.{in-Get+in-Ok, in-Freeze+in-Ok-push}
 use Rattle.lvish_board.proofs.parked.Parked.park.Goals as goal
 
 pub returns-then-has-clause-ok : goal.returns-then-has-clause-ok
 returns-then-has-clause-ok g c =
-    beside_itself c.args.asked c.args.self.now (subst (λ ps. NoRepeats (tasks_of ps)) c.self.view_is c.each_waits_once.ensures) c.requires.same
-    (subst (λ ps. IsAmong c.args.asked.task (tasks_of ps)) c.self.view_is (subst (λ t. IsAmong t (tasks_of c.self.inside.tasks)) c.task.ensures (c.has.ensures.0 c.if-has.true)))
+    let there = subst (λ es. IsAmong c.args.index (indices_of es)) c.self.view_is (c.has.ensures.0 c.if-has.true) in
+    beside_itself c.args.asked (places_of c.args.self.now) c.requires.once c.requires.same (is_parked_at c.args.index c.args.asked.task c.args.self.now c.requires.theirs there)
 
 pub invariant_of-self : goal.invariant_of-self
-invariant_of-self g c = λ q i. stays_on g.P.Lat.Spot.PartialEq.eq g.P.Lat.Reads.watched c.self.inside.gets.lists c.push.new.self.lists c.self.inside.freezes.lists c.self.inside.freezes.lists ((g.P.Program.functions g.J.Named.program).request q.from) q.task (λ k. c.push.ensures.kept k q.task) (λ k on. on) (c.self.invariant q i)
+invariant_of-self g c = λ e i. stays_on g.P.Lat.Spot.PartialEq.eq g.P.Lat.Reads.watched c.self.inside.gets.lists c.push.new.self.lists c.self.inside.freezes.lists c.self.inside.freezes.lists ((g.P.Program.functions g.J.Named.program).request e.1.from) e.0 (λ k. c.push.ensures.kept k e.0) (λ k on. on) (c.self.invariant e i)
 
 pub invariant_of-self-in_default-push-2 : goal.invariant_of-self-in_default-push-2
-invariant_of-self-in_default-push-2 g c = λ q i. stays_on g.P.Lat.Spot.PartialEq.eq g.P.Lat.Reads.watched c.self.inside.gets.lists c.self.inside.gets.lists c.self.inside.freezes.lists c.push-in-Freeze.new.self.lists ((g.P.Program.functions g.J.Named.program).request q.from) q.task (λ k on. on) (λ k. c.push-in-Freeze.ensures.kept k q.task) (c.self.invariant q i)
+invariant_of-self-in_default-push-2 g c = λ e i. stays_on g.P.Lat.Spot.PartialEq.eq g.P.Lat.Reads.watched c.self.inside.gets.lists c.self.inside.gets.lists c.self.inside.freezes.lists c.push-in-Freeze.new.self.lists ((g.P.Program.functions g.J.Named.program).request e.1.from) e.0 (λ k on. on) (λ k. c.push-in-Freeze.ensures.kept k e.0) (c.self.invariant e i)
 
--- the same tasks are parked; the asked one's name is on its list, and theirs are still on theirs
-listed : (g : _) (c : goal.After-insert g) → (c.match-request.self-inside.tasks ≡ c.self.inside.tasks) × (IsOnItsList g.P.Lat.Spot.PartialEq.eq g.P.Lat.Reads.watched c.match-request.self-inside.gets.lists c.match-request.self-inside.freezes.lists ((g.P.Program.functions g.J.Named.program).request c.args.asked.from) c.args.asked.task) × ((q : TaskPlace g.row.P-Lat-Event.Denot g.row.P-Local.Denot) → IsOnItsList g.P.Lat.Spot.PartialEq.eq g.P.Lat.Reads.watched c.self.inside.gets.lists c.self.inside.freezes.lists ((g.P.Program.functions g.J.Named.program).request q.from) q.task → IsOnItsList g.P.Lat.Spot.PartialEq.eq g.P.Lat.Reads.watched c.match-request.self-inside.gets.lists c.match-request.self-inside.freezes.lists ((g.P.Program.functions g.J.Named.program).request q.from) q.task)
+-- the same tasks are parked; the asked one's index is on its list, and theirs are still on theirs
+listed : (g : _) (c : goal.After-insert g) → (c.match-request.self-inside.tasks ≡ c.self.inside.tasks) × (IsOnItsList g.P.Lat.Spot.PartialEq.eq g.P.Lat.Reads.watched c.match-request.self-inside.gets.lists c.match-request.self-inside.freezes.lists ((g.P.Program.functions g.J.Named.program).request c.args.asked.from) c.args.index) × ((e : ℕ × TaskPlace g.row.P-Lat-Event.Denot g.row.P-Local.Denot) → IsOnItsList g.P.Lat.Spot.PartialEq.eq g.P.Lat.Reads.watched c.self.inside.gets.lists c.self.inside.freezes.lists ((g.P.Program.functions g.J.Named.program).request e.1.from) e.0 → IsOnItsList g.P.Lat.Spot.PartialEq.eq g.P.Lat.Reads.watched c.match-request.self-inside.gets.lists c.match-request.self-inside.freezes.lists ((g.P.Program.functions g.J.Named.program).request e.1.from) e.0)
 listed g c =
-    let name : c.in-Ok.name ≡ c.args.asked.task = c.in-Ok.ensures ∙ c.task-2.ensures in
     elim c.match-request.branch [
-      | in-Get+in-Ok-push w ↦
+      | in-Get+in-Ok w ↦
           let asks : (g.P.Program.functions g.J.Named.program).request c.args.asked.from ≡ Get w.in-Get.variable w.in-Get.read = sym c.request.ensures ∙ w.in-Get.is in
-          let under : (ℕ × Option g.row.P-Lat-Spot.Denot) → Name g.row.P-Lat-Event.Denot → Type 0 = λ k t. IsAmong t (shelf (same_spot g.P.Lat.Spot.PartialEq.eq) w.push.new.self.lists k) in
-          let lies : under (w.in-Get.variable, g.P.Lat.Reads.watched w.in-Get.read) c.args.asked.task =
-          subst (λ t. under (w.in-Get.variable, g.P.Lat.Reads.watched w.in-Get.read) t) name (subst (λ s. under (w.in-Get.variable, s) c.in-Ok.name) w.watch.ensures w.in-Ok-push.ensures.there) in
-          subst (λ s. (s.tasks ≡ c.self.inside.tasks) × (IsOnItsList g.P.Lat.Spot.PartialEq.eq g.P.Lat.Reads.watched s.gets.lists s.freezes.lists ((g.P.Program.functions g.J.Named.program).request c.args.asked.from) c.args.asked.task) × ((q : TaskPlace g.row.P-Lat-Event.Denot g.row.P-Local.Denot) → IsOnItsList g.P.Lat.Spot.PartialEq.eq g.P.Lat.Reads.watched c.self.inside.gets.lists c.self.inside.freezes.lists ((g.P.Program.functions g.J.Named.program).request q.from) q.task → IsOnItsList g.P.Lat.Spot.PartialEq.eq g.P.Lat.Reads.watched s.gets.lists s.freezes.lists ((g.P.Program.functions g.J.Named.program).request q.from) q.task)) (sym w.self-inside-is) (
+          let under : (ℕ × Option g.row.P-Lat-Spot.Denot) → Type 0 = λ k. IsAmong c.args.index (shelf (same_spot g.P.Lat.Spot.PartialEq.eq) w.push.new.self.lists k) in
+          let lies : under (w.in-Get.variable, g.P.Lat.Reads.watched w.in-Get.read) = subst (λ s. under (w.in-Get.variable, s)) w.watch.ensures w.in-Ok.ensures.there in
+          subst (λ s. (s.tasks ≡ c.self.inside.tasks) × (IsOnItsList g.P.Lat.Spot.PartialEq.eq g.P.Lat.Reads.watched s.gets.lists s.freezes.lists ((g.P.Program.functions g.J.Named.program).request c.args.asked.from) c.args.index) × ((e : ℕ × TaskPlace g.row.P-Lat-Event.Denot g.row.P-Local.Denot) → IsOnItsList g.P.Lat.Spot.PartialEq.eq g.P.Lat.Reads.watched c.self.inside.gets.lists c.self.inside.freezes.lists ((g.P.Program.functions g.J.Named.program).request e.1.from) e.0 → IsOnItsList g.P.Lat.Spot.PartialEq.eq g.P.Lat.Reads.watched s.gets.lists s.freezes.lists ((g.P.Program.functions g.J.Named.program).request e.1.from) e.0)) (sym w.self-inside-is) (
             refl,
-            subst (λ r. IsOnItsList g.P.Lat.Spot.PartialEq.eq g.P.Lat.Reads.watched w.push.new.self.lists c.self.inside.freezes.lists r c.args.asked.task) (sym asks) lies,
-            λ q. stays_on g.P.Lat.Spot.PartialEq.eq g.P.Lat.Reads.watched c.self.inside.gets.lists w.push.new.self.lists c.self.inside.freezes.lists c.self.inside.freezes.lists ((g.P.Program.functions g.J.Named.program).request q.from) q.task (λ k. w.push.ensures.kept k q.task) (λ k on. on),
+            subst (λ r. IsOnItsList g.P.Lat.Spot.PartialEq.eq g.P.Lat.Reads.watched w.push.new.self.lists c.self.inside.freezes.lists r c.args.index) (sym asks) lies,
+            λ e. stays_on g.P.Lat.Spot.PartialEq.eq g.P.Lat.Reads.watched c.self.inside.gets.lists w.push.new.self.lists c.self.inside.freezes.lists c.self.inside.freezes.lists ((g.P.Program.functions g.J.Named.program).request e.1.from) e.0 (λ k. w.push.ensures.kept k e.0) (λ k on. on),
           )
-      | in-Freeze+in-Ok-push-2 w ↦
+      | in-Freeze+in-Ok-push w ↦
           let asks : (g.P.Program.functions g.J.Named.program).request c.args.asked.from ≡ Freeze w.in-Freeze.variable w.in-Freeze.field-1 = sym c.request.ensures ∙ w.in-Freeze.is in
-          let lies : IsAmong c.args.asked.task (shelf nat_eq w.push-in-Freeze.new.self.lists w.in-Freeze.variable) = subst (λ t. IsAmong t (shelf nat_eq w.push-in-Freeze.new.self.lists w.in-Freeze.variable)) name w.in-Ok-push-2.ensures.there in
-          subst (λ s. (s.tasks ≡ c.self.inside.tasks) × (IsOnItsList g.P.Lat.Spot.PartialEq.eq g.P.Lat.Reads.watched s.gets.lists s.freezes.lists ((g.P.Program.functions g.J.Named.program).request c.args.asked.from) c.args.asked.task) × ((q : TaskPlace g.row.P-Lat-Event.Denot g.row.P-Local.Denot) → IsOnItsList g.P.Lat.Spot.PartialEq.eq g.P.Lat.Reads.watched c.self.inside.gets.lists c.self.inside.freezes.lists ((g.P.Program.functions g.J.Named.program).request q.from) q.task → IsOnItsList g.P.Lat.Spot.PartialEq.eq g.P.Lat.Reads.watched s.gets.lists s.freezes.lists ((g.P.Program.functions g.J.Named.program).request q.from) q.task)) (sym w.self-inside-is) (
+          let lies = w.in-Ok-push.ensures.there in
+          subst (λ s. (s.tasks ≡ c.self.inside.tasks) × (IsOnItsList g.P.Lat.Spot.PartialEq.eq g.P.Lat.Reads.watched s.gets.lists s.freezes.lists ((g.P.Program.functions g.J.Named.program).request c.args.asked.from) c.args.index) × ((e : ℕ × TaskPlace g.row.P-Lat-Event.Denot g.row.P-Local.Denot) → IsOnItsList g.P.Lat.Spot.PartialEq.eq g.P.Lat.Reads.watched c.self.inside.gets.lists c.self.inside.freezes.lists ((g.P.Program.functions g.J.Named.program).request e.1.from) e.0 → IsOnItsList g.P.Lat.Spot.PartialEq.eq g.P.Lat.Reads.watched s.gets.lists s.freezes.lists ((g.P.Program.functions g.J.Named.program).request e.1.from) e.0)) (sym w.self-inside-is) (
             refl,
-            subst (λ r. IsOnItsList g.P.Lat.Spot.PartialEq.eq g.P.Lat.Reads.watched c.self.inside.gets.lists w.push-in-Freeze.new.self.lists r c.args.asked.task) (sym asks) lies,
-            λ q. stays_on g.P.Lat.Spot.PartialEq.eq g.P.Lat.Reads.watched c.self.inside.gets.lists c.self.inside.gets.lists c.self.inside.freezes.lists w.push-in-Freeze.new.self.lists ((g.P.Program.functions g.J.Named.program).request q.from) q.task (λ k on. on) (λ k. w.push-in-Freeze.ensures.kept k q.task),
+            subst (λ r. IsOnItsList g.P.Lat.Spot.PartialEq.eq g.P.Lat.Reads.watched c.self.inside.gets.lists w.push-in-Freeze.new.self.lists r c.args.index) (sym asks) lies,
+            λ e. stays_on g.P.Lat.Spot.PartialEq.eq g.P.Lat.Reads.watched c.self.inside.gets.lists c.self.inside.gets.lists c.self.inside.freezes.lists w.push-in-Freeze.new.self.lists ((g.P.Program.functions g.J.Named.program).request e.1.from) e.0 (λ k on. on) (λ k. w.push-in-Freeze.ensures.kept k e.0),
           )
     ]
 
 pub invariant_of-self-2 : goal.invariant_of-self-2
-invariant_of-self-2 g c = λ q i.
+invariant_of-self-2 g c = λ e i.
     let l = listed g c in
-    elim (parked_or_before c.insert.result c.args.asked c.match-request.self-inside.tasks c.insert.new.self c.insert.ensures.ok c.insert.ensures.err q i) [
-      | inl e ↦ subst (λ x. IsOnItsList g.P.Lat.Spot.PartialEq.eq g.P.Lat.Reads.watched c.match-request.self-inside.gets.lists c.match-request.self-inside.freezes.lists ((g.P.Program.functions g.J.Named.program).request x.from) x.task) (sym e) l.1
-      | inr j ↦ l.2 q (c.self.invariant q (subst (λ ps. IsAmong q ps) l.0 j))
+    elim (parked_or_before c.insert.result c.args.index c.args.asked c.match-request.self-inside.tasks c.insert.new.self c.insert.ensures.ok c.insert.ensures.err e i) [
+      | inl is ↦ subst (λ (x : ℕ × TaskPlace g.row.P-Lat-Event.Denot g.row.P-Local.Denot). IsOnItsList g.P.Lat.Spot.PartialEq.eq g.P.Lat.Reads.watched c.match-request.self-inside.gets.lists c.match-request.self-inside.freezes.lists ((g.P.Program.functions g.J.Named.program).request x.1.from) x.0) (sym is) l.1
+      | inr j ↦ l.2 e (c.self.invariant e (subst (λ es. IsAmong e es) l.0 j))
     ]
 
+-- the parked tasks are those of before
+tasks : (g : _) (c : goal.After-insert g) → c.match-request.self-inside.tasks ≡ c.args.self.now
+tasks g c = (listed g c).0 ∙ c.self.view_is
+
+-- the asked one isn't among them
+absent : (g : _) (c : goal.After-insert g) → IsAmong c.args.asked.task (tasks_of (places_of c.args.self.now)) → ⊥
+absent g c = not_parked c.args.index c.args.asked.task c.args.self.now c.requires.theirs (λ i. true≢false (sym (c.has.ensures.1 (subst (λ es. IsAmong c.args.index (indices_of es)) (sym c.self.view_is) i)) ∙ c.if-has.false))
+
 pub returns-clause-ok : goal.returns-clause-ok
-returns-clause-ok g c =
-    let same : c.match-request.self-inside.tasks ≡ c.args.self.now = (listed g c).0 ∙ c.self.view_is in
-    let absent : IsAmong c.args.asked.task (tasks_of c.match-request.self-inside.tasks) → ⊥ = λ i.
-    let yes : c.has.result ≡ true = c.has.ensures.1 (subst (λ t. IsAmong t (tasks_of c.self.inside.tasks)) (sym c.task.ensures) (subst (λ ps. IsAmong c.args.asked.task (tasks_of ps)) (listed g c).0 i)) in
-    true≢false (sym yes ∙ c.if-has.false) in
-    subst (λ ps. IfOk c.insert.result (λ _. IsParkedBeside ps c.args.asked c.insert.new.self)) same (beside_if_ok c.insert.result c.args.asked c.match-request.self-inside.tasks c.insert.new.self absent c.insert.ensures.ok)
+returns-clause-ok g c = beside_if_ok c.insert.result c.args.index c.args.asked c.args.self.now c.insert.new.self (absent g c) (subst (λ es. IfOk c.insert.result (λ _. c.insert.new.self ≡ es ++ (c.args.index, c.args.asked) ∷ [])) (tasks g c) c.insert.ensures.ok)
+
+pub returns-clause-entries : goal.returns-clause-entries
+returns-clause-entries g c = parked_or_before c.insert.result c.args.index c.args.asked c.args.self.now c.insert.new.self (subst (λ es. IfOk c.insert.result (λ _. c.insert.new.self ≡ es ++ (c.args.index, c.args.asked) ∷ [])) (tasks g c) c.insert.ensures.ok) (subst (λ es. IfErr c.insert.result (λ a. (a ≡ c.args.asked) × (c.insert.new.self ≡ es))) (tasks g c) c.insert.ensures.err)
+
+pub returns-clause-once : goal.returns-clause-once
+returns-clause-once g c = once_beside c.insert.result c.args.index c.args.asked c.args.self.now c.insert.new.self (absent g c) c.requires.once (subst (λ es. IfOk c.insert.result (λ _. c.insert.new.self ≡ es ++ (c.args.index, c.args.asked) ∷ [])) (tasks g c) c.insert.ensures.ok) (subst (λ es. IfErr c.insert.result (λ a. (a ≡ c.args.asked) × (c.insert.new.self ≡ es))) (tasks g c) c.insert.ensures.err)
