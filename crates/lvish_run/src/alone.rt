@@ -1,7 +1,9 @@
 //! What a lone worker does: the turns of a worker that has the board and all work to itself.
 //!
-//! There is no lock, nobody else takes work or leaves, and the board's list of steps is its own. The
-//! functions of a turn are inlined into one, as those of a worker with others are.
+//! There is no lock, nobody else takes work or leaves, and the board's list of steps is its own. It takes
+//! up what came last, and a task that its step made before the one that made it: so it finds in the
+//! processor's caches what it needs, and less work waits, with the memory that it holds. The functions
+//! of a turn are inlined into one, as those of a worker with others are.
 
 ghost use Rattle.std.specs.Prelude.{◌≡◌, ◌≢◌, true, Some, IsSome};
 ghost use Rattle.lvish_run.specs.declared.own_steps.Why.TheVariants.{Over, Others, Stopped};
@@ -10,13 +12,13 @@ use crate::gate::Gate;
 use crate::own_steps::Why;
 use crate::pause::Pause;
 use crate::piece::Piece;
-use crate::queue::{leave, leaves_more};
+use crate::queue::{Queue, leave, leaves_more};
 use lvish_board::{Asked, Board, Came, Named, Step, Ticket, Works, stretch_with};
 use lvish_compound::Event;
 use lvish_names::HandlerName;
 use lvish_task::{Local, ScriptCode};
-use std::alloc::Global;
-use std::collections::VecDeque;
+use std::alloc::{AllocError, Global};
+use std::mem;
 use std::sync::Wait;
 
 /// Works from the first piece on until the board is over, or the worker must leave.
@@ -33,8 +35,8 @@ pub fn work_alone<J: Named<ScriptCode>, R: Wait, G: Gate>(
     ensures patient { G.patient ≡ true → result ≢ Stopped }
     ensures alone { result ≢ Others }
 {
-    let mut queue = VecDeque::new(alloc);
-    if queue.push_back(first).is_err() {
+    let mut queue = Vec::new(alloc);
+    if queue.push(first).is_err() {
         return Why::Memory;
     }
     turns(rt, alloc, code, board, gate, &mut queue)
@@ -47,7 +49,7 @@ fn turns<J: Named<ScriptCode>, R: Wait, G: Gate>(
     code: &ScriptCode,
     board: &mut Board<'_, ScriptCode, J>,
     gate: &G,
-    queue: &mut VecDeque<Piece<J>>,
+    queue: &mut Vec<Piece<J>>,
 ) -> Why
     requires code { code.now ≡ J.program }
     ensures over { result ≡ Over → IsSome board.new.over }
@@ -67,7 +69,7 @@ fn turns<J: Named<ScriptCode>, R: Wait, G: Gate>(
             }
             None => {
                 find_work(
-                    rt, alloc, board, gate, queue, &pause, &mut works, &mut spare,
+                    rt, alloc, code, board, gate, queue, &pause, &mut works, &mut spare,
                 )
             }
         };
@@ -83,18 +85,20 @@ fn turns<J: Named<ScriptCode>, R: Wait, G: Gate>(
 fn find_work<J: Named<ScriptCode>, R: Wait, G: Gate>(
     rt: &R,
     alloc: Global,
+    code: &ScriptCode,
     board: &mut Board<'_, ScriptCode, J>,
     gate: &G,
-    queue: &mut VecDeque<Piece<J>>,
+    queue: &mut Vec<Piece<J>>,
     pause: &Pause,
     works: &mut Works<ScriptCode, J>,
     spare: &mut Option<Local>,
 ) -> Option<Why>
+    requires code { code.now ≡ J.program }
     ensures over { result ≡ Some Over → IsSome board.new.over }
     ensures patient { G.patient ≡ true → result ≢ Some Stopped }
     ensures alone { result ≢ Some Others }
 {
-    let Some(piece) = queue.pop_front() else {
+    let Some(piece) = queue.pop() else {
         return idle(rt, board, gate, pause);
     };
     pause.reset();
@@ -103,7 +107,17 @@ fn find_work<J: Named<ScriptCode>, R: Wait, G: Gate>(
             works.own = Some(ticket);
             None
         }
-        Piece::Act(asked) => act(alloc, board, queue, Box::into_inner(asked), works, spare),
+        Piece::Act(asked) => {
+            act_again(
+                alloc,
+                code,
+                board,
+                queue,
+                Box::into_inner(asked),
+                works,
+                spare,
+            )
+        }
         Piece::Hand(handler) => hand(alloc, board, queue, handler, works),
     }
 }
@@ -143,7 +157,7 @@ fn run_on<J: Named<ScriptCode>, G: Gate>(
     code: &ScriptCode,
     board: &mut Board<'_, ScriptCode, J>,
     gate: &G,
-    queue: &mut VecDeque<Piece<J>>,
+    queue: &mut Vec<Piece<J>>,
     ticket: Ticket<ScriptCode, J>,
     works: &mut Works<ScriptCode, J>,
     spare: &mut Option<Local>,
@@ -160,12 +174,33 @@ fn run_on<J: Named<ScriptCode>, G: Gate>(
     }
 }
 
+/// Takes what a woken task asks for to the board once more.
+fn act_again<J: Named<ScriptCode>>(
+    alloc: Global,
+    code: &ScriptCode,
+    board: &mut Board<'_, ScriptCode, J>,
+    queue: &mut Vec<Piece<J>>,
+    mut asked: Asked<ScriptCode, J>,
+    works: &mut Works<ScriptCode, J>,
+    spare: &mut Option<Local>,
+) -> Option<Why>
+    requires code { code.now ≡ J.program }
+    ensures over { result ≡ Some Over → IsSome board.new.over }
+    ensures patient { result ≢ Some Stopped }
+    ensures alone { result ≢ Some Others }
+{
+    match asked.prepare(alloc, code, spare.take()) {
+        Ok(()) => act(alloc, board, queue, asked, works, spare),
+        Err(_refused) => Some(Why::Memory),
+    }
+}
+
 /// Takes what a task asks for to the board.
 #[inline(always)]
 fn act<J: Named<ScriptCode>>(
     alloc: Global,
     board: &mut Board<'_, ScriptCode, J>,
-    queue: &mut VecDeque<Piece<J>>,
+    queue: &mut Vec<Piece<J>>,
     asked: Asked<ScriptCode, J>,
     works: &mut Works<ScriptCode, J>,
     spare: &mut Option<Local>,
@@ -191,7 +226,7 @@ fn act<J: Named<ScriptCode>>(
 fn hand<J: Named<ScriptCode>>(
     alloc: Global,
     board: &mut Board<'_, ScriptCode, J>,
-    queue: &mut VecDeque<Piece<J>>,
+    queue: &mut Vec<Piece<J>>,
     handler: HandlerName<Event>,
     works: &mut Works<ScriptCode, J>,
 ) -> Option<Why>
@@ -204,19 +239,15 @@ fn hand<J: Named<ScriptCode>>(
     if is_over(board) {
         return Some(Why::Over);
     }
-    // (where nothing else waits, the task that the handing starts needn't wait either)
-    if queue.is_empty() {
-        works.own = works.made.take();
-    }
     go_by(alloc, queue, came, works)
 }
 
-/// Goes on by the answer of a board that isn't over: the work beside the next ticket of its task goes
-/// on the queue.
+/// Goes on by the answer of a board that isn't over: with the task that the step made, else with the
+/// acting one. The other work goes on the queue.
 #[inline(always)]
 fn go_by<J: Named<ScriptCode>>(
     alloc: Global,
-    queue: &mut VecDeque<Piece<J>>,
+    queue: &mut Vec<Piece<J>>,
     came: Came,
     works: &mut Works<ScriptCode, J>,
 ) -> Option<Why>
@@ -227,9 +258,30 @@ fn go_by<J: Named<ScriptCode>>(
     if matches!(came, Came::Memory) {
         return Some(Why::Memory);
     }
-    let stepped = matches!(came, Came::Next | Came::Gone);
-    if stepped && leaves_more(works) && leave(alloc, queue, works).is_err() {
+    if !matches!(came, Came::Next | Came::Gone) {
+        return None;
+    }
+    if works.made.is_some() && put_off(queue, works).is_err() {
+        return Some(Why::Memory);
+    }
+    if leaves_more(works) && leave(alloc, queue, works).is_err() {
         return Some(Why::Memory);
     }
     None
+}
+
+/// Puts off the acting task, if it goes on, for the task that its step made.
+///
+/// # Errors
+///
+/// Where there is no room for it.
+#[inline(always)]
+fn put_off<J: Named<ScriptCode>>(
+    queue: &mut Vec<Piece<J>>,
+    works: &mut Works<ScriptCode, J>,
+) -> Result<(), AllocError> {
+    if let Some(own) = mem::replace(&mut works.own, works.made.take()) {
+        queue.push(Piece::Stretch(own))?;
+    }
+    Ok(())
 }

@@ -7,9 +7,8 @@ use lvish_deal::Seat;
 use lvish_names::HandlerName;
 use lvish_task::ScriptCode;
 use std::alloc::{AllocError, Global};
-use std::collections::VecDeque;
 
-/// Where work waits until a worker takes it up: the deque of a seat, or a lone worker's own.
+/// Where work waits until a worker takes it up: the deque of a seat, or a list of a lone worker's own.
 pub trait Queue<T> {
     /// Adds an item at the back.
     ///
@@ -29,10 +28,10 @@ impl<T: Drop> Queue<T> for Seat<T> {
     }
 }
 
-impl<T: Drop> Queue<T> for VecDeque<T> {
+impl<T: Drop> Queue<T> for Vec<T> {
     #[inline(always)]
     fn push(&mut self, item: T) -> Result<(), AllocError> {
-        match self.push_back(item) {
+        match self.push(item) {
             Ok(()) => Ok(()),
             Err(_refused) => Err(AllocError),
         }

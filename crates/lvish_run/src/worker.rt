@@ -76,7 +76,7 @@ fn turns<J: Named<ScriptCode>, R: Wait, G: Gate>(
             }
             None => {
                 find_work(
-                    rt, alloc, board, gate, seat, steps, &mut pause, &mut works, &mut spare,
+                    rt, alloc, code, board, gate, seat, steps, &mut pause, &mut works, &mut spare,
                 )
             }
         };
@@ -92,6 +92,7 @@ fn turns<J: Named<ScriptCode>, R: Wait, G: Gate>(
 fn find_work<J: Named<ScriptCode>, R: Wait, G: Gate>(
     rt: &R,
     alloc: Global,
+    code: &ScriptCode,
     board: &Mutex<Board<'_, ScriptCode, J>>,
     gate: &G,
     seat: &mut Seat<Piece<J>>,
@@ -100,6 +101,7 @@ fn find_work<J: Named<ScriptCode>, R: Wait, G: Gate>(
     works: &mut Works<ScriptCode, J>,
     spare: &mut Option<Local>,
 ) -> Option<Why>
+    requires { code.now ≡ J.program }
     ensures { G.patient ≡ true → result ≢ Some Stopped }
 {
     let Some(piece) = find(seat) else {
@@ -112,16 +114,9 @@ fn find_work<J: Named<ScriptCode>, R: Wait, G: Gate>(
             None
         }
         Piece::Act(asked) => {
-            act(
-                rt,
-                alloc,
-                board,
-                seat,
-                steps,
-                pause,
-                Box::into_inner(asked),
-                works,
-                spare,
+            let asked = Box::into_inner(asked);
+            act_again(
+                rt, alloc, code, board, seat, steps, pause, asked, works, spare,
             )
         }
         Piece::Hand(handler) => hand(rt, alloc, board, seat, steps, pause, handler, works),
@@ -216,6 +211,28 @@ fn run_on<J: Named<ScriptCode>, R: Wait, G: Gate>(
     match stretch_with(alloc, code, ticket, spare.take()) {
         Ok(asked) => act(rt, alloc, board, seat, steps, pause, asked, works, spare),
         Err(_ticket) => Some(Why::Memory),
+    }
+}
+
+/// Takes what a woken task asks for to the board once more.
+fn act_again<J: Named<ScriptCode>, R: Wait>(
+    rt: &R,
+    alloc: Global,
+    code: &ScriptCode,
+    board: &Mutex<Board<'_, ScriptCode, J>>,
+    seat: &mut Seat<Piece<J>>,
+    steps: &mut Vec<Step>,
+    pause: &mut Pause,
+    mut asked: Asked<ScriptCode, J>,
+    works: &mut Works<ScriptCode, J>,
+    spare: &mut Option<Local>,
+) -> Option<Why>
+    requires { code.now ≡ J.program }
+    ensures { result ≢ Some Stopped }
+{
+    match asked.prepare(alloc, code, spare.take()) {
+        Ok(()) => act(rt, alloc, board, seat, steps, pause, asked, works, spare),
+        Err(_refused) => Some(Why::Memory),
     }
 }
 
