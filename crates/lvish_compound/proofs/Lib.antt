@@ -2,6 +2,7 @@ pub mod Answered
 pub mod Brought
 pub mod Carried
 pub mod Clashes
+pub mod Counted
 pub mod Few
 pub mod Maps
 pub mod Outcomes

@@ -1,4 +1,4 @@
-ghost use Rattle.std.specs.Prelude.{◌≡◌, ◌⊎◌, ◌↔◌, Some, None, IfOk, IfErr, IsErr, [], cond, pos, ◌<ℤ◌};
+ghost use Rattle.std.specs.Prelude.{◌≡◌, ◌⊎◌, ◌↔◌, ◌≤◌, ◌^◌, Some, None, IfOk, IfErr, IsErr, MatchOption, [], cond, length, pos, ◌<ℤ◌};
 ghost use Rattle.lvish_compound.specs.Parts.{is_empty};
 ghost use Rattle.lvish_compound.specs.Refusals.{IsNoSide, IsNoPart, IsBeyond};
 ghost use Rattle.lvish_compound.specs.declared.amount_fault.AmountFault.TheVariants as fault;
@@ -6,7 +6,8 @@ ghost use Rattle.lvish_compound.specs.declared.amount_fault.AmountFault.TheVaria
 use crate::above::Above;
 use crate::amount_fault::AmountFault;
 use crate::any_events::{
-    entry_brought, entry_events, fresh_in_part, merge_part, part_events, side_events, tally_events,
+    entry_brought, entry_events, events_in_map, events_in_part, fresh_in_part, merge_part,
+    side_events, tally_events,
 };
 use crate::event::Event;
 use crate::map_of::MapOf;
@@ -110,6 +111,20 @@ impl Any {
             1 => Ok(Any::of_pair(Pair::new(part, Part::Empty))),
             2 => Ok(Any::of_pair(Pair::new(Part::Empty, part))),
             _ => Err(Wrong),
+        }
+    }
+
+    /// How many events there are, with no list of them; `None` where there are more than can be
+    /// counted.
+    pub fn event_count(&self) -> Option<usize>
+        ensures { MatchOption result (2 ^ 64 ≤ length (events_of self.now)) (λ n. n ≡ length (events_of self.now)) }
+    {
+        match self {
+            Any::Part(a) => Some(a.event_count()),
+            // Each key of a map of cells has one event, since no key holds bottom.
+            Any::Map(a) => Some(a.state.entries().len()),
+            Any::Sides(a) => a.event_count(),
+            Any::Tally(a) => Some(a.state.event_count()),
         }
     }
 
@@ -243,8 +258,8 @@ impl Lattice for Any {
 
     fn events(&self, alloc: Global) -> Result<Vec<Event>, AllocError> {
         match self {
-            Any::Part(a) => part_events(alloc, &a.events(alloc)?),
-            Any::Map(a) => entry_events(alloc, &a.state.events(alloc)?),
+            Any::Part(a) => events_in_part(alloc, a),
+            Any::Map(a) => events_in_map(alloc, &a.state),
             Any::Sides(a) => side_events(alloc, &a.pair().events(alloc)?),
             Any::Tally(a) => tally_events(alloc, &a.state.events(alloc)?),
         }

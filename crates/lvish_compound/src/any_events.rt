@@ -1,15 +1,19 @@
 //! The events of a script's variables, named by key, kind and number.
 
 ghost use Rattle.std.specs.Prelude.{◌≡◌, IfOk, IfErr, map, pos};
+ghost use Rattle.lvish_lattice.specs.GrowSet.{items_of};
 ghost use Rattle.lvish_lattice.specs.Lattice.{fresh_of, IsOutcome, renamed};
 ghost use Rattle.lvish_compound.specs.EventNames.{part_event, number_event, entry_event, side_event, tally_event};
+ghost use Rattle.lvish_compound.specs.MapOf.{map_events_of};
 ghost use Rattle.lvish_compound.specs.Parts.{joined, events_of};
+ghost use Rattle.lvish_compound.specs.declared.kind.Kind.TheVariants as kind;
 
 use crate::event::Event;
 use crate::kind::Kind;
+use crate::map_of::MapOf;
 use crate::part::{Part, PartEvent};
 use crate::side_of::SideOf;
-use lvish_lattice::{Brought, GrowSet, Lattice, MaxCounter};
+use lvish_lattice::{Brought, Flat, GrowSet, Lattice, MaxCounter};
 use std::alloc::{AllocError, Global};
 
 /// The event of a part under a key.
@@ -40,6 +44,45 @@ pub(crate) fn part_events(alloc: Global, events: &[PartEvent]) -> Result<Vec<Eve
     let mut named = Vec::with_capacity(alloc, events.len())?;
     for event in events {
         named.push_reserved(part_event(0, *event));
+    }
+    Ok(named)
+}
+
+/// The events of a set that is a variable of its own, made straight from its elements.
+fn element_events(alloc: Global, set: &GrowSet<i64>) -> Result<Vec<Event>, AllocError>
+    ensures { IfOk result (λ v. v.items ≡ map (number_event kind.Set) (items_of set.now)) }
+{
+    let mut named = Vec::with_capacity(alloc, set.len())?;
+    for number in set.items() {
+        named.push(number_event(Kind::Set, *number))?;
+    }
+    Ok(named)
+}
+
+/// The events of a part that is a variable of its own.
+pub(crate) fn events_in_part(alloc: Global, part: &Part) -> Result<Vec<Event>, AllocError>
+    ensures { IfOk result (λ v. v.items ≡ map (part_event (pos 0)) (events_of part.now)) }
+{
+    match part {
+        Part::Set(a) => element_events(alloc, &a.state),
+        Part::Max(a) => numbered(alloc, Kind::Max, &a.state.events(alloc)?),
+        _ => part_events(alloc, &part.events(alloc)?),
+    }
+}
+
+/// The events of a map of cells, made straight from its entries.
+pub(crate) fn events_in_map(
+    alloc: Global,
+    state: &MapOf<i64, Flat<i64>>,
+) -> Result<Vec<Event>, AllocError>
+    ensures { IfOk result (λ v. v.items ≡ map entry_event (map_events_of state.now)) }
+{
+    let entries = state.entries();
+    let mut named = Vec::with_capacity(alloc, entries.len())?;
+    for (key, cell) in entries {
+        if let Flat::Value(number) = cell {
+            named.push(entry_event(*key, *number))?;
+        }
     }
     Ok(named)
 }

@@ -1,11 +1,12 @@
-ghost use Rattle.std.specs.Prelude.{◌≡◌, [], IfOk};
+ghost use Rattle.std.specs.Prelude.{◌≡◌, [], IfOk, length};
 ghost use Rattle.lvish_compound.specs.declared.part.Part.TheVariants.{Empty, Set, Max};
 ghost use Rattle.lvish_compound.specs.Held.{held};
-ghost use Rattle.lvish_compound.specs.Parts.{is_empty};
+ghost use Rattle.lvish_compound.specs.Parts.{events_of, is_empty};
 ghost use Rattle.lvish_compound.specs.Pair.{sides};
 
 use crate::above::Above;
 use crate::side_of::{SideOf, of_sides};
+use crate::tally::level_of;
 use lvish_lattice::{GrowSet, Lattice, MaxCounter};
 use std::alloc::{AllocError, Global};
 
@@ -62,6 +63,18 @@ impl Part {
         match self {
             Part::Empty => true,
             _ => false,
+        }
+    }
+
+    /// How many events there are.
+    pub fn event_count(&self) -> usize
+        ensures { result ≡ length (events_of self.now) }
+    {
+        match self {
+            Part::Empty => 0,
+            Part::Cell(_) => 1,
+            Part::Set(a) => a.state.len(),
+            Part::Max(a) => usize::from(level_of(a.state)),
         }
     }
 }

@@ -26,7 +26,7 @@ pub(crate) fn of_sides<X: Copy, Y: Copy>(
 ) -> Result<Vec<SideOf<X, Y>>, AllocError>
     ensures { IfOk result (λ v. v.items ≡ map of_one ones.now ++ map of_two twos.now) }
 {
-    let mut sides = Vec::new(alloc);
+    let mut sides = Vec::with_capacity(alloc, ones.len().saturating_add(twos.len()))?;
     for x in ones {
         sides.push(SideOf::One(*x))?;
     }

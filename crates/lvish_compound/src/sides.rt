@@ -1,5 +1,6 @@
-ghost use Rattle.std.specs.Prelude.{◌≡◌, false, IfOk, IfErr, is_some, unwrap_or};
-ghost use Rattle.lvish_compound.specs.Parts.{no_sides, pairs_joined};
+ghost use Rattle.std.specs.Prelude.{◌≡◌, ◌≤◌, ◌^◌, false, IfOk, IfErr, MatchOption, is_some, length, unwrap_or};
+ghost use Rattle.lvish_compound.specs.Pair.{events_of};
+ghost use Rattle.lvish_compound.specs.Parts.{no_sides, pairs_joined, events_of as parts_events};
 
 use crate::pair::Pair;
 use crate::part::Part;
@@ -31,6 +32,14 @@ impl Sides {
         ensures { result.now ≡ pair_of self.now }
     {
         &self.pair
+    }
+
+    /// How many events there are, `None` where there are more than can be counted.
+    pub fn event_count(&self) -> Option<usize>
+        ensures { MatchOption result (2 ^ 64 ≤ length (events_of parts_events parts_events (pair_of self.now))) (λ n. n ≡ length (events_of parts_events parts_events (pair_of self.now))) }
+    {
+        let ones = self.pair.one.event_count();
+        ones.checked_add(self.pair.two.event_count())
     }
 
     pub fn copy(&self, alloc: Global) -> Result<Sides, AllocError>

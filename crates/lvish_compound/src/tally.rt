@@ -1,4 +1,4 @@
-ghost use Rattle.std.specs.Prelude.{◌≡◌, ◌≤◌, IfOk, pos, map, true};
+ghost use Rattle.std.specs.Prelude.{◌≡◌, ◌≤◌, IfOk, pos, map, length, true};
 ghost use Rattle.std.specs.List.Sorted.{IsStrictlySortedBy};
 ghost use Rattle.std.specs.Ordering.{int_cmp};
 ghost use Rattle.lvish_compound.specs.declared.limits.TheConstants.{HIGHEST_TOTAL};
@@ -35,14 +35,14 @@ impl Drop for Tally {
 }
 
 /// The number of an amount.
-fn level_of(amount: MaxCounter) -> u16
+pub(crate) fn level_of(amount: MaxCounter) -> u16
     ensures { result ≡ level amount }
 {
     amount.get() as u16
 }
 
 impl Tally {
-    ghost use Rattle.lvish_compound.specs.Tally.{entries_of, amount_test, amount, total};
+    ghost use Rattle.lvish_compound.specs.Tally.{entries_of, events_of, amount_test, amount, total};
 
     /// The map of one key and its amount, empty where that is 0.
     pub fn one(alloc: Global, key: i64, amount: MaxCounter) -> Result<Tally, AllocError>
@@ -60,6 +60,13 @@ impl Tally {
         ensures { result ≡ pos (total self.now) }
     {
         i64::from(self.total)
+    }
+
+    /// How many events there are.
+    pub fn event_count(&self) -> usize
+        ensures { result ≡ length (events_of self.now) }
+    {
+        usize::from(self.total)
     }
 
     /// The amount of the key, 0 where it has no entry.

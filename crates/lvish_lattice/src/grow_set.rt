@@ -1,4 +1,4 @@
-ghost use Rattle.std.specs.Prelude.{◌≡◌, ◌↔◌, [], ◌∷◌, IfOk, IsTrue, Contains, find};
+ghost use Rattle.std.specs.Prelude.{◌≡◌, ◌↔◌, [], ◌∷◌, IfOk, IsTrue, Contains, find, length};
 ghost use Rattle.std.specs.Set.{is_member};
 ghost use Rattle.std.specs.List.Sorted.{IsStrictlySortedBy, IsStrictlySortedBy-prop};
 
@@ -81,6 +81,13 @@ impl<V: Plain> GrowSet<V> {
         ensures ascending { IsStrictlySortedBy V.cmp (items_of self.now) }
     {
         self.items.iter()
+    }
+
+    /// How many elements there are.
+    pub fn len(&self) -> usize
+        ensures { result ≡ length (items_of self.now) }
+    {
+        self.items.len()
     }
 
     /// Whether the set has the element.

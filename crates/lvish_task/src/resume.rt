@@ -9,7 +9,7 @@ use crate::local::Local;
 use crate::remaining::Remaining;
 use crate::script_code::ScriptCode;
 use crate::stack::Stack;
-use crate::states::events_below;
+use crate::states::{count_below, events_below};
 use lvish_calculus::{Asks, Reply, Request};
 use lvish_code::{Action, Instruction};
 use lvish_compound::{Any, AnyRead};
@@ -30,13 +30,14 @@ impl Frame {
             (Action::Get(local, _, _, _), Reply::Answer(n)) => {
                 self.values.set(alloc, *local, *n)?;
             }
-            (Action::Freeze(local, _, _, each), Reply::Content(state)) => {
+            (Action::Freeze(local, _, _, None), Reply::Content(state)) => {
+                self.values.set(alloc, *local, count_below(state)?)?;
+            }
+            (Action::Freeze(local, _, _, Some(procedure)), Reply::Content(state)) => {
                 let events = events_below(alloc, state)?;
                 self.values.set(alloc, *local, events.len() as i64)?;
-                if let Some(procedure) = each {
-                    self.each = *procedure;
-                    self.events = Remaining::of(alloc, events)?;
-                }
+                self.each = *procedure;
+                self.events = Remaining::of(alloc, events)?;
             }
             _ => {}
         }

@@ -1,4 +1,4 @@
-ghost use Rattle.std.specs.Prelude.{◌≡◌, IfOk};
+ghost use Rattle.std.specs.Prelude.{◌≡◌, IfOk, length, pos};
 ghost use Rattle.lvish_compound.specs.StateReads.{state_of};
 ghost use Rattle.lvish_compound.specs.States.{side, amount};
 ghost use Rattle.lvish_task.specs.States.{put_at, read_at, events_below};
@@ -72,6 +72,21 @@ pub fn read_at(place: Place, test: Test) -> Option<AnyRead>
         Ok(read) => Some(read),
         Err(_) => None,
     }
+}
+
+/// How many events there are below a state.
+///
+/// # Errors
+///
+/// Where there are more than a number of a script can say.
+#[tactic(auto, unfolding(crate::specs::States::events_below))]
+pub fn count_below(state: &Any) -> Result<i64, AllocError>
+    ensures { IfOk result (λ n. n ≡ pos (length (events_below state.now))) }
+{
+    let Some(count) = state.event_count() else {
+        return Err(AllocError);
+    };
+    i64::try_from(count).map_err(|_| AllocError)
 }
 
 /// The events below a state, ascending.
