@@ -59,8 +59,8 @@ module _ (T : RattleType) (s : IsSend T) (y : IsSync T) where
 
   crossing : (i : the_members T) → Crosses (ring T) i
   crossing block.member-Link = let last = row_field (NamePart.the_row T) in let m = member-Link T in record {
-    send = λ h hs hy. declared_send (type-Link T (h m)) (as_row_send last part_send, (before_send (h m) (hs m) (hy m), (summary_send, tt)));
-    sync = λ h hs hy. declared_sync (type-Link T (h m)) (as_row_sync last part_sync, (before_sync (h m) (hs m) (hy m), (summary_sync, tt)));
+    send = λ h hs hy. declared_send (type-Link T (h m)) (summary_send, (before_send (h m) (hs m) (hy m), (as_row_send last part_send, tt)));
+    sync = λ h hs hy. declared_sync (type-Link T (h m)) (summary_sync, (before_sync (h m) (hs m) (hy m), (as_row_sync last part_sync, tt)));
   }
 
   hole_send : IsSend (hole-Link T)
@@ -70,10 +70,10 @@ module _ (T : RattleType) (s : IsSend T) (y : IsSync T) where
   hole_sync = both_sync (ring T) crossing (member-Link T)
 
   link_send : IsSend (Link.the_row T)
-  link_send = declared_send (Link.the_type T) (part_send, (before_send (hole-Link T) hole_send hole_sync, (summary_send, tt)))
+  link_send = declared_send (Link.the_type T) (summary_send, (before_send (hole-Link T) hole_send hole_sync, (part_send, tt)))
 
   link_sync : IsSync (Link.the_row T)
-  link_sync = declared_sync (Link.the_type T) (part_sync, (before_sync (hole-Link T) hole_send hole_sync, (summary_sync, tt)))
+  link_sync = declared_sync (Link.the_type T) (summary_sync, (before_sync (hole-Link T) hole_send hole_sync, (part_sync, tt)))
 
   pub name_send : IsSend (TaskName.the_row T)
   name_send = view_send (inside_name.the_row T) _ _ _ _ (declared_send (inside_name.the_type T) (path_send (Link.the_row T) link_send link_sync, tt))

@@ -14,8 +14,8 @@ module _ {E : Type 0} where
   -- its last part, and those before it
   pub parts-link : (link : Link E) → link_parts link ≡ (out-Link E link).last ∷ path_parts (option_map arc_value (out-Link E link).before)
   unfolding out-Link denote.Hole.Carrier.out
-  parts-link (Link' last None' summary) = refl
-  parts-link (Link' last (Some' p link) summary) = refl
+  parts-link (Link' summary None' last) = refl
+  parts-link (Link' summary (Some' p link) last) = refl
 
   -- the same, of a link that was made of them
   pub parts-roll : (last : NamePart E) (before : Option (Arc (Link E) Global)) (summary : Summary) → link_parts (roll-Link E (record { last = last; before = before; summary = summary })) ≡ last ∷ path_parts (option_map arc_value before)
@@ -26,13 +26,13 @@ module _ {E : Type 0} where
   -- what is said of a link's path is what its summary says
   pub summary-link : (link : Link E) → IsSummed link → (out-Link E link).summary ≡ summary_of (link_parts link)
   unfolding out-Link denote.Hole.Carrier.out
-  summary-link (Link' last before summary) s = s.0
+  summary-link (Link' summary before last) s = s.0
 
   -- what is said of a link's path is said of those before it
   pub summed-link : (link : Link E) → IsSummed link → IsPathSummed (option_map arc_value (out-Link E link).before)
   unfolding out-Link denote.Hole.Carrier.out
-  summed-link (Link' last None' summary) s = tt
-  summed-link (Link' last (Some' p link) summary) s = s.1
+  summed-link (Link' summary None' last) s = tt
+  summed-link (Link' summary (Some' p link) last) s = s.1
 
   -- and follows from theirs, where the last link's summary is right
   pub summed-roll : (last : NamePart E) (before : Option (Arc (Link E) Global)) (summary : Summary) → IsPathSummed (option_map arc_value before) → summary ≡ with_part (summary_of (path_parts (option_map arc_value before))) last → IsSummed (roll-Link E (record { last = last; before = before; summary = summary }))
@@ -41,12 +41,12 @@ module _ {E : Type 0} where
   summed-roll last (Some shared) summary s e = (e, s)
 
   pub main_apart : (eq : E → E → Bool) (link : Link E) → same_name eq [] (link_parts link) ≡ false
-  main_apart eq (Link' (Fork i) before summary) = refl
-  main_apart eq (Link' (Hand j e) before summary) = refl
+  main_apart eq (Link' summary before (Fork i)) = refl
+  main_apart eq (Link' summary before (Hand j e)) = refl
 
   pub main_apart_left : (eq : E → E → Bool) (link : Link E) → same_name eq (link_parts link) [] ≡ false
-  main_apart_left eq (Link' (Fork i) before summary) = refl
-  main_apart_left eq (Link' (Hand j e) before summary) = refl
+  main_apart_left eq (Link' summary before (Fork i)) = refl
+  main_apart_left eq (Link' summary before (Hand j e)) = refl
 
   pub link_long : (link : Link E) → 0 < length (link_parts link)
-  link_long (Link' last before summary) = omega arith
+  link_long (Link' summary before last) = omega arith

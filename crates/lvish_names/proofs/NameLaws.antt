@@ -1,6 +1,7 @@
 -- What follows from the definitions of names.
-use Rattle.std.proofs.Common.{◌≡◌, ◌⊎◌, ◌↔◌, inl, inr, suc, ◌<◌, Bool, true, false, length, nat_le, refl, sym, ◌∙◌, ap, subst}
+use Rattle.std.proofs.Common.{◌≡◌, ◌⊎◌, ◌↔◌, inl, inr, suc, ◌<◌, Bool, true, false, length, nat_le, refl, sym, ◌∙◌, ap, subst, Option, Some, IsTrue}
 use Rattle.std.proofs.lemmas.Bool.{and_parts, cases_Bool, both_ways, false_from_ne_true, false≢true, eqb-true, leb-false, lt-leb}
+use Rattle.std.proofs.lemmas.Option.{same_Some}
 use Rattle.std.proofs.lemmas.Map.Lookups.{CmpEqualImpliesEq}
 use Rattle.std.specs.declared.cmp.Ordering.{Ordering}
 use Rattle.std.specs.declared.cmp.Ordering.TheVariants.{Equal}
@@ -75,6 +76,17 @@ module _ {E : Type 0} {eq : E → E → Bool} (same : IsIdentity eq) where
 
     pub cases_handler : (h k : Handler E) → (h ≡ k) ⊎ (h ≡ k → ⊥)
     cases_handler h k = elim (cases_Bool (same_handler eq h k)) [ inl e ↦ inl (same_handler-true h k e) | inr e ↦ inr (λ q. both_ways _ e ((same_handler-iff h k).1 q)) ]
+
+    -- a task runs in the pool of the handler that has the number and the adder of its own
+    pub runs_in-iff : (h k : Handler E) (pool : Option (Handler E)) → Some h ≡ pool → h.number ≡ k.number → (b : Bool) → b ≡ same_name eq k.adder h.adder → IsTrue b ↔ (pool ≡ Some k)
+    runs_in-iff h k pool is number b told = (
+      λ t.
+          let adder : k.adder ≡ h.adder = same_name-true _ _ (sym told ∙ t) in
+          sym is ∙ (λ i. Some (record { adder = sym adder i; number = number i })),
+      λ e.
+          let same : h ≡ k = same_Some _ _ (is ∙ e) in
+          told ∙ ap (λ (x : Handler E). same_name eq k.adder x.adder) same ∙ same_name-refl eq own k.adder,
+    )
 
 -- ---- the order tells all names apart
 

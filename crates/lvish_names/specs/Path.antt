@@ -6,7 +6,7 @@ use Rattle.lvish_names.specs.Names.{Name}
 abbrev mutual
   -- the parts that a link ends, the last one first
   pub link_parts : {E : Type 0} → Link E → Name E
-  link_parts (Link' last before summary) = last ∷ held_parts before
+  link_parts (Link' summary before last) = last ∷ held_parts before
 
   pub held_parts : {E : Type 0} → Held-Link-before E → Name E
   held_parts None' = []

@@ -28,7 +28,7 @@ summary_of (part ∷ before) = with_part (summary_of before) part
 abbrev mutual
   -- that a link, and each before it, says what its path is
   pub IsSummed : {E : Type 0} → Link E → Type 0
-  IsSummed (Link' last before summary) = (summary ≡ summary_of (last ∷ held_parts before)) × IsHeldSummed before
+  IsSummed (Link' summary before last) = (summary ≡ summary_of (last ∷ held_parts before)) × IsHeldSummed before
 
   pub IsHeldSummed : {E : Type 0} → Held-Link-before E → Type 0
   IsHeldSummed None' = Unit {0}

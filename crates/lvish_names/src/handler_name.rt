@@ -105,6 +105,7 @@ impl<E: PartialEq> PartialEq for HandlerName<E> {
 
     ghost laws = { handler_per E.laws };
 
+    #[inline(always)]
     fn eq(&self, other: &HandlerName<E>) -> bool {
         self.number == other.number && self.adder == other.adder
     }

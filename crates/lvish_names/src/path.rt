@@ -18,20 +18,22 @@ use std::hash::{Hash, Hasher};
 use std::sync::Arc;
 
 /// The last part of a path, and the link before it, which all paths that go on from there share.
+///
+/// The summary comes first, since it is read most, and so lies beside the count of who shares the link.
 #[derive(Debug)]
 pub(crate) struct Link<E> {
-    pub last: NamePart<E>,
-    pub before: Option<Arc<Link<E>>>,
     pub summary: Summary,
+    pub before: Option<Arc<Link<E>>>,
+    pub last: NamePart<E>,
 }
 
 // Written out, so that it is proved once, and not at each exit of a function that owns one.
 impl<E: Drop> Drop for Link<E> {
     fn drop(self) {
         let Link {
-            last: _,
-            before: _,
             summary: _,
+            before: _,
+            last: _,
         } = self;
     }
 }
@@ -64,8 +66,23 @@ pub(crate) fn share<E: Drop>(
     }
 }
 
+/// Whether two names have the same path: `main` alone has none.
+#[inline(always)]
+pub(crate) fn are_one<E: PartialEq>(
+    one: &Option<Arc<Link<E>>>,
+    other: &Option<Arc<Link<E>>>,
+) -> bool
+    ensures { result ≡ same_name E.eq (path_parts (option_map arc_value one.now)) (path_parts (option_map arc_value other.now)) }
+{
+    match (one, other) {
+        (None, None) => true,
+        _ => are_same(link_of(one), link_of(other)),
+    }
+}
+
 /// Whether two paths are the same, part by part from the last one on.
-pub(crate) fn are_same<E: PartialEq>(one: Option<&Link<E>>, other: Option<&Link<E>>) -> bool
+#[inline(never)]
+fn are_same<E: PartialEq>(one: Option<&Link<E>>, other: Option<&Link<E>>) -> bool
     ensures { result ≡ same_name E.eq (path_parts (option_copied one.entry)) (path_parts (option_copied other.entry)) }
 {
     match (one, other) {

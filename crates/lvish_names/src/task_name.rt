@@ -1,5 +1,6 @@
-ghost use Rattle.std.specs.Prelude.{◌≡◌, ◌∷◌, ◌≤◌, ◌↔◌, Some, IfOk, IsErrOf, IsTrue, IsFalse, length};
-ghost use Rattle.std.specs.Option.{option_copied};
+ghost use Rattle.std.specs.Prelude.{◌≡◌, ◌∷◌, ◌≤◌, ◌<◌, ◌↔◌, Some, IfOk, IfSome, IsErrOf, IsTrue, IsFalse, length};
+ghost use Rattle.std.specs.Arc.{arc_value};
+ghost use Rattle.std.specs.Option.{option_copied, option_map};
 ghost use Rattle.std.specs.Fmt.{WritesOnOk};
 ghost use Rattle.lvish_names.specs.Path.{path_parts};
 ghost use Rattle.std.specs.String.{string_bytes};
@@ -13,7 +14,7 @@ use crate::limits::MOST_PARTS;
 use crate::name_fault::NameFault;
 use crate::name_part::NamePart;
 use crate::parts::Parts;
-use crate::path::{Link, are_same, before, feed, link_of, order, share};
+use crate::path::{Link, are_one, before, feed, link_of, order, share};
 use crate::summary::Summary;
 use lvish_lattice::{Numbered, Plain};
 use std::alloc::{AllocError, Global};
@@ -146,18 +147,54 @@ impl<E: Plain> TaskName<E> {
     pub fn pool_of(&self) -> Result<Option<HandlerName<E>>, AllocError>
         ensures { IfOk result (λ h. h ≡ handler_of self.now) }
     {
+        match self.last_event() {
+            Some((before, number)) => {
+                let path = share(before)?;
+                Ok(Some(HandlerName::of(TaskName { path }, number)))
+            }
+            None => Ok(None),
+        }
+    }
+
+    /// Whether the task runs in the pool of this handler.
+    #[inline(always)]
+    pub fn runs_in(&self, handler: &HandlerName<E>) -> bool
+        ensures { IsTrue result ↔ (handler_of self.now ≡ Some handler.now) }
+    {
+        match self.last_event() {
+            Some((before, number)) => {
+                number == handler.number() && handler.adder().has_path(before)
+            }
+            None => false,
+        }
+    }
+
+    /// The path before the last event that stands in the name, and the number of its handler.
+    #[inline(always)]
+    fn last_event(&self) -> Option<(&Option<Arc<Link<E>>>, u64)>
+        ensures pool { option_map (λ l. record { adder = path_parts (option_map arc_value l.0.now); number = l.1 }) result ≡ handler_of self.now }
+        ensures summed { IfSome result (λ l. IsPathSummed (option_map arc_value l.0.now)) }
+        ensures few { IfSome result (λ l. length (path_parts (option_map arc_value l.0.now)) < MOST_PARTS) }
+    {
         if !self.summary().has_event {
-            return Ok(None);
+            return None;
         }
         let mut path = self.link();
         while let Some(link) = path {
             if let NamePart::Hand(number, _) = link.last {
-                let path = share(&link.before)?;
-                return Ok(Some(HandlerName::of(TaskName { path }, number)));
+                return Some((&link.before, number));
             }
             path = link_of(&link.before);
         }
-        Ok(None)
+        None
+    }
+
+    /// Whether this is the name with the path.
+    #[inline(always)]
+    fn has_path(&self, path: &Option<Arc<Link<E>>>) -> bool
+        ensures { result ≡ same_name E.eq self.now (path_parts (option_map arc_value path.now)) }
+    {
+        are_one(&self.path, path)
     }
 
     /// An equal name, which takes no memory.
@@ -179,9 +216,9 @@ impl<E: Plain> TaskName<E> {
         let before = share(&self.path)?;
         let summary = self.summary().followed_by(&part);
         let link = Link {
-            last: part,
-            before,
             summary,
+            before,
+            last: part,
         };
         let path = Some(Arc::new(alloc, link)?);
         Ok(TaskName { path })
@@ -195,8 +232,9 @@ impl<E: PartialEq> PartialEq for TaskName<E> {
 
     ghost laws = { name_per E.laws };
 
+    #[inline(always)]
     fn eq(&self, other: &TaskName<E>) -> bool {
-        are_same(self.link(), other.link())
+        are_one(&self.path, &other.path)
     }
 }
 

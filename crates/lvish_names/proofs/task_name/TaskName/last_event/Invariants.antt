@@ -4,7 +4,7 @@ use Rattle.lvish_names.specs.Names.{handler_of}
 use Rattle.lvish_names.specs.Path.{path_parts}
 use Rattle.lvish_names.specs.Summaries.{IsPathSummed}
 use Rattle.lvish_names.specs.declared.limits.TheConstants.{MOST_PARTS}
-use Rattle.lvish_names.proofs.task_name.TaskName.pool_of.Given as goal
+use Rattle.lvish_names.proofs.task_name.TaskName.last_event.Given as goal
 
 -- no event stands among the parts that were passed
 abbrev pub invariant-loop-path : goal.invariant-loop-path
