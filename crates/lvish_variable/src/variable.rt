@@ -146,16 +146,14 @@ impl<L: Lattice> Variable<L> {
         Ok(state)
     }
 
-    /// The state, and whether it is frozen, without a copy.
-    pub fn into_state(self) -> (L, bool)
-        ensures { result ≡ (self.state, self.frozen) }
+    /// The state, whether it is frozen, and the log, without a copy.
+    pub fn into_parts(self) -> (L, bool, Vec<Entry<L::Event>>)
+        ensures state { result.0 ≡ self.state }
+        ensures frozen { result.1 ≡ self.frozen }
+        ensures log { result.2.items ≡ self.log }
     {
-        let Variable {
-            state,
-            frozen,
-            log: _,
-        } = self;
-        (state, frozen)
+        let Variable { state, frozen, log } = self;
+        (state, frozen, log)
     }
 
     pub fn state(&self) -> &L
