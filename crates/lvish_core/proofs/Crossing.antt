@@ -26,6 +26,7 @@ use Rattle.lvish_calculus.specs.declared.program.Program as program
 use Rattle.lvish_variable.specs.contracts.variable.Variable as Variable
 use Rattle.lvish_handlers.specs.contracts.handlers.Handlers as Handlers
 use Rattle.lvish_core.specs.contracts.fault.RunError as RunError
+use Rattle.lvish_core.specs.contracts.handler_place.HandlerSeat as HandlerSeat
 use Rattle.lvish_core.specs.contracts.machine.Core as Core
 use Rattle.lvish_core.specs.contracts.machine.Core.TheInside as inside
 use Rattle.lvish_core.specs.contracts.places.Places as Places
@@ -37,6 +38,9 @@ size_send = search sendable depth 20
 
 number_send : IsSend (as_row u64-field)
 number_send = search sendable depth 20
+
+seat_send : IsSend HandlerSeat.the_row
+seat_send = search sendable depth 20
 
 touched_send : IsSend (Option.the_row Touched.the_row)
 touched_send = search sendable depth 24
@@ -77,4 +81,4 @@ module _ (E : RattleType) (s : IsSend E) (y : IsSync E) where
           let places = as_row_send (Places.the_field E e1 e2 e3 e4) places_send in
           view_send (inside.the_row a P S L R A W E p s3 s1 s2 e1 e2 e3 e4 e5 w1 w2 w3 w4 l1) _ _ _ _
           (declared_send (inside.the_type a P S L R A W E p s3 s1 s2 e1 e2 e3 e4 e5 w1 w2 w3 w4 l1)
-          (program, (variables, (handlers, (tasks, (places, (size_send, (number_send, (fault_send, (touched_send, tt))))))))))
+          (program, (variables, (handlers, (tasks, (places, (seat_send, (size_send, (number_send, (fault_send, (touched_send, tt)))))))))))

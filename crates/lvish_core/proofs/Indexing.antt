@@ -1,26 +1,27 @@
 -- Tasks in a list, and the index that tells where the first of them stand.
 use mathlib.Core.Path.{fun_ext}
-use Rattle.std.proofs.Common.{◌≡◌, drop, ◌+◌, ◌<◌, ◌≤◌, ◌∷◌, ◌++◌, ℕ, zero, suc, Bool, true, false, cond, List, [], length, Option, Some, None, is_some, option_map, get_or, inl, inr, slice_get, slice_set, refl, sym, ap, subst, ◌∙◌, arith, append_assoc, length-append}
+use Rattle.std.proofs.Common.{◌≡◌, drop, ◌+◌, ◌<◌, ◌≤◌, ◌∷◌, ◌++◌, ℕ, zero, suc, Bool, true, false, cond, List, [], length, map, Option, Some, None, is_some, option_copied, option_map, get_or, inl, inr, slice_get, slice_set, refl, sym, ap, subst, ◌∙◌, arith, length-append, length-set, Bor}
+use Rattle.std.specs.Prelude.{IfSome}
 use Rattle.std.specs.Cmp.{IsEquivalence}
 use Rattle.std.specs.Option.{option_or}
-use Rattle.std.specs.List.{IsDistinct}
+use Rattle.std.specs.List.{IsDistinct, list_any, zip}
 use Rattle.std.specs.Map.{keys_of, lookup, set_value}
 use Rattle.std.specs.HashMap.{HashMap, get}
 use Rattle.std.proofs.lemmas.Bool.{cases_order, false≢true}
-use Rattle.std.proofs.lemmas.List.{at_drop_more, map-append}
 use Rattle.std.proofs.lemmas.Map.{lookup-set_value, keys-set_value}
-use Rattle.std.proofs.lemmas.Map.Entries.{length-keys_of, lookup_from_place, place_from_lookup}
+use Rattle.std.proofs.lemmas.Map.Entries.{lookup_from_place, place_from_lookup}
 use Rattle.std.proofs.lemmas.Map.Keys.{IsDistinct-tail, IsDistinct-push, apart_from_distinct}
-use Rattle.std.proofs.lemmas.Map.Made.{is_some-lookup}
+use Rattle.std.proofs.lemmas.Map.Made.{is_some-lookup, keys_of-zip}
 use Rattle.std.proofs.lemmas.Option.{same_Some, slice_get-map, slice_get_within, get_or_from_slice_get}
-use Rattle.lvish_calculus.specs.Calculus.{Absent}
+use Rattle.lvish_calculus.specs.Calculus.{Task, Absent}
 use Rattle.lvish_names.specs.Names.{Name, same_name}
 use Rattle.lvish_picture.specs.Picture.{task_of}
-use Rattle.lvish_core.specs.Indexed.{AreIndexed}
+use Rattle.lvish_core.specs.Indexed.{AreIndexed, AreStaged}
 use Rattle.lvish_core.specs.Tasks.{IsAt, KeepsIndices, Sets, standing, standing_at, standings}
 use Rattle.lvish_core.specs.Vocabulary.{Stage}
 use Rattle.lvish_core.proofs.Indices.{at-keys, at_still, entry_at, keys-at}
 use Rattle.lvish_core.proofs.Maps.{not_found, sets_by, task_of-standings}
+use Rattle.lvish_core.proofs.Staged.{at-names, length-tasks, names-at, zip_at, zip_push, zip_set}
 
 -- what a longer list has where a shorter one ends not yet, the shorter one has there
 at_before : {X : Type 0} (xs ys : List X) (i : ℕ) (o : Option X) → i < length xs → slice_get (xs ++ ys) i ≡ o → slice_get xs i ≡ o
@@ -28,17 +29,26 @@ at_before [] ys i o within e = let no : ⊥ = omega arith in absurd no
 at_before (x ∷ xs) ys zero o within e = e
 at_before (x ∷ xs) ys (suc i) o within e = at_before xs ys i o (omega arith) e
 
--- an empty list has no element
-none_in : {X : Type 0} (xs : List X) → xs ≡ [] → (i : ℕ) (x : X) → slice_get xs i ≡ Some x → ⊥
-none_in xs none i x e = let no : None ≡ Some x = sym (ap (λ l. slice_get l i) none) ∙ e in cc no
+-- a list has something at each index below its length
+some_there : {X : Type 0} (xs : List X) (i : ℕ) → i < length xs → (x : X) × (slice_get xs i ≡ Some x)
+some_there [] i within = let no : ⊥ = omega (arith, within) in absurd no
+some_there (x ∷ xs) zero within = (x, refl)
+some_there (x ∷ xs) (suc i) within = some_there xs i (omega (arith, within))
+
+none_there : {X : Type 0} (xs : List X) (i : ℕ) → i < length xs → slice_get xs i ≡ None → ⊥
+none_there xs i within none = let p = some_there xs i within in cc (none, p.1)
 
 -- the tasks from an index on begin with the one that stands there
-pub first_left : {E L : Type 0} (es : List (Name E × Stage L)) (i : ℕ) (e : Name E × Stage L) → e ≡ get_or es i e → i < length es → standings (drop i es) ≡ (e.0, standing e.1) ∷ standings (drop (i + 1) es)
-first_left {E} {L} es i e is within = at_drop_more (λ xs. standings xs) es i e within ∙ ap (λ (x : Name E × Stage L). (x.0, standing x.1) ∷ standings (drop (i + 1) es)) (sym is)
-
--- names that are listed one by one
-pub names_more : {K X : Type 0} (ks more : List K) (e : K × X) (rest : List (K × X)) → more ≡ ks ++ e.0 ∷ [] → more ++ keys_of rest ≡ ks ++ keys_of (e ∷ rest)
-names_more ks more e rest is = ap (λ xs. xs ++ keys_of rest) is ∙ append_assoc ks (e.0 ∷ []) (keys_of rest)
+pub first_left : {E L : Type 0} (tasks : List (Name E × Task L)) (stages : List (Stage L)) → map standing stages ≡ map (λ e. e.1) tasks → (i : ℕ) (s : Stage L) → s ≡ get_or stages i s → i < length stages
+    → (t : Name E) × (drop i tasks ≡ (t, standing s) ∷ drop (i + 1) tasks)
+first_left [] [] all i s is within = let no : ⊥ = omega (arith, within) in absurd no
+first_left [] (r ∷ stages) all i s is within = let no : ⊥ = omega (arith, ap length all) in absurd no
+first_left (e ∷ tasks) [] all i s is within = let no : ⊥ = omega (arith, within) in absurd no
+first_left (e ∷ tasks) (r ∷ stages) all zero s is within = (e.0, ap (λ k. (e.0, k) ∷ tasks) (sym (ap (λ ks. get_or ks 0 e.1) all) ∙ ap standing (sym is)))
+first_left (e ∷ tasks) (r ∷ stages) all (suc i) s is within =
+    let p = first_left tasks stages (ap (drop 1) all) i s is (omega (arith, within)) in
+    let next : suc i + 1 ≡ suc (i + 1) = omega arith in
+    (p.0, p.1 ∙ sym (ap (λ n. (p.0, standing s) ∷ drop n (e ∷ tasks)) next))
 
 or_none : {X : Type 0} (o : Option X) → option_or o None ≡ o
 or_none None = refl
@@ -70,35 +80,23 @@ nothing : {K : Type 0} (eq : K → K → Bool) → IsDistinct eq []
 unfolding IsDistinct
 nothing eq = tt
 
-module _ {E L : Type 0} (eq : E → E → Bool) where
-  -- no task, and none in the index
-  pub none_indexed : {H : Type 0} (es : List (Name E × Stage L)) (m : HashMap (Name E) ℕ H) → es ≡ [] → m.entries ≡ [] → AreIndexed eq es m 0
-  none_indexed es m none empty = record {
-    once = subst (λ xs. IsDistinct (same_name eq) (keys_of xs)) (sym none) (nothing (same_name eq));
+module _ {E H : Type 0} (eq : E → E → Bool) where
+  -- no name, and none in the index
+  pub none_indexed : (names : List (Name E)) (m : HashMap (Name E) ℕ H) → names ≡ [] → m.entries ≡ [] → AreIndexed eq names m 0
+  none_indexed names m none empty = record {
+    once = subst (λ ks. IsDistinct (same_name eq) ks) (sym none) (nothing (same_name eq));
     told = λ t i found. let no : None ≡ Some i = sym (ap (lookup (same_name eq t)) empty) ∙ found in absurd (cc no);
     known = λ t i less at unknown. let no : ⊥ = omega (arith, less) in no;
     within = omega arith;
   }
 
-module _ {E L H : Type 0} (eq : E → E → Bool) (laws : IsEquivalence (same_name eq)) (es : List (Name E × Stage L)) (m : HashMap (Name E) ℕ H) (n : ℕ) (indexed : AreIndexed eq es m n) where
-  -- a look-up by index finds what runs under the name that stands there
-  pub under_index : (i : ℕ) (u : Name E) (s : Stage L) → slice_get es i ≡ Some (u, s) → (t : Name E) → IsAt (standings es) i t → task_of eq (standings es) t ≡ standing s
-  under_index i u s is t at =
-      let e = entry_at es i t at in
-      let same : s ≡ e.0 = ap (λ p. p.1) (same_Some _ _ (sym is ∙ e.1)) in
-      task_of-standings eq es t ∙ ap standing_at (lookup_from_place laws es i t e.0 indexed.once e.1) ∙ ap standing (sym same)
-
-  -- where the index says that a task stands, it stands
-  pub told_there : (t : Name E) (i : ℕ) → get (same_name eq) m t ≡ Some i → IsAt (standings es) i t
-  told_there t i found = at-keys es i t (indexed.told t i found)
-
+module _ {E H : Type 0} (eq : E → E → Bool) (laws : IsEquivalence (same_name eq)) (names : List (Name E)) (m : HashMap (Name E) ℕ H) (n : ℕ) (indexed : AreIndexed eq names m n) where
   -- one more name that was looked at isn't this one
-  pub looked_at : (t : Name E) (k : ℕ) → ((i : ℕ) → n ≤ i → i < k → slice_get (keys_of es) i ≡ Some t → ⊥) → (u : Name E) (s : Stage L) → slice_get es k ≡ Some (u, s) → same_name eq u t ≡ false
-      → (i : ℕ) → n ≤ i → i < k + 1 → slice_get (keys_of es) i ≡ Some t → ⊥
-  looked_at t k so_far u s is other i from less at = elim (cases_order i k) [
+  pub looked_at : (t : Name E) (k : ℕ) → ((i : ℕ) → n ≤ i → i < k → slice_get names i ≡ Some t → ⊥) → (u : Name E) → slice_get names k ≡ Some u → same_name eq u t ≡ false
+      → (i : ℕ) → n ≤ i → i < k + 1 → slice_get names i ≡ Some t → ⊥
+  looked_at t k so_far u is other i from less at = elim (cases_order i k) [
     | inl equal ↦
-        let here : slice_get (keys_of es) k ≡ Some u = slice_get-map (λ e. e.0) es k ∙ ap (option_map (λ e. e.0)) is in
-        let same : t ≡ u = same_Some _ _ (sym at ∙ ap (slice_get (keys_of es)) equal ∙ here) in
+        let same : t ≡ u = same_Some _ _ (sym at ∙ ap (slice_get names) equal ∙ is) in
         false≢true (sym other ∙ ap (same_name eq u) same ∙ laws.refl u)
     | inr apart ↦ elim apart [
       | inl before ↦ so_far i from before at
@@ -106,75 +104,8 @@ module _ {E L H : Type 0} (eq : E → E → Bool) (laws : IsEquivalence (same_na
     ]
   ]
 
-  -- a name that the index doesn't know and that is none of the others isn't there
-  pub not_there : ((t u : Name E) → same_name eq t u ≡ true → t ≡ u) → (t : Name E) → get (same_name eq) m t ≡ None → ((i : ℕ) → n ≤ i → i < length es → slice_get (keys_of es) i ≡ Some t → ⊥) → task_of eq (standings es) t ≡ Absent
-  not_there exact t unknown others = task_of-standings eq es t ∙ ap standing_at (by (lookup (same_name eq t) es) refl)
-    where
-      nowhere : (i : ℕ) → slice_get (keys_of es) i ≡ Some t → ⊥
-      nowhere i at = elim (cases_order i n) [
-        | inl equal ↦ others i (omega (arith, equal)) within at
-        | inr apart ↦ elim apart [
-          | inl less ↦ indexed.known t i less at unknown
-          | inr more ↦ others i (omega (arith, more)) within at
-        ]
-      ]
-        where
-          within : i < length es
-          within = let short = slice_get_within (keys_of es) i t at in let long = length-keys_of es in omega (arith, short, long)
-
-      by : (o : Option (Stage L)) → lookup (same_name eq t) es ≡ o → o ≡ None
-      by None found = refl
-      by (Some s) found =
-          let p = place_from_lookup (same_name eq t) es s found in
-          let same : t ≡ p.1 = exact t p.1 p.3 in
-          absurd (nowhere p.0 (slice_get-map (λ e. e.0) es p.0 ∙ ap (option_map (λ e. e.0)) p.2 ∙ ap Some (sym same)))
-
-  -- the tasks after one more was put behind them
-  pub pushed_indexed : (t : Name E) (s : Stage L) → task_of eq (standings es) t ≡ Absent → (fs : List (Name E × Stage L)) → fs ≡ es ++ (t, s) ∷ [] → AreIndexed eq fs m n
-  pushed_indexed t s absent fs is = record {
-    once = subst (λ ks. IsDistinct (same_name eq) ks) (sym names) (IsDistinct-push laws (keys_of es) t indexed.once (sym (is_some-lookup (same_name eq t) es) ∙ ap is_some (not_found eq es t absent)));
-    told = λ u i found. ap (λ ks. slice_get ks i) names ∙ at_still (keys_of es) (t ∷ []) i u (indexed.told u i found);
-    known = λ u i less at. indexed.known u i less (at_before (keys_of es) (t ∷ []) i (Some u) (short i less) (sym (ap (λ ks. slice_get ks i) names) ∙ at));
-    within = let long : length fs ≡ length es + 1 = ap length is ∙ length-append es ((t, s) ∷ []) in let few = indexed.within in omega (arith, long, few);
-  }
-    where
-      names : keys_of fs ≡ keys_of es ++ t ∷ []
-      names = ap keys_of is ∙ map-append (λ e. e.0) es ((t, s) ∷ [])
-
-      short : (i : ℕ) → i < n → i < length (keys_of es)
-      short i less = let few = indexed.within in let long = length-keys_of es in omega (arith, less, few, long)
-
-  -- which is a new task, behind the others
-  pub pushed_sets : (t : Name E) (s : Stage L) → task_of eq (standings es) t ≡ Absent → (fs : List (Name E × Stage L)) → fs ≡ es ++ (t, s) ∷ [] → Sets eq (standings es) t (standing s) (standings fs)
-  pushed_sets t s absent fs is = sets_by eq laws.symm es fs t s each stay
-    where
-      names : keys_of fs ≡ keys_of es ++ t ∷ []
-      names = ap keys_of is ∙ map-append (λ e. e.0) es ((t, s) ∷ [])
-
-      by : (q : Name E) (b : Bool) → same_name eq t q ≡ b → option_or (lookup (same_name eq q) es) (cond (same_name eq q t) (Some s) None) ≡ cond b (Some s) (lookup (same_name eq q) es)
-      by q true same =
-          let none : lookup (same_name eq q) es ≡ None = ap (λ test. lookup test es) (fun_ext (λ u. sym (laws.congr t q u same))) ∙ not_found eq es t absent in
-          let flipped : same_name eq q t ≡ true = laws.symm q t ∙ same in
-          λ i. option_or (none i) (cond (flipped i) (Some s) None)
-      by q false other =
-          let flipped : same_name eq q t ≡ false = laws.symm q t ∙ other in
-          ap (λ b. option_or (lookup (same_name eq q) es) (cond b (Some s) None)) flipped ∙ or_none (lookup (same_name eq q) es)
-
-      each : (q : Name E) → lookup (same_name eq q) fs ≡ cond (same_name eq t q) (Some s) (lookup (same_name eq q) es)
-      each q = ap (lookup (same_name eq q)) is ∙ lookup_behind (same_name eq q) es t s ∙ by q (same_name eq t q) refl
-
-      stay : KeepsIndices (standings es) (standings fs)
-      stay i u at = at-keys fs i u (ap (λ ks. slice_get ks i) names ∙ at_still (keys_of es) (t ∷ []) i u (keys-at es i u at))
-
-  pub pushed_there : (t : Name E) (s : Stage L) → (fs : List (Name E × Stage L)) → fs ≡ es ++ (t, s) ∷ [] → IsAt (standings fs) (length (standings es)) t
-  pushed_there t s fs is = subst (λ xs. IsAt (standings xs) (length (standings es)) t) (sym is) (last_there es)
-    where
-      last_there : (xs : List (Name E × Stage L)) → IsAt (standings (xs ++ (t, s) ∷ [])) (length (standings xs)) t
-      last_there [] = refl
-      last_there (x ∷ xs) = last_there xs
-
   -- the index where there was no room for more of it
-  pub kept_indexed : (later : HashMap (Name E) ℕ H) → later.entries ≡ m.entries → AreIndexed eq es later n
+  pub kept_indexed : (later : HashMap (Name E) ℕ H) → later.entries ≡ m.entries → AreIndexed eq names later n
   kept_indexed later same = record {
     once = indexed.once;
     told = λ t i found. indexed.told t i (sym (ap (lookup (same_name eq t)) same) ∙ found);
@@ -183,27 +114,24 @@ module _ {E L H : Type 0} (eq : E → E → Bool) (laws : IsEquivalence (same_na
   }
 
   -- the index after the next name came into it
-  pub next_indexed : ((t u : Name E) → same_name eq t u ≡ true → t ≡ u) → (t : Name E) (s : Stage L) → slice_get es n ≡ Some (t, s) → (later : HashMap (Name E) ℕ H)
-      → ((q : Name E) → get (same_name eq) later q ≡ cond (same_name eq t q) (Some n) (get (same_name eq) m q)) → AreIndexed eq es later (n + 1)
-  next_indexed exact t s is later updates = record {
+  pub next_indexed : ((t u : Name E) → same_name eq t u ≡ true → t ≡ u) → (t : Name E) → slice_get names n ≡ Some t → (later : HashMap (Name E) ℕ H)
+      → ((q : Name E) → get (same_name eq) later q ≡ cond (same_name eq t q) (Some n) (get (same_name eq) m q)) → AreIndexed eq names later (n + 1)
+  next_indexed exact t there later updates = record {
     once = indexed.once;
     told = λ u i found. told u i (same_name eq t u) refl (sym (updates u) ∙ found);
     known = λ u i less at unknown. known u i (same_name eq t u) refl less at (sym (updates u) ∙ unknown);
-    within = let short = slice_get_within es n (t, s) is in omega (arith, short);
+    within = let short = slice_get_within names n t there in omega (arith, short);
   }
     where
-      there : slice_get (keys_of es) n ≡ Some t
-      there = slice_get-map (λ e. e.0) es n ∙ ap (option_map (λ e. e.0)) is
-
-      told : (u : Name E) (i : ℕ) (b : Bool) → same_name eq t u ≡ b → cond b (Some n) (get (same_name eq) m u) ≡ Some i → slice_get (keys_of es) i ≡ Some u
-      told u i true same found = ap (slice_get (keys_of es)) (sym (same_Some _ _ found)) ∙ there ∙ ap Some (exact t u same)
+      told : (u : Name E) (i : ℕ) (b : Bool) → same_name eq t u ≡ b → cond b (Some n) (get (same_name eq) m u) ≡ Some i → slice_get names i ≡ Some u
+      told u i true same found = ap (slice_get names) (sym (same_Some _ _ found)) ∙ there ∙ ap Some (exact t u same)
       told u i false other found = indexed.told u i found
 
-      known : (u : Name E) (i : ℕ) (b : Bool) → same_name eq t u ≡ b → i < n + 1 → slice_get (keys_of es) i ≡ Some u → cond b (Some n) (get (same_name eq) m u) ≡ None → ⊥
+      known : (u : Name E) (i : ℕ) (b : Bool) → same_name eq t u ≡ b → i < n + 1 → slice_get names i ≡ Some u → cond b (Some n) (get (same_name eq) m u) ≡ None → ⊥
       known u i true same less at unknown = cc unknown
       known u i false other less at unknown = elim (cases_order i n) [
         | inl equal ↦
-            let same : u ≡ t = same_Some _ _ (sym at ∙ ap (slice_get (keys_of es)) equal ∙ there) in
+            let same : u ≡ t = same_Some _ _ (sym at ∙ ap (slice_get names) equal ∙ there) in
             false≢true (sym other ∙ ap (same_name eq t) same ∙ laws.refl t)
         | inr apart ↦ elim apart [
           | inl before ↦ indexed.known u i before at unknown
@@ -211,26 +139,130 @@ module _ {E L H : Type 0} (eq : E → E → Bool) (laws : IsEquivalence (same_na
         ]
       ]
 
-  sets_there : (i : ℕ) (t : Name E) (r s : Stage L) → slice_get es i ≡ Some (t, r) → Sets eq (standings es) t (standing s) (standings (slice_set es i (t, s)))
-  sets_there i t r s is = subst (λ fs. Sets eq (standings es) t (standing s) (standings fs)) (sym (written_at (same_name eq) laws es indexed.once i t r s is))
-      (sets_by eq laws.symm es (set_value (same_name eq t) es s) t s
-      (λ q. lookup-set_value laws (same_name eq t) (laws.congr t) q s es (ap is_some (lookup_from_place laws es i t r indexed.once is)))
-      (λ j u at. at-keys _ j u (ap (λ ks. slice_get ks j) (keys-set_value (same_name eq t) es s) ∙ keys-at es j u at)))
+  -- a name that the index doesn't know and that is none of the others stands nowhere
+  pub nowhere : (t : Name E) → get (same_name eq) m t ≡ None → ((i : ℕ) → n ≤ i → i < length names → slice_get names i ≡ Some t → ⊥) → (i : ℕ) → slice_get names i ≡ Some t → ⊥
+  nowhere t unknown others i at = elim (cases_order i n) [
+    | inl equal ↦ others i (omega (arith, equal)) short at
+    | inr apart ↦ elim apart [
+      | inl less ↦ indexed.known t i less at unknown
+      | inr more ↦ others i (omega (arith, more)) short at
+    ]
+  ]
+    where
+      short : i < length names
+      short = slice_get_within names i t at
 
-  -- the tasks after one of them went on
-  pub written_sets : (i : ℕ) (u : Name E) (r s : Stage L) → slice_get es i ≡ Some (u, r) → (t : Name E) → IsAt (standings es) i t → Sets eq (standings es) t (standing s) (standings (slice_set es i (u, s)))
-  written_sets i u r s is t at =
-      let e = entry_at es i t at in
-      let same : t ≡ u = ap (λ p. p.0) (same_Some _ _ (sym e.1 ∙ is)) in
-      subst (λ v. Sets eq (standings es) t (standing s) (standings (slice_set es i (v, s)))) same (sets_there i t r s (is ∙ ap (λ v. Some (v, r)) (sym same)))
+module _ {E L H : Type 0} (eq : E → E → Bool) (laws : IsEquivalence (same_name eq)) (names : List (Name E)) (stages : List (Stage L)) (m : HashMap (Name E) ℕ H) (n : ℕ) (staged : AreStaged eq names stages m n) where
+  keys : keys_of (zip names stages) ≡ names
+  keys = keys_of-zip names stages staged.beside
 
-  pub written_names : (i : ℕ) (t : Name E) (r s : Stage L) → slice_get es i ≡ Some (t, r) → keys_of (slice_set es i (t, s)) ≡ keys_of es
-  written_names i t r s is = ap keys_of (written_at (same_name eq) laws es indexed.once i t r s is) ∙ keys-set_value (same_name eq t) es s
+  -- no name stands twice
+  pub once : IsDistinct (same_name eq) (keys_of (zip names stages))
+  once = subst (λ ks. IsDistinct (same_name eq) ks) (sym keys) staged.indexed.once
 
-  pub written_indexed : (fs : List (Name E × Stage L)) → keys_of fs ≡ keys_of es → AreIndexed eq fs m n
-  written_indexed fs names = record {
-    once = subst (λ ks. IsDistinct (same_name eq) ks) (sym names) indexed.once;
-    told = λ t i found. ap (λ ks. slice_get ks i) names ∙ indexed.told t i found;
-    known = λ t i less at. indexed.known t i less (sym (ap (λ ks. slice_get ks i) names) ∙ at);
-    within = let long = length-keys_of fs in let was = length-keys_of es in let same : length (keys_of fs) ≡ length (keys_of es) = ap length names in let few = indexed.within in omega (arith, long, was, same, few);
-  }
+  -- a look-up by index finds what runs under the name that stands there
+  pub under_index : (i : ℕ) (t : Name E) → IsAt (standings (zip names stages)) i t → task_of eq (standings (zip names stages)) t ≡ standing_at (slice_get stages i)
+  under_index i t at = by (slice_get stages i) refl
+    where
+      es : List (Name E × Stage L)
+      es = zip names stages
+
+      is : slice_get names i ≡ Some t
+      is = names-at names stages staged.beside i t at
+
+      by : (o : Option (Stage L)) → slice_get stages i ≡ o → task_of eq (standings es) t ≡ standing_at o
+      by None none = absurd (none_there stages i (let short = slice_get_within names i t is in let long = staged.beside in omega (arith, short, long)) none)
+      by (Some s) there = task_of-standings eq es t ∙ ap standing_at (lookup_from_place laws es i t s once (zip_at names stages i t s is there))
+
+  -- where there is a stage a task stands
+  pub one_at : (i : ℕ) (r : Option (Bor (Stage L))) → option_copied r ≡ slice_get stages i → IfSome r (λ _. (t : Name E) × IsAt (standings (zip names stages)) i t)
+  one_at i None is = tt
+  one_at i (Some s) is =
+      let p = some_there names i (let short = slice_get_within stages i s.now (sym is) in let long = staged.beside in omega (arith, short, long)) in
+      (p.0, at-names names stages staged.beside i p.0 p.1)
+
+  -- and where there is none, none stands
+  pub none_at : (i : ℕ) → length stages ≤ i → (t : Name E) → IsAt (standings (zip names stages)) i t → ⊥
+  none_at i past t at = let short = slice_get_within names i t (names-at names stages staged.beside i t at) in let long = staged.beside in omega (arith, short, long, past)
+
+  -- where the index says that a task stands, it stands
+  pub told_there : (t : Name E) (i : ℕ) → get (same_name eq) m t ≡ Some i → IsAt (standings (zip names stages)) i t
+  told_there t i found = at-names names stages staged.beside i t (staged.indexed.told t i found)
+
+  -- a name that the index doesn't know and that is none of the others isn't there
+  pub not_there : ((t u : Name E) → same_name eq t u ≡ true → t ≡ u) → (t : Name E) → get (same_name eq) m t ≡ None → ((i : ℕ) → n ≤ i → i < length names → slice_get names i ≡ Some t → ⊥) → task_of eq (standings (zip names stages)) t ≡ Absent
+  not_there exact t unknown others = task_of-standings eq es t ∙ ap standing_at (by (lookup (same_name eq t) es) refl)
+    where
+      es : List (Name E × Stage L)
+      es = zip names stages
+
+      by : (o : Option (Stage L)) → lookup (same_name eq t) es ≡ o → o ≡ None
+      by None found = refl
+      by (Some s) found =
+          let p = place_from_lookup (same_name eq t) es s found in
+          let same : t ≡ p.1 = exact t p.1 p.3 in
+          let there : slice_get (keys_of es) p.0 ≡ Some t = slice_get-map (λ e. e.0) es p.0 ∙ ap (option_map (λ e. e.0)) p.2 ∙ ap Some (sym same) in
+          absurd (nowhere eq laws names m n staged.indexed t unknown others p.0 (sym (ap (λ ks. slice_get ks p.0) keys) ∙ there))
+
+  module _ (t : Name E) (s : Stage L) (absent : task_of eq (standings (zip names stages)) t ≡ Absent) (ks : List (Name E)) (ss : List (Stage L)) (is : ks ≡ names ++ t ∷ []) (are : ss ≡ stages ++ s ∷ []) where
+    pushed : zip ks ss ≡ zip names stages ++ (t, s) ∷ []
+    pushed = (λ i. zip (is i) (are i)) ∙ zip_push names stages t s staged.beside
+
+    -- the tasks after one more was put behind them
+    pub pushed_staged : AreStaged eq ks ss m n
+    pushed_staged = record {
+      indexed = record {
+        once = subst (λ us. IsDistinct (same_name eq) us) (sym is) (IsDistinct-push laws names t staged.indexed.once (sym (is_some-lookup (same_name eq t) (zip names stages) ∙ ap (list_any (same_name eq t)) keys) ∙ ap is_some (not_found eq (zip names stages) t absent)));
+        told = λ u i found. ap (λ us. slice_get us i) is ∙ at_still names (t ∷ []) i u (staged.indexed.told u i found);
+        known = λ u i less at. staged.indexed.known u i less (at_before names (t ∷ []) i (Some u) (let few = staged.indexed.within in omega (arith, less, few)) (sym (ap (λ us. slice_get us i) is) ∙ at));
+        within = let long = ap length is ∙ length-append names (t ∷ []) in let few = staged.indexed.within in omega (arith, long, few);
+      };
+      beside = ap length are ∙ length-append stages (s ∷ []) ∙ ap (λ k. k + 1) staged.beside ∙ sym (ap length is ∙ length-append names (t ∷ []));
+    }
+
+    -- which is a task more
+    pub pushed_sets : Sets eq (standings (zip names stages)) t (standing s) (standings (zip ks ss))
+    pushed_sets = sets_by eq laws.symm es (zip ks ss) t s each stay
+      where
+        es : List (Name E × Stage L)
+        es = zip names stages
+
+        by : (q : Name E) (b : Bool) → same_name eq t q ≡ b → option_or (lookup (same_name eq q) es) (cond (same_name eq q t) (Some s) None) ≡ cond b (Some s) (lookup (same_name eq q) es)
+        by q true same =
+            let none : lookup (same_name eq q) es ≡ None = ap (λ test. lookup test es) (fun_ext (λ u. sym (laws.congr t q u same))) ∙ not_found eq es t absent in
+            let flipped : same_name eq q t ≡ true = laws.symm q t ∙ same in
+            λ i. option_or (none i) (cond (flipped i) (Some s) None)
+        by q false other =
+            let flipped : same_name eq q t ≡ false = laws.symm q t ∙ other in
+            ap (λ b. option_or (lookup (same_name eq q) es) (cond b (Some s) None)) flipped ∙ or_none (lookup (same_name eq q) es)
+
+        each : (q : Name E) → lookup (same_name eq q) (zip ks ss) ≡ cond (same_name eq t q) (Some s) (lookup (same_name eq q) es)
+        each q = ap (lookup (same_name eq q)) pushed ∙ lookup_behind (same_name eq q) es t s ∙ by q (same_name eq t q) refl
+
+        stay : KeepsIndices (standings es) (standings (zip ks ss))
+        stay i u at = at-names ks ss pushed_staged.beside i u (ap (λ us. slice_get us i) is ∙ at_still names (t ∷ []) i u (names-at names stages staged.beside i u at))
+
+    -- behind the others
+    pub pushed_there : IsAt (standings (zip ks ss)) (length (standings (zip names stages))) t
+    pushed_there = at-names ks ss pushed_staged.beside _ t (ap (slice_get ks) (length-tasks names stages staged.beside) ∙ ap (λ us. slice_get us (length names)) is ∙ last_there names)
+      where
+        last_there : (us : List (Name E)) → slice_get (us ++ t ∷ []) (length us) ≡ Some t
+        last_there [] = refl
+        last_there (u ∷ us) = last_there us
+
+  module _ (i : ℕ) (s : Stage L) where
+    -- the tasks after one of them went on
+    pub written_staged : AreStaged eq names (slice_set stages i s) m n
+    written_staged = record { indexed = staged.indexed; beside = length-set stages i s ∙ staged.beside }
+
+    pub written_sets : (t : Name E) → IsAt (standings (zip names stages)) i t → Sets eq (standings (zip names stages)) t (standing s) (standings (zip names (slice_set stages i s)))
+    written_sets t at =
+        let e = entry_at (zip names stages) i t at in
+        subst (λ fs. Sets eq (standings (zip names stages)) t (standing s) (standings fs))
+        (sym (zip_set names stages i t s (names-at names stages staged.beside i t at) ∙ written_at (same_name eq) laws (zip names stages) once i t e.0 s e.1))
+        (set_there t e.0 e.1)
+      where
+        set_there : (t : Name E) (r : Stage L) → slice_get (zip names stages) i ≡ Some (t, r) → Sets eq (standings (zip names stages)) t (standing s) (standings (set_value (same_name eq t) (zip names stages) s))
+        set_there t r is = sets_by eq laws.symm (zip names stages) (set_value (same_name eq t) (zip names stages) s) t s
+            (λ q. lookup-set_value laws (same_name eq t) (laws.congr t) q s (zip names stages) (ap is_some (lookup_from_place laws (zip names stages) i t r once is)))
+            (λ j u at. at-keys _ j u (ap (λ ks. slice_get ks j) (keys-set_value (same_name eq t) (zip names stages) s) ∙ keys-at (zip names stages) j u at))

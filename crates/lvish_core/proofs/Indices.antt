@@ -1,5 +1,5 @@
 -- Where the tasks of a table stand.
-use Rattle.std.proofs.Common.{◌≡◌, ◌<◌, inl, inr, ℕ, zero, suc, Bool, true, false, List, [], ◌∷◌, ◌++◌, Option, Some, None, refl, sym, ap, ◌∙◌}
+use Rattle.std.proofs.Common.{◌≡◌, ◌<◌, inl, inr, ℕ, zero, suc, Bool, true, List, [], ◌∷◌, ◌++◌, Option, Some, None, refl, sym, ap, ◌∙◌}
 use Rattle.std.specs.Prelude.{slice_get}
 use Rattle.std.specs.Option.{option_map, unwrap_or}
 use Rattle.std.specs.List.{IsDistinct}
@@ -37,10 +37,6 @@ module _ {E L : Type 0} where
   pub keys-at : (es : List (Name E × Stage L)) (i : ℕ) (t : Name E) → IsAt (standings es) i t → slice_get (keys_of es) i ≡ Some t
   keys-at es i t at = sym (ap (λ ts. slice_get ts i) (names-standings es)) ∙ at
 
-  -- the task of an entry stands at its index
-  pub stands_at : (es : List (Name E × Stage L)) (i : ℕ) (t u : Name E) (s : Stage L) → slice_get es i ≡ Some (u, s) → t ≡ u → IsAt (standings es) i t
-  stands_at es i t u s e same = at-keys es i t (slice_get-map (λ p. p.0) es i ∙ ap (option_map (λ p. p.0)) e ∙ ap Some (sym same))
-
   -- where a task stands there is its entry
   pub entry_at : (es : List (Name E × Stage L)) (i : ℕ) (t : Name E) → IsAt (standings es) i t → (s : Stage L) × (slice_get es i ≡ Some (t, s))
   entry_at es i t at = by (slice_get es i) refl
@@ -48,14 +44,6 @@ module _ {E L : Type 0} where
       by : (o : Option (Name E × Stage L)) → slice_get es i ≡ o → (s : Stage L) × (slice_get es i ≡ Some (t, s))
       by None e = absurd (cc (sym (ap (option_map (λ p. p.0)) e) ∙ sym (slice_get-map (λ p. p.0) es i) ∙ keys-at es i t at))
       by (Some p) e = (p.1, e ∙ ap (λ u. Some (u, p.1)) (same_some (sym (ap (option_map (λ p. p.0)) e) ∙ sym (slice_get-map (λ p. p.0) es i) ∙ keys-at es i t at)))
-
-  -- where there is no entry no task stands
-  pub none_at : (es : List (Name E × Stage L)) (i : ℕ) → None ≡ slice_get es i → (t : Name E) → IsAt (standings es) i t → ⊥
-  none_at es i none t at = let e = entry_at es i t at in cc (none ∙ e.1)
-
-  -- the name of an entry
-  pub name_of : (es : List (Name E × Stage L)) (i : ℕ) (o : Option (Name E × Stage L)) → o ≡ slice_get es i → option_map (λ p. p.0) o ≡ slice_get (task_names (standings es)) i
-  name_of es i o e = ap (option_map (λ p. p.0)) e ∙ sym (slice_get-map (λ p. p.0) es i) ∙ sym (ap (λ ts. slice_get ts i) (names-standings es))
 
   pub each_once : (eq : E → E → Bool) → ((e : E) → eq e e ≡ true) → (xs : List (Name E × Task L)) → IsDistinct (same_name eq) (task_names xs) → HasEachOnce xs
   each_once eq same xs once i j t one other =

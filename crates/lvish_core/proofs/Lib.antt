@@ -19,6 +19,7 @@ pub mod Ready
 pub mod Shown
 pub mod Coming
 pub mod Seated
+pub mod Seats
 pub mod Listing
 pub mod Listed
 pub mod Ended
@@ -26,4 +27,5 @@ pub mod Begins
 pub mod Takes
 pub mod Waiting
 pub mod Spotted
+pub mod Staged
 pub mod After

@@ -15,3 +15,4 @@ pub mod Waiting
 pub mod Spots
 pub mod After
 pub mod laws
+pub mod Seats

@@ -20,3 +20,10 @@ impl HandlerPlace {
         }
     }
 }
+
+/// Where a handler stands: its variable, and its place among that variable's handlers.
+#[derive(Clone, Copy, Debug)]
+pub(crate) struct HandlerSeat {
+    pub variable: usize,
+    pub at: usize,
+}

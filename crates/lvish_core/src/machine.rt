@@ -15,11 +15,13 @@ mod place_of;
 mod put;
 mod reads;
 mod ready;
+mod seat_of;
 mod shown;
 
 use crate::begun::{bottoms, no_handlers};
 use crate::core_meaning::CoreMeaning;
 use crate::fault::{RunError, StepFault, Stepped};
+use crate::handler_place::HandlerSeat;
 use crate::places::Places;
 use crate::pools::pools_of;
 use crate::stage::Stage;
@@ -45,6 +47,8 @@ pub struct Core<'p, P: Program> {
     tasks: Tasks<<P::Lat as Lattice>::Event, P::Local>,
     // where each handler is, so that a handing finds it by its name
     places: Places<<P::Lat as Lattice>::Event>,
+    // where the handler stood that was handed an event last; another may stand there, or none
+    last_seat: HandlerSeat,
     running: usize,
     steps: u64,
     fault: Option<RunError<<P::Lat as Lattice>::Event>>,
@@ -60,6 +64,7 @@ impl<'p, P: Program> Drop for Core<'p, P> {
             handlers: _,
             tasks: _,
             places: _,
+            last_seat: _,
             running: _,
             steps: _,
             fault: _,
@@ -107,6 +112,7 @@ impl<'p, P: Program> Core<'p, P> {
             handlers,
             tasks,
             places: Places::new(alloc),
+            last_seat: HandlerSeat { variable: 0, at: 0 },
             running: 1,
             steps: 0,
             fault: None,

@@ -1,6 +1,6 @@
-ghost use Rattle.std.specs.Prelude.{◌≡◌, [], MatchOption, MatchResult, IfOk, IfSome, length, option_copied, slice_get};
+ghost use Rattle.std.specs.Prelude.{◌≡◌, [], MatchOption, MatchResult, IfOk, IfSome, length, map, option_copied, slice_get};
 ghost use Rattle.std.specs.Option.{option_map};
-ghost use Rattle.std.specs.List.{IsDistinct};
+ghost use Rattle.std.specs.List.{IsDistinct, zip};
 ghost use Rattle.std.specs.List.Sorted.{IsStrictlySortedBy};
 ghost use Rattle.lvish_names.specs.NameOrder.{name_cmp};
 ghost use Rattle.lvish_names.specs.Names.{Name, same_name};
@@ -22,7 +22,10 @@ use std::marker::Model;
 /// A task keeps its index as long as there is the core. A task that comes isn't hashed: a core whose
 /// tasks are found by their indices alone never needs it.
 pub(crate) struct Tasks<E: Eq + Hash, L> {
-    tasks: Vec<(TaskName<E>, Stage<L>)>,
+    // in a list of their own, which is given away whole at the end of a run
+    names: Vec<TaskName<E>>,
+    // what runs under each name, at its index
+    stages: Vec<Stage<L>>,
     // where the first `indexed` tasks stand; each task behind them is looked at
     indices: HashMap<TaskName<E>, usize>,
     indexed: usize,
@@ -32,7 +35,8 @@ pub(crate) struct Tasks<E: Eq + Hash, L> {
 impl<E: Eq + Hash + Drop, L: Drop> Drop for Tasks<E, L> {
     fn drop(self) {
         let Tasks {
-            tasks: _,
+            names: _,
+            stages: _,
             indices: _,
             indexed: _,
         } = self;
@@ -41,16 +45,17 @@ impl<E: Eq + Hash + Drop, L: Drop> Drop for Tasks<E, L> {
 
 impl<E: Eq + Hash, L> Model for Tasks<E, L> {
     ghost use Rattle.std.specs.Prelude.{List};
+    ghost use Rattle.std.specs.List.{zip};
     ghost use Rattle.lvish_calculus.specs.Calculus.{Task};
     ghost use Rattle.lvish_names.specs.Names.{Name};
     ghost use Rattle.lvish_core.specs.Tasks.{standings};
-    ghost use Rattle.lvish_core.specs.Indexed.{AreIndexed};
+    ghost use Rattle.lvish_core.specs.Indexed.{AreStaged};
 
     ghost Value = { List (Name E × Task L) };
 
-    ghost view = { λ t. standings t.tasks.items };
+    ghost view = { λ t. standings (zip t.names.items t.stages.items) };
 
-    ghost invariant = { λ t. AreIndexed E.eq t.tasks.items t.indices t.indexed };
+    ghost invariant = { λ t. AreStaged E.eq t.names.items t.stages.items t.indices t.indexed };
 }
 
 /// A task of a core: its name, and what runs under it.
@@ -67,7 +72,8 @@ impl<E: Plain + Hash, L: Drop> Tasks<E, L> {
         ensures { result ≡ [] }
     {
         Tasks {
-            tasks: Vec::new(alloc),
+            names: Vec::new(alloc),
+            stages: Vec::new(alloc),
             indices: HashMap::new(alloc),
             indexed: 0,
         }
@@ -83,19 +89,19 @@ impl<E: Plain + Hash, L: Drop> Tasks<E, L> {
         }
     }
 
-    /// The tasks, each at its index.
-    pub fn as_slice(&self) -> &[(TaskName<E>, Stage<L>)]
-        ensures all { standings result.now ≡ self.now }
+    /// What runs under the tasks' names, each at its task's index.
+    pub fn stages(&self) -> &[Stage<L>]
+        ensures all { map standing result.now ≡ map (λ e. e.1) self.now }
         ensures once { IsDistinct (same_name E.eq) (task_names self.now) }
     {
-        &self.tasks
+        &self.stages
     }
 
     /// No task is there under two indices.
     pub fn each_once(&self)
         ensures { HasEachOnce self.now }
     {
-        let _tasks = self.as_slice();
+        let _stages = self.stages();
     }
 
     /// The tasks in the order of their names.
@@ -103,7 +109,7 @@ impl<E: Plain + Hash, L: Drop> Tasks<E, L> {
         ensures all { IfOk result (λ v. SameTasks E.eq self.now (standings (entries_at v.items))) }
         ensures ascending { IfOk result (λ v. IsStrictlySortedBy (name_cmp E.cmp) (task_names (standings (entries_at v.items)))) }
     {
-        let mut tasks = named_stages(&self.tasks, alloc)?;
+        let mut tasks = named_stages(&self.names, &self.stages, alloc)?;
         tasks.sort_unstable_by(by_name);
         Ok(tasks)
     }
@@ -125,8 +131,8 @@ impl<E: Plain + Hash, L: Drop> Tasks<E, L> {
         if let Some(index) = self.indices.get(name) {
             return Some(*index);
         }
-        for index in self.indexed..self.tasks.len() {
-            if self.tasks[index].0 == *name {
+        for index in self.indexed..self.names.len() {
+            if self.names[index] == *name {
                 return Some(index);
             }
         }
@@ -138,7 +144,7 @@ impl<E: Plain + Hash, L: Drop> Tasks<E, L> {
     pub fn index_names(&mut self)
         ensures { self.new ≡ self.old }
     {
-        for _ in self.indexed..self.tasks.len() {
+        for _ in self.indexed..self.names.len() {
             if !self.index_next() {
                 return;
             }
@@ -150,10 +156,10 @@ impl<E: Plain + Hash, L: Drop> Tasks<E, L> {
     fn index_next(&mut self) -> bool
         ensures { self.new ≡ self.old }
     {
-        let Some(entry) = self.tasks.get(self.indexed) else {
+        let Some(name) = self.names.get(self.indexed) else {
             return false;
         };
-        let Ok(name) = entry.0.copy() else {
+        let Ok(name) = name.copy() else {
             return false;
         };
         match self.indices.insert(name, self.indexed) {
@@ -170,8 +176,8 @@ impl<E: Plain + Hash, L: Drop> Tasks<E, L> {
     pub fn replace_at(&mut self, index: usize, stage: Stage<L>)
         ensures { (t : Name E) → IsAt self.old index t → Sets E.eq self.old t (standing stage) self.new }
     {
-        if let Some(entry) = self.tasks.get_mut(index) {
-            entry.1 = stage;
+        if let Some(place) = self.stages.get_mut(index) {
+            *place = stage;
         }
     }
 
@@ -179,7 +185,7 @@ impl<E: Plain + Hash, L: Drop> Tasks<E, L> {
     pub fn len(&self) -> usize
         ensures { result ≡ length self.now }
     {
-        self.tasks.len()
+        self.names.len()
     }
 
     /// What runs under the name of the task at the index.
@@ -188,34 +194,27 @@ impl<E: Plain + Hash, L: Drop> Tasks<E, L> {
         ensures task { (t : Name E) → IsAt self.now index t → task_of E.eq self.now t ≡ standing_at (option_copied result) }
         ensures at { IfSome result (λ _. (t : Name E) × IsAt self.now index t) }
     {
-        let entry = self.tasks.get(index)?;
-        Some(&entry.1)
+        self.stages.get(index)
     }
 
     /// The name of the task at the index.
     pub fn name_at(&self, index: usize) -> Option<&TaskName<E>>
         ensures { option_copied result ≡ slice_get (task_names self.now) index }
     {
-        match self.tasks.get(index) {
-            Some(entry) => Some(&entry.0),
-            None => None,
-        }
+        self.names.get(index)
     }
 
     /// The names of the tasks, each at its task's index, without a copy.
-    pub fn into_names(self, alloc: Global) -> Result<Vec<TaskName<E>>, AllocError>
-        ensures { IfOk result (λ v. v.items ≡ task_names self) }
+    pub fn into_names(self) -> Vec<TaskName<E>>
+        ensures { result.items ≡ task_names self }
     {
         let Tasks {
-            tasks,
+            names: all,
+            stages: _,
             indices: _,
             indexed: _,
         } = self;
-        let mut names = Vec::with_capacity(alloc, tasks.len())?;
-        for entry in tasks {
-            names.push(entry.0)?;
-        }
-        Ok(names)
+        all
     }
 
     /// Adds a task behind the others.
@@ -224,21 +223,25 @@ impl<E: Plain + Hash, L: Drop> Tasks<E, L> {
         ensures set { MatchResult result (λ _. Sets E.eq self.old name (standing stage) self.new) (λ _. self.new ≡ self.old) }
         ensures added { IfOk result (λ _. task_of E.eq self.old name ≡ Absent → IsAt self.new (length self.old) name) }
     {
-        self.tasks.push((name, stage))?;
+        self.names.reserve(1)?;
+        self.stages.reserve(1)?;
+        self.names.push_reserved(name);
+        self.stages.push_reserved(stage);
         Ok(())
     }
 }
 
-/// References to the names of these tasks and to what runs under them.
+/// References to the names of these tasks, each beside what runs under it.
 fn named_stages<'t, E, L>(
-    tasks: &'t [(TaskName<E>, Stage<L>)],
+    names: &'t [TaskName<E>],
+    stages: &'t [Stage<L>],
     alloc: Global,
 ) -> Result<Vec<NamedStage<'t, E, L>>, AllocError>
-    ensures { IfOk result (λ v. entries_at v.items ≡ tasks.now) }
+    ensures { IfOk result (λ v. entries_at v.items ≡ zip names.now stages.now) }
 {
-    let mut named = Vec::with_capacity(alloc, tasks.len())?;
-    for entry in tasks {
-        named.push((&entry.0, &entry.1))?;
+    let mut named = Vec::with_capacity(alloc, names.len())?;
+    for (name, stage) in names.iter().zip(stages.iter()) {
+        named.push((name, stage))?;
     }
     Ok(named)
 }

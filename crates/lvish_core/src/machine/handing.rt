@@ -7,7 +7,7 @@ ghost use Rattle.lvish_core.specs.Handed.{IsHanded, IsNotHanded, IsHanding, Hand
 use super::Core;
 use crate::beside::hand_at;
 use crate::fault::{StepFault, Stepped};
-use crate::handler_place::HandlerPlace;
+use crate::handler_place::{HandlerPlace, HandlerSeat};
 use crate::limits::MOST_STEPS;
 use crate::moved::{Made, Moved};
 use crate::stage::Stage;
@@ -46,15 +46,13 @@ impl<'p, P: Program> Core<'p, P> {
         if self.fault.is_some() {
             return Err(StepFault::NotEnabled);
         }
-        let Some(place) = self.places.get(name) else {
+        let Some(HandlerSeat { variable, at }) = self.seat_of(name) else {
             return Err(StepFault::NotEnabled);
         };
-        let variable = &self.variables[place.variable];
-        let beside = &self.handlers[place.variable];
-        let Some(at) = beside.find(name) else {
-            return Err(StepFault::NotEnabled);
-        };
-        let Some(event) = beside.next_at(variable, at) else {
+        let beside = &self.handlers[variable];
+        let held = &beside.held()[at];
+        let place = HandlerPlace::new(variable, held.pool, held.procedure);
+        let Some(event) = beside.next_at(&self.variables[variable], at) else {
             return Err(StepFault::NotEnabled);
         };
         if self.is_full() {
@@ -93,6 +91,10 @@ impl<'p, P: Program> Core<'p, P> {
         };
         self.tasks.push(task, Stage::started(local))?;
         hand_at(&mut self.handlers, &self.variables, name, place, at);
+        self.last_seat = HandlerSeat {
+            variable: place.variable,
+            at,
+        };
         self.running += 1;
         self.steps += 1;
         self.touched = Some(Touched::Handed(place.variable));

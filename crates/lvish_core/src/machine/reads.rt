@@ -152,8 +152,8 @@ impl<'p, P: Program> Core<'p, P> {
         ensures { IfOk result (λ b. IsTrue b ↔ NoneIsReady (⟦<P as Meaning>⟧.machine self.now.program) self.now) }
     {
         lawful::<P>();
-        for entry in self.tasks.as_slice() {
-            if self.is_at_ready(alloc, &entry.1)? {
+        for stage in self.tasks.stages() {
+            if self.is_at_ready(alloc, stage)? {
                 return Ok(false);
             }
         }

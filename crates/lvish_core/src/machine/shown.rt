@@ -1,6 +1,6 @@
 //! What a core shows by reference or number.
 
-ghost use Rattle.std.specs.Prelude.{◌≡◌, ◌<◌, ◌↔◌, Some, None, IfOk, IfSome, IsTrue, IsFalse, MatchOption, length, option_copied, slice_get};
+ghost use Rattle.std.specs.Prelude.{◌≡◌, ◌<◌, ◌↔◌, Some, None, IfSome, IsTrue, IsFalse, MatchOption, length, option_copied, slice_get};
 ghost use Rattle.lvish_names.specs.Names.{Name};
 ghost use Rattle.lvish_handlers.specs.Handlers.{IsByName};
 ghost use Rattle.lvish_core.specs.Tasks.{HasEachOnce, IsAt, task_names};
@@ -11,6 +11,7 @@ use super::Core;
 use crate::core_meaning::CoreMeaning;
 use crate::drained::{are_drained, is_drained_at};
 use crate::fault::RunError;
+use crate::handler_place::HandlerSeat;
 use crate::stage::{Stage, TaskNumbers};
 use crate::touched::Touched;
 use lvish_calculus::laws::lawful;
@@ -20,7 +21,6 @@ use lvish_lattice::Lattice;
 use lvish_names::{HandlerName, TaskName};
 use lvish_picture::laws::{drained_at_the_end, handlers_are_held};
 use lvish_variable::Variable;
-use std::alloc::{AllocError, Global};
 
 impl<'p, P: Program> Core<'p, P> {
     /// The program that it runs.
@@ -96,22 +96,26 @@ impl<'p, P: Program> Core<'p, P> {
     {
         lawful::<P>();
         handlers_are_held::<P>();
-        let Some(place) = self.places.get(name) else {
+        let Some(HandlerSeat { variable, at }) = self.seat_of(name) else {
             return None;
         };
-        self.handlers[place.variable].next(&self.variables[place.variable], name)
+        self.handlers[variable].next_at(&self.variables[variable], at)
     }
 
     /// Whether an event comes next for the handler.
+    #[inline(always)]
     pub fn has_next(&self, name: &HandlerName<<P::Lat as Lattice>::Event>) -> bool
         ensures { IsTrue result ↔ ((e : P.Lat.Event) × ⟦<P as CoreMeaning>⟧.is_next self.now name.now e) }
     {
         lawful::<P>();
         handlers_are_held::<P>();
-        let Some(place) = self.places.get(name) else {
-            return false;
-        };
-        self.handlers[place.variable].has_next(&self.variables[place.variable], name)
+        match self.last_handed() {
+            Some((HandlerSeat { variable, at }, last)) if last.name == *name =>
+                self.handlers[variable]
+                    .next_at(&self.variables[variable], at)
+                    .is_some(),
+            _ => self.next(name).is_some(),
+        }
     }
 
     /// Whether there is a handler of this name.
@@ -204,22 +208,14 @@ impl<'p, P: Program> Core<'p, P> {
 
     /// The variables, and the names of the tasks, each at its task's index, without a copy; where
     /// there is an error, as they were before it.
-    ///
-    /// # Errors
-    ///
-    /// Where there is no room for a list of the names.
     pub fn into_parts(
         self,
-        alloc: Global,
-    ) -> Result<
-        (
-            Vec<Variable<P::Lat>>,
-            Vec<TaskName<<P::Lat as Lattice>::Event>>,
-        ),
-        AllocError,
-    >
-        ensures states { IfOk result (λ r. ⟦<P as CoreMeaning>⟧.are_states self.entry r.0.items) }
-        ensures names { IfOk result (λ r. r.1.items ≡ task_names self.entry.table.tasks) }
+    ) -> (
+        Vec<Variable<P::Lat>>,
+        Vec<TaskName<<P::Lat as Lattice>::Event>>,
+    )
+        ensures states { ⟦<P as CoreMeaning>⟧.are_states self.entry result.0.items }
+        ensures names { result.1.items ≡ task_names self.entry.table.tasks }
     {
         let Core {
             program: _,
@@ -227,13 +223,14 @@ impl<'p, P: Program> Core<'p, P> {
             handlers: _,
             tasks,
             places: _,
+            last_seat: _,
             running: _,
             steps: _,
             fault: _,
             touched: _,
         } = self;
-        let names = tasks.into_names(alloc)?;
-        Ok((variables, names))
+        let names = tasks.into_names();
+        (variables, names)
     }
 
     /// The number of steps made.
