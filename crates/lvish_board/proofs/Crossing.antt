@@ -45,6 +45,7 @@ use Rattle.lvish_board.specs.contracts.parked.Parked as Parked
 use Rattle.lvish_board.specs.contracts.parked.Parked.TheInside as inside_parked
 use Rattle.lvish_board.specs.contracts.place.Place as Place
 use Rattle.lvish_board.specs.contracts.room.Room as Room
+use Rattle.lvish_board.specs.contracts.shelves.ByVariable as ByVariable
 use Rattle.lvish_board.specs.contracts.shelves.Shelves as Shelves
 use Rattle.lvish_board.specs.contracts.ticket.Ticket as Ticket
 use Rattle.lvish_board.specs.contracts.ticket.Ticket.TheInside as inside_ticket
@@ -59,8 +60,11 @@ index_send = search sendable depth 20
 trace_send : IsSend (Vec.the_row Noted.the_row Global.the_row ghosts)
 trace_send = search (crosses, sendable) depth 24
 
-shelves_send : (K T : RattleType) → IsSend K → IsSend T → (g : same.Ghosts K.Denot) (h : hash.Ghosts K.Denot) → IsSend (Shelves.the_row K T g h)
-shelves_send K T k t g h = search (crosses, maps.crosses, sendable) depth 30
+shelves_send : (K : RattleType) → IsSend K → (g : same.Ghosts K.Denot) (h : hash.Ghosts K.Denot) → IsSend (Shelves.the_row K g h)
+shelves_send K k g h = search (crosses, maps.crosses, sendable) depth 30
+
+freezes_send : IsSend (as_row ByVariable.the_field)
+freezes_send = search (crosses, sendable) depth 30
 
 module _ (E : RattleType) (s : IsSend E) (y : IsSync E) where
   name : IsSend (TaskName.the_row E)
@@ -108,10 +112,9 @@ module _ (E : RattleType) (s : IsSend E) (y : IsSync E) where
       parked_send : IsSend (Parked.the_row P J S L R A W E p s3 s1 s2 e1 e3 e4 e5 w1 w0 w2 w3 w4 l1 n o)
       parked_send =
           let key : IsSend (Tuple (usize ∷ Option.the_row W ∷ [])) = search sendable depth 20 in
-          let place : IsSend usize = search sendable depth 20 in
           view_send (inside_parked.the_row P J S L R A W E p s3 s1 s2 e1 e3 e4 e5 w1 w0 w2 w3 w4 l1 n o) _ _ _ _
           (declared_send (inside_parked.the_type P J S L R A W E p s3 s1 s2 e1 e3 e4 e5 w1 w0 w2 w3 w4 l1 n o)
-          (as_row_send (ByIndex.the_field P J S L R A W E p s3 s1 s2 e1 e3 e4 e5 w1 w2 w3 w4 l1 n o) by_index_send, (shelves_send _ _ key place _ _, (shelves_send _ _ place place _ _, tt))))
+          (as_row_send (ByIndex.the_field P J S L R A W E p s3 s1 s2 e1 e3 e4 e5 w1 w2 w3 w4 l1 n o) by_index_send, (shelves_send _ key _ _, (freezes_send, tt))))
 
       newest_send : IsSend (Newest.the_row P J S L R A W E p s3 s1 s2 e1 e3 e4 e5 w1 w2 w3 w4 l1 n o)
       newest_send = search (history_send, stamp_send, crosses, sendable) depth 30

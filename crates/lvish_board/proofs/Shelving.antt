@@ -1,28 +1,29 @@
 -- A list under a key is written, and the others stay.
-use Rattle.std.proofs.Common.{◌≡◌, inl, inr, Bool, true, cond, List, [], ◌∷◌, ◌++◌, length, Option, Some, None, refl, sym, ap, subst, ◌∙◌}
-use Rattle.std.specs.Global.{Vec}
+use Rattle.std.proofs.Common.{◌≡◌, inl, inr, Bool, true, false, cond, if◌then◌else◌, List, [], ◌∷◌, ◌++◌, length, ℕ, zero, suc, Option, Some, None, refl, sym, ap, subst, ◌∙◌}
+use Rattle.smallvec.specs.SmallVec.{SmallVec}
+use Rattle.std.specs.Prelude.{slice_set}
 use Rattle.std.specs.Cmp.{IsEquivalence}
 use Rattle.std.specs.Map.{lookup}
 use Rattle.std.specs.HashMap.{HashMap, get}
 use Rattle.std.proofs.lemmas.Bool.{cases_Bool}
 use Rattle.lvish_calculus.specs.Handing.{IsAmong}
 use Rattle.lvish_core.specs.laws.Lists.{among_last}
-use Rattle.lvish_board.specs.Shelved.{shelf, list_items}
+use Rattle.lvish_board.specs.Shelved.{shelf, list_at, list_items}
 
 -- what was pushed to a list lies on it
 pub shelf_pushed : {T : Type 0} (x : T) (xs ys zs : List T) → ys ≡ xs ++ x ∷ [] → zs ≡ ys → IsAmong x zs
 shelf_pushed x xs ys zs e d = subst (λ ws. IsAmong x ws) (sym (d ∙ e)) (among_last x xs (x ∷ []) (inl refl))
 
 -- what lay on a list lies on the one that is there now
-pub list_kept : {T : Type 0} (x : T) (o : Option (Vec T)) (v : Vec T) → ((u : Vec T) → o ≡ Some u → v ≡ u) → IsAmong x (list_items o) → IsAmong x v.items
+pub list_kept : {T : Type 0} (x : T) (o : Option (SmallVec T)) (v : SmallVec T) → ((u : SmallVec T) → o ≡ Some u → v ≡ u) → IsAmong x (list_items o) → IsAmong x v.items
 list_kept x None v is i = absurd i
 list_kept x (Some u) v is i = subst (λ l. IsAmong x l.items) (sym (is u refl)) i
 
 -- where there are no lists nothing lies
-pub empty_shelf : {K T H : Type 0} (eq : K → K → Bool) (m : HashMap K (Vec T) H) → length m.entries ≡ 0 → (k : K) (x : T) → IsAmong x (shelf eq m k) → ⊥
+pub empty_shelf : {K T H : Type 0} (eq : K → K → Bool) (m : HashMap K (SmallVec T) H) → length m.entries ≡ 0 → (k : K) (x : T) → IsAmong x (shelf eq m k) → ⊥
 empty_shelf {K} {T} eq m none k x i = by m.entries none i
   where
-    by : (es : List (K × Vec T)) → length es ≡ 0 → IsAmong x (list_items (lookup (eq k) es)) → ⊥
+    by : (es : List (K × SmallVec T)) → length es ≡ 0 → IsAmong x (list_items (lookup (eq k) es)) → ⊥
     by [] z j = j
     by (e ∷ es) z j = absurd cc
 
@@ -32,7 +33,7 @@ module _ {K : Type 0} (eq : K → K → Bool) (laws : IsEquivalence eq) where
   alike k q e [] = refl
   alike k q e (x ∷ es) = ap (λ b. cond b (Some x.1) (lookup (eq k) es)) (laws.congr k q x.0 e) ∙ ap (λ r. cond (eq q x.0) (Some x.1) r) (alike k q e es)
 
-  module _ {T H : Type 0} (m n : HashMap K (Vec T) H) (k : K) (w : Vec T) (updates : (q : K) → get eq n q ≡ cond (eq k q) (Some w) (get eq m q)) where
+  module _ {T H : Type 0} (m n : HashMap K (SmallVec T) H) (k : K) (w : SmallVec T) (updates : (q : K) → get eq n q ≡ cond (eq k q) (Some w) (get eq m q)) where
     -- what stays on the list that is written stays on every list
     pub shelf_kept : (q : K) (x : T) → (IsAmong x (shelf eq m k) → IsAmong x w.items) → IsAmong x (shelf eq m q) → IsAmong x (shelf eq n q)
     shelf_kept q x more i = elim (cases_Bool (eq k q)) [
@@ -47,3 +48,24 @@ module _ {K : Type 0} (eq : K → K → Bool) (laws : IsEquivalence eq) where
     -- and the list that is written is there
     pub shelf_written : shelf eq n k ≡ w.items
     shelf_written = ap (λ s. list_items s) (updates k ∙ ap (λ b. cond b (Some w) (get eq m k)) (laws.refl k))
+
+module _ {T : Type 0} where
+  -- what lies at the variables stays where what is written at one has what lay there
+  pub listed_kept : (lists : List (SmallVec T)) (i : ℕ) (w : SmallVec T) (v : ℕ) (x : T) → (IsAmong x (list_at lists i) → IsAmong x w.items) → IsAmong x (list_at lists v) → IsAmong x (list_at (slice_set lists i w) v)
+  listed_kept [] i w zero x more a = absurd a
+  listed_kept [] i w (suc v) x more a = absurd a
+  listed_kept (z ∷ zs) zero w zero x more a = more a
+  listed_kept (z ∷ zs) zero w (suc v) x more a = a
+  listed_kept (z ∷ zs) (suc i) w zero x more a = a
+  listed_kept (z ∷ zs) (suc i) w (suc v) x more a = listed_kept zs i w v x more a
+
+  -- and where one more comes behind the others
+  pub listed_pushed : (lists : List (SmallVec T)) (w : SmallVec T) (v : ℕ) (x : T) → IsAmong x (list_at lists v) → IsAmong x (list_at (lists ++ w ∷ []) v)
+  listed_pushed [] w zero x a = absurd a
+  listed_pushed [] w (suc v) x a = absurd a
+  listed_pushed (z ∷ zs) w zero x a = a
+  listed_pushed (z ∷ zs) w (suc v) x a = listed_pushed zs w v x a
+
+  pub listed_pushed_if : (b : Bool) (lists : List (SmallVec T)) (w : SmallVec T) (v : ℕ) (x : T) → IsAmong x (list_at lists v) → IsAmong x (list_at (if b then (lists ++ w ∷ []) else lists) v)
+  listed_pushed_if true lists w v x a = listed_pushed lists w v x a
+  listed_pushed_if false lists w v x a = a

@@ -3,6 +3,7 @@ pub mod Acts
 pub mod Left
 pub mod Listed
 pub mod Noted
+pub mod NotedView
 pub mod Place
 pub mod Newest
 pub mod Seated

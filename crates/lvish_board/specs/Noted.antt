@@ -1,6 +1,7 @@
 -- Steps by the indices of their tasks, and what they are by the tasks' names.
 use Rattle.std.specs.Prelude.{◌≡◌, ℕ, List, Some, map, slice_get, unwrap_or}
 use Rattle.lvish_board.specs.Vocabulary.{Label, Act, Hand, Noted, Step, ActStep, HandStep, TraceEntry}
+use Rattle.lvish_board.specs.NotedView.{index_of}
 use Rattle.lvish_names.specs.Names.{Name, Handler, main, handed}
 
 -- the name at the index, where there is one
@@ -16,11 +17,6 @@ handing_of t = Act t
 abbrev pub label_by : {E : Type 0} → Name E → Step → Label E
 label_by t (ActStep i) = Act t
 label_by t (HandStep i) = handing_of t
-
--- the index of a step's task
-abbrev pub index_of : Step → ℕ
-index_of (ActStep i) = i
-index_of (HandStep i) = i
 
 -- the label of a step, by the names of the tasks
 abbrev pub label_at : {E : Type 0} → List (Name E) → Step → Label E

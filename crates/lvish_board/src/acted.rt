@@ -17,7 +17,8 @@ pub enum Acted<P: Program, J: Named<P>> {
     /// The task is blocked: the board parks it until a step wakes it. Or the handler has nothing
     /// left.
     Parked,
-    /// A growth was refused. Nothing has changed, and this is the work that was given.
+    /// A growth was refused, or the trace has no room for so large a number of a worker or a task.
+    /// Nothing has changed, and this is the work that was given.
     Memory(Work<P, J>),
     /// A step was made, and left this work.
     Next(Works<P, J>),

@@ -147,7 +147,7 @@ impl<'p, P: Program, J: Named<P>> Board<'p, P, J> {
     {
         let mut entries = Vec::with_capacity(alloc, self.trace.len())?;
         for noted in self.trace.as_slice() {
-            let name = self.core.name_at(noted.step.index());
+            let name = self.core.name_at(noted.step().index());
             entries.push_reserved(entry_by(*noted, name)?);
         }
         Ok(entries)

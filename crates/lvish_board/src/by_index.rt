@@ -13,6 +13,7 @@ use crate::asked::Asked;
 use crate::named::Named;
 use lvish_calculus::Program;
 use lvish_core::{Core, CoreMeaning};
+use smallvec::SmallVec;
 use std::alloc::{AllocError, Global};
 use std::marker::Model;
 
@@ -146,7 +147,7 @@ impl<P: Program, J: Named<P>> ByIndex<P, J> {
     pub(crate) fn wake_each(
         &mut self,
         core: &Core<'_, P>,
-        indices: &mut Vec<usize>,
+        indices: &mut SmallVec<usize, 2>,
         woken: &mut Vec<Asked<P, J>>,
     )
         requires program { core.now.program ≡ J.program }
@@ -162,7 +163,7 @@ impl<P: Program, J: Named<P>> ByIndex<P, J> {
         let mut next = indices.len();
         while next > 0 {
             next -= 1;
-            if self.wake(core, indices[next], woken) {
+            if self.wake(core, indices.as_slice()[next], woken) {
                 indices.swap_remove(next);
             }
         }

@@ -10,7 +10,8 @@ pub enum Came {
     /// The task is blocked: the board parks it until a step wakes it. Or the handler has nothing
     /// left.
     Parked,
-    /// A growth was refused. Nothing has changed.
+    /// A growth was refused, or the trace has no room for so large a number of a worker or a task.
+    /// Nothing has changed.
     Memory,
     /// A step was made, and left work.
     Next,

@@ -7,7 +7,7 @@ ghost use Rattle.std.specs.Prelude.{◌≡◌, ◌≤◌, ◌+◌, List, Option,
 ghost use Rattle.lvish_calculus.specs.Handing.{IsAmong, NoRepeats};
 ghost use Rattle.lvish_board.specs.Place.{TaskPlace};
 ghost use Rattle.lvish_board.specs.Newest.{IsSetAt, IsSetIf};
-ghost use Rattle.lvish_board.specs.Noted.{index_of};
+ghost use Rattle.lvish_board.specs.NotedView.{index_of};
 ghost use Rattle.lvish_board.specs.Seated.{AreWithin, places_of};
 ghost use Rattle.lvish_board.specs.Standing.{tasks_of};
 ghost use Rattle.lvish_board.specs.Listed.{HasNext, works_of, option_list};

@@ -17,7 +17,7 @@ ghost use Rattle.lvish_board.specs.Woken.{IsWaiting, IsParkedBeside, IsWoken, Ma
 use crate::asked::Asked;
 use crate::by_index::ByIndex;
 use crate::named::Named;
-use crate::shelves::Shelves;
+use crate::shelves::{ByVariable, Shelves};
 use lvish_calculus::{Program, Request};
 use lvish_core::{Core, CoreMeaning, Touched};
 use lvish_lattice::{Lattice, Reads};
@@ -31,9 +31,9 @@ use std::marker::Model;
 pub(crate) struct Parked<P: Program, J: Named<P>> {
     tasks: ByIndex<P, J>,
     /// By the variable and the spot at which they wait.
-    gets: Shelves<(usize, Option<<P::Lat as Reads>::Spot>), usize>,
+    gets: Shelves<(usize, Option<<P::Lat as Reads>::Spot>)>,
     /// By the variable.
-    freezes: Shelves<usize, usize>,
+    freezes: ByVariable,
 }
 
 // Written out, so that it is proved once, and not at each exit of a function that owns one.
@@ -57,7 +57,7 @@ impl<P: Program, J: Named<P>> Model for Parked<P, J> {
 
     ghost view = { λ p. p.tasks };
 
-    ghost invariant = { λ p. (e : ℕ × TaskPlace P.Lat.Event P.Local) → IsAmong e p.tasks → IsOnItsList P.Lat.Spot.eq P.Lat.watched p.gets.lists p.freezes.lists ((P.functions J.program).request e.1.from) e.0 };
+    ghost invariant = { λ p. (e : ℕ × TaskPlace P.Lat.Event P.Local) → IsAmong e p.tasks → IsOnItsList P.Lat.Spot.eq P.Lat.watched p.gets.lists p.freezes.lists.items ((P.functions J.program).request e.1.from) e.0 };
 }
 
 impl<P: Program, J: Named<P>> Parked<P, J> {
@@ -68,7 +68,7 @@ impl<P: Program, J: Named<P>> Parked<P, J> {
         Parked {
             tasks: ByIndex::new(alloc),
             gets: Shelves::new(alloc),
-            freezes: Shelves::new(alloc),
+            freezes: ByVariable::new(alloc),
         }
     }
 
@@ -233,15 +233,11 @@ impl<P: Program, J: Named<P>> Parked<P, J> {
         ensures once { NoRepeats (tasks_of (places_of self.new)) }
         ensures within { AreWithin self.new self.old }
     {
-        // A run in which no freeze ever waited hashes no key.
-        if self.freezes.lists.is_empty() {
+        let Some(indices) = self.freezes.lists.get_mut(variable) else {
             return;
-        }
+        };
         // While something is left to hand there, no freeze can go on.
-        if !core.is_drained_at(variable) {
-            return;
-        }
-        if let Some(indices) = self.freezes.lists.get_mut(&variable) {
+        if core.is_drained_at(variable) {
             self.tasks.wake_each(core, indices, woken);
         }
     }

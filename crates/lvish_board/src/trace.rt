@@ -9,14 +9,19 @@ use crate::noted::{Noted, Step};
 use crate::trace_entry::{TraceEntry, entry_by};
 use lvish_lattice::Plain;
 use lvish_names::TaskName;
+use lvish_variable::Entry;
 use std::alloc::{AllocError, Global};
 use std::marker::Model;
 
 /// The steps of a run, by the names of its tasks.
+///
+/// It keeps the logs of the run's variables too, so that their names need not be given back one by one
+/// before the run's report can be read.
 #[derive(Debug)]
 pub struct Trace<E> {
     noted: Vec<Noted>,
     names: Vec<TaskName<E>>,
+    logs: Vec<Vec<Entry<E>>>,
 }
 
 /// A step of a trace.
@@ -31,7 +36,11 @@ pub enum TracedStep<'t, E> {
 // Written out, so that it is proved once, and not at each exit of a function that owns one.
 impl<E: Drop> Drop for Trace<E> {
     fn drop(self) {
-        let Trace { noted: _, names: _ } = self;
+        let Trace {
+            noted: _,
+            names: _,
+            logs: _,
+        } = self;
     }
 }
 
@@ -49,12 +58,12 @@ impl<E> Model for Trace<E> {
 }
 
 impl<E> Trace<E> {
-    /// The trace of these steps, whose tasks have these names.
-    pub fn new(noted: Vec<Noted>, names: Vec<TaskName<E>>) -> Trace<E>
+    /// The trace of these steps, whose tasks have these names, in a run that left these logs.
+    pub fn new(noted: Vec<Noted>, names: Vec<TaskName<E>>, logs: Vec<Vec<Entry<E>>>) -> Trace<E>
         requires { AllByRecursion (IsNoted names.items) noted.items }
         ensures { result ≡ entries_of names.items noted.items }
     {
-        Trace { noted, names }
+        Trace { noted, names, logs }
     }
 
     /// How many steps there are.
@@ -69,7 +78,7 @@ impl<E> Trace<E> {
         ensures { MatchOption result (length self.now ≤ number) (λ s. IsTraced self.now number s) }
     {
         let noted = self.noted.get(number)?;
-        match noted.step {
+        match noted.step() {
             Step::Act(index) => Some(TracedStep::Run(self.names.get(index)?)),
             Step::Hand(index) => Some(TracedStep::Hand(self.names.get(index)?)),
         }
@@ -87,7 +96,7 @@ impl<E: Plain> Trace<E> {
     {
         let mut entries = Vec::with_capacity(alloc, self.noted.len())?;
         for noted in self.noted.as_slice() {
-            let name = name_at(self.names.as_slice(), noted.step.index());
+            let name = name_at(self.names.as_slice(), noted.step().index());
             entries.push_reserved(entry_by(*noted, name)?);
         }
         Ok(entries)

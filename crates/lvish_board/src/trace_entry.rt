@@ -38,12 +38,12 @@ pub(crate) fn entry_by<E: Plain>(
 {
     let main = TaskName::main();
     let name = name.unwrap_or(&main);
-    let label = match noted.step {
+    let label = match noted.step() {
         Step::Act(_) => Label::Act(name.copy()?),
         Step::Hand(_) => handing(name)?,
     };
     Ok(TraceEntry {
-        worker: noted.worker,
+        worker: noted.worker(),
         label,
     })
 }

@@ -151,14 +151,7 @@ impl<'p, P: Program, J: Named<P>> BoardAtWork<'p, P, J> {
     }
 
     /// Moves the steps that the board made out of it, with the names of its tasks.
-    ///
-    /// # Errors
-    ///
-    /// Where there is no room for a list of the names.
-    pub fn into_trace(
-        self,
-        alloc: Global,
-    ) -> Result<Trace<<P::Lat as Lattice>::Event>, AllocError> {
+    pub fn into_trace(self, alloc: Global) -> Trace<<P::Lat as Lattice>::Event> {
         let BoardAtWork {
             board,
             first: _,
@@ -168,8 +161,8 @@ impl<'p, P: Program, J: Named<P>> BoardAtWork<'p, P, J> {
             fresh: _,
         } = self;
         let (core, noted) = board.into_parts();
-        let (_variables, names) = core.into_parts(alloc)?;
-        Ok(Trace::new(noted, names))
+        let (_variables, names) = core.into_parts();
+        Trace::new(noted, names, Vec::new(alloc))
     }
 }
 

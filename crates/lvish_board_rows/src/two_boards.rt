@@ -156,7 +156,7 @@ where
 {
     let mut seat: BoardAtWork<'_, P, J> = BoardAtWork::new(alloc, program, budget, history)?;
     let finished = seat.finish(alloc, program, text, WorkOrder { seed });
-    let trace = seat.into_trace(alloc)?.entries(alloc)?;
+    let trace = seat.into_trace(alloc).entries(alloc)?;
     finished?;
     write_trace(text, &trace)
 }

@@ -181,7 +181,8 @@ impl<'p, P: Program, J: Named<P>> Board<'p, P, J> {
             &mut self.trace,
             &mut self.room,
             parked,
-            Noted { worker, step },
+            worker,
+            step,
             name,
         ) else {
             return Came::Memory;
@@ -225,13 +226,14 @@ fn hand_with_room<P: Program, J: Named<P>>(
     trace: &mut Vec<Noted>,
     room: &mut Room<P, J>,
     parked: usize,
-    noted: Noted,
+    worker: usize,
+    step: Step,
     handler: &HandlerName<<P::Lat as Lattice>::Event>,
 ) -> Result<Moved<<P::Lat as Lattice>::Event, P::Local>, StepFault>
     requires program { core.old.program ≡ J.program }
     ensures made { IfOk result (λ m. (said : Stepped) × IsHanded (⟦<P as Meaning>⟧.machine J.program) core.old handler.now core.new said m) }
     ensures long { IfOk result (λ _. length core.old.table.variables ≡ length core.new.table.variables) }
-    ensures written { IfOk result (λ _. trace.new.items ≡ trace.old.items ++ noted ∷ []) }
+    ensures written { IfOk result (λ _. trace.new.items ≡ trace.old.items ++ record { worker = worker; step = step } ∷ []) }
     ensures empty { IfOk result (λ _. (room.new.woken.items ≡ []) × (room.new.concerned.items ≡ []) × (room.new.hands.items ≡ [])) }
     ensures woken_room { IfOk result (λ _. parked ≤ vec_capacity room.new.woken) }
     ensures concerned_room { IfOk result (λ _. 1 ≤ vec_capacity room.new.concerned) }
@@ -239,6 +241,7 @@ fn hand_with_room<P: Program, J: Named<P>>(
     ensures newest { newest.new ≡ newest.old }
     ensures kept { IfErr result (λ _. (core.new ≡ core.old) × (trace.new.items ≡ trace.old.items)) }
 {
+    let noted = Noted::new(worker, step)?;
     room.reserve(parked, 1)?;
     trace.reserve(1)?;
     newest.reserve()?;

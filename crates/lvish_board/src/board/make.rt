@@ -128,11 +128,12 @@ fn step_with_room<P: Program, J: Named<P>>(
     ensures newest { newest.new ≡ newest.old }
     ensures same { asked.new ≡ asked.old }
 {
+    let noted = Noted::new(worker, Step::Act(numbers.index))?;
     let logged = room.reserve_for(core, parked, asked)?;
     trace.reserve(1)?;
     newest.reserve()?;
     has_all_variables(core);
-    let (stepped, moved) = step(alloc, core, trace, worker, numbers, asked)?;
+    let (stepped, moved) = step(alloc, core, trace, noted, numbers, asked)?;
     has_all_variables(core);
     Ok((logged, stepped, moved))
 }
@@ -146,7 +147,7 @@ fn step<P: Program, J: Named<P>>(
     alloc: Global,
     core: &mut Core<'_, P>,
     trace: &mut Vec<Noted>,
-    worker: usize,
+    noted: Noted,
     numbers: TaskNumbers,
     asked: &mut Asked<P, J>,
 ) -> Result<(Stepped, Moved<<P::Lat as Lattice>::Event, P::Local>), StepFault>
@@ -155,12 +156,11 @@ fn step<P: Program, J: Named<P>>(
     requires room { vec_len trace.old < vec_capacity trace.old }
     ensures stepped { MatchResult result (λ s. ⟦<P as CoreMeaning>⟧.is_step core.old (Act asked.old.task) core.new s.0) (λ _. core.new ≡ core.old) }
     ensures moved { IfOk result (λ s. ⟦<P as CoreMeaning>⟧.is_moved core.old (Act asked.old.task) s.1) }
-    ensures written { MatchResult result (λ _. trace.new.items ≡ trace.old.items ++ record { worker = worker; step = ActStep numbers.index } ∷ []) (λ _. trace.new ≡ trace.old) }
+    ensures written { MatchResult result (λ _. trace.new.items ≡ trace.old.items ++ noted ∷ []) (λ _. trace.new ≡ trace.old) }
     ensures same { asked.new ≡ asked.old }
 {
     let stepped = asked.step(alloc, core, numbers)?;
-    let step = Step::Act(numbers.index);
-    trace.push_reserved(Noted { worker, step });
+    trace.push_reserved(noted);
     Ok(stepped)
 }
 

@@ -16,31 +16,31 @@ returns-then-has-clause-ok g c =
     beside_itself c.args.asked (places_of c.args.self.now) c.requires.once c.requires.same (is_parked_at c.args.index c.args.asked.task c.args.self.now c.requires.theirs there)
 
 pub invariant_of-self : goal.invariant_of-self
-invariant_of-self g c = λ e i. stays_on g.P.Lat.Spot.PartialEq.eq g.P.Lat.Reads.watched c.self.inside.gets.lists c.push.new.self.lists c.self.inside.freezes.lists c.self.inside.freezes.lists ((g.P.Program.functions g.J.Named.program).request e.1.from) e.0 (λ k. c.push.ensures.kept k e.0) (λ k on. on) (c.self.invariant e i)
+invariant_of-self g c = λ e i. stays_on g.P.Lat.Spot.PartialEq.eq g.P.Lat.Reads.watched c.self.inside.gets.lists c.push.new.self.lists c.self.inside.freezes.lists.items c.self.inside.freezes.lists.items ((g.P.Program.functions g.J.Named.program).request e.1.from) e.0 (λ k. c.push.ensures.kept k e.0) (λ k on. on) (c.self.invariant e i)
 
 pub invariant_of-self-in_default-push-2 : goal.invariant_of-self-in_default-push-2
-invariant_of-self-in_default-push-2 g c = λ e i. stays_on g.P.Lat.Spot.PartialEq.eq g.P.Lat.Reads.watched c.self.inside.gets.lists c.self.inside.gets.lists c.self.inside.freezes.lists c.push-in-Freeze.new.self.lists ((g.P.Program.functions g.J.Named.program).request e.1.from) e.0 (λ k on. on) (λ k. c.push-in-Freeze.ensures.kept k e.0) (c.self.invariant e i)
+invariant_of-self-in_default-push-2 g c = λ e i. stays_on g.P.Lat.Spot.PartialEq.eq g.P.Lat.Reads.watched c.self.inside.gets.lists c.self.inside.gets.lists c.self.inside.freezes.lists.items c.push-in-Freeze.new.self.lists.items ((g.P.Program.functions g.J.Named.program).request e.1.from) e.0 (λ k on. on) (λ k. c.push-in-Freeze.ensures.kept k e.0) (c.self.invariant e i)
 
 -- the same tasks are parked; the asked one's index is on its list, and theirs are still on theirs
-listed : (g : _) (c : goal.After-insert g) → (c.match-request.self-inside.tasks ≡ c.self.inside.tasks) × (IsOnItsList g.P.Lat.Spot.PartialEq.eq g.P.Lat.Reads.watched c.match-request.self-inside.gets.lists c.match-request.self-inside.freezes.lists ((g.P.Program.functions g.J.Named.program).request c.args.asked.from) c.args.index) × ((e : ℕ × TaskPlace g.row.P-Lat-Event.Denot g.row.P-Local.Denot) → IsOnItsList g.P.Lat.Spot.PartialEq.eq g.P.Lat.Reads.watched c.self.inside.gets.lists c.self.inside.freezes.lists ((g.P.Program.functions g.J.Named.program).request e.1.from) e.0 → IsOnItsList g.P.Lat.Spot.PartialEq.eq g.P.Lat.Reads.watched c.match-request.self-inside.gets.lists c.match-request.self-inside.freezes.lists ((g.P.Program.functions g.J.Named.program).request e.1.from) e.0)
+listed : (g : _) (c : goal.After-insert g) → (c.match-request.self-inside.tasks ≡ c.self.inside.tasks) × (IsOnItsList g.P.Lat.Spot.PartialEq.eq g.P.Lat.Reads.watched c.match-request.self-inside.gets.lists c.match-request.self-inside.freezes.lists.items ((g.P.Program.functions g.J.Named.program).request c.args.asked.from) c.args.index) × ((e : ℕ × TaskPlace g.row.P-Lat-Event.Denot g.row.P-Local.Denot) → IsOnItsList g.P.Lat.Spot.PartialEq.eq g.P.Lat.Reads.watched c.self.inside.gets.lists c.self.inside.freezes.lists.items ((g.P.Program.functions g.J.Named.program).request e.1.from) e.0 → IsOnItsList g.P.Lat.Spot.PartialEq.eq g.P.Lat.Reads.watched c.match-request.self-inside.gets.lists c.match-request.self-inside.freezes.lists.items ((g.P.Program.functions g.J.Named.program).request e.1.from) e.0)
 listed g c =
     elim c.match-request.branch [
       | in-Get+in-Ok w ↦
           let asks : (g.P.Program.functions g.J.Named.program).request c.args.asked.from ≡ Get w.in-Get.variable w.in-Get.read = sym c.request.ensures ∙ w.in-Get.is in
           let under : (ℕ × Option g.row.P-Lat-Spot.Denot) → Type 0 = λ k. IsAmong c.args.index (shelf (same_spot g.P.Lat.Spot.PartialEq.eq) w.push.new.self.lists k) in
           let lies : under (w.in-Get.variable, g.P.Lat.Reads.watched w.in-Get.read) = subst (λ s. under (w.in-Get.variable, s)) w.watch.ensures w.in-Ok.ensures.there in
-          subst (λ s. (s.tasks ≡ c.self.inside.tasks) × (IsOnItsList g.P.Lat.Spot.PartialEq.eq g.P.Lat.Reads.watched s.gets.lists s.freezes.lists ((g.P.Program.functions g.J.Named.program).request c.args.asked.from) c.args.index) × ((e : ℕ × TaskPlace g.row.P-Lat-Event.Denot g.row.P-Local.Denot) → IsOnItsList g.P.Lat.Spot.PartialEq.eq g.P.Lat.Reads.watched c.self.inside.gets.lists c.self.inside.freezes.lists ((g.P.Program.functions g.J.Named.program).request e.1.from) e.0 → IsOnItsList g.P.Lat.Spot.PartialEq.eq g.P.Lat.Reads.watched s.gets.lists s.freezes.lists ((g.P.Program.functions g.J.Named.program).request e.1.from) e.0)) (sym w.self-inside-is) (
+          subst (λ s. (s.tasks ≡ c.self.inside.tasks) × (IsOnItsList g.P.Lat.Spot.PartialEq.eq g.P.Lat.Reads.watched s.gets.lists s.freezes.lists.items ((g.P.Program.functions g.J.Named.program).request c.args.asked.from) c.args.index) × ((e : ℕ × TaskPlace g.row.P-Lat-Event.Denot g.row.P-Local.Denot) → IsOnItsList g.P.Lat.Spot.PartialEq.eq g.P.Lat.Reads.watched c.self.inside.gets.lists c.self.inside.freezes.lists.items ((g.P.Program.functions g.J.Named.program).request e.1.from) e.0 → IsOnItsList g.P.Lat.Spot.PartialEq.eq g.P.Lat.Reads.watched s.gets.lists s.freezes.lists.items ((g.P.Program.functions g.J.Named.program).request e.1.from) e.0)) (sym w.self-inside-is) (
             refl,
-            subst (λ r. IsOnItsList g.P.Lat.Spot.PartialEq.eq g.P.Lat.Reads.watched w.push.new.self.lists c.self.inside.freezes.lists r c.args.index) (sym asks) lies,
-            λ e. stays_on g.P.Lat.Spot.PartialEq.eq g.P.Lat.Reads.watched c.self.inside.gets.lists w.push.new.self.lists c.self.inside.freezes.lists c.self.inside.freezes.lists ((g.P.Program.functions g.J.Named.program).request e.1.from) e.0 (λ k. w.push.ensures.kept k e.0) (λ k on. on),
+            subst (λ r. IsOnItsList g.P.Lat.Spot.PartialEq.eq g.P.Lat.Reads.watched w.push.new.self.lists c.self.inside.freezes.lists.items r c.args.index) (sym asks) lies,
+            λ e. stays_on g.P.Lat.Spot.PartialEq.eq g.P.Lat.Reads.watched c.self.inside.gets.lists w.push.new.self.lists c.self.inside.freezes.lists.items c.self.inside.freezes.lists.items ((g.P.Program.functions g.J.Named.program).request e.1.from) e.0 (λ k. w.push.ensures.kept k e.0) (λ k on. on),
           )
       | in-Freeze+in-Ok-push w ↦
           let asks : (g.P.Program.functions g.J.Named.program).request c.args.asked.from ≡ Freeze w.in-Freeze.variable w.in-Freeze.field-1 = sym c.request.ensures ∙ w.in-Freeze.is in
           let lies = w.in-Ok-push.ensures.there in
-          subst (λ s. (s.tasks ≡ c.self.inside.tasks) × (IsOnItsList g.P.Lat.Spot.PartialEq.eq g.P.Lat.Reads.watched s.gets.lists s.freezes.lists ((g.P.Program.functions g.J.Named.program).request c.args.asked.from) c.args.index) × ((e : ℕ × TaskPlace g.row.P-Lat-Event.Denot g.row.P-Local.Denot) → IsOnItsList g.P.Lat.Spot.PartialEq.eq g.P.Lat.Reads.watched c.self.inside.gets.lists c.self.inside.freezes.lists ((g.P.Program.functions g.J.Named.program).request e.1.from) e.0 → IsOnItsList g.P.Lat.Spot.PartialEq.eq g.P.Lat.Reads.watched s.gets.lists s.freezes.lists ((g.P.Program.functions g.J.Named.program).request e.1.from) e.0)) (sym w.self-inside-is) (
+          subst (λ s. (s.tasks ≡ c.self.inside.tasks) × (IsOnItsList g.P.Lat.Spot.PartialEq.eq g.P.Lat.Reads.watched s.gets.lists s.freezes.lists.items ((g.P.Program.functions g.J.Named.program).request c.args.asked.from) c.args.index) × ((e : ℕ × TaskPlace g.row.P-Lat-Event.Denot g.row.P-Local.Denot) → IsOnItsList g.P.Lat.Spot.PartialEq.eq g.P.Lat.Reads.watched c.self.inside.gets.lists c.self.inside.freezes.lists.items ((g.P.Program.functions g.J.Named.program).request e.1.from) e.0 → IsOnItsList g.P.Lat.Spot.PartialEq.eq g.P.Lat.Reads.watched s.gets.lists s.freezes.lists.items ((g.P.Program.functions g.J.Named.program).request e.1.from) e.0)) (sym w.self-inside-is) (
             refl,
-            subst (λ r. IsOnItsList g.P.Lat.Spot.PartialEq.eq g.P.Lat.Reads.watched c.self.inside.gets.lists w.push-in-Freeze.new.self.lists r c.args.index) (sym asks) lies,
-            λ e. stays_on g.P.Lat.Spot.PartialEq.eq g.P.Lat.Reads.watched c.self.inside.gets.lists c.self.inside.gets.lists c.self.inside.freezes.lists w.push-in-Freeze.new.self.lists ((g.P.Program.functions g.J.Named.program).request e.1.from) e.0 (λ k on. on) (λ k. w.push-in-Freeze.ensures.kept k e.0),
+            subst (λ r. IsOnItsList g.P.Lat.Spot.PartialEq.eq g.P.Lat.Reads.watched c.self.inside.gets.lists w.push-in-Freeze.new.self.lists.items r c.args.index) (sym asks) lies,
+            λ e. stays_on g.P.Lat.Spot.PartialEq.eq g.P.Lat.Reads.watched c.self.inside.gets.lists c.self.inside.gets.lists c.self.inside.freezes.lists.items w.push-in-Freeze.new.self.lists.items ((g.P.Program.functions g.J.Named.program).request e.1.from) e.0 (λ k on. on) (λ k. w.push-in-Freeze.ensures.kept k e.0),
           )
     ]
 
@@ -48,7 +48,7 @@ pub invariant_of-self-2 : goal.invariant_of-self-2
 invariant_of-self-2 g c = λ e i.
     let l = listed g c in
     elim (parked_or_before c.insert.result c.args.index c.args.asked c.match-request.self-inside.tasks c.insert.new.self c.insert.ensures.ok c.insert.ensures.err e i) [
-      | inl is ↦ subst (λ (x : ℕ × TaskPlace g.row.P-Lat-Event.Denot g.row.P-Local.Denot). IsOnItsList g.P.Lat.Spot.PartialEq.eq g.P.Lat.Reads.watched c.match-request.self-inside.gets.lists c.match-request.self-inside.freezes.lists ((g.P.Program.functions g.J.Named.program).request x.1.from) x.0) (sym is) l.1
+      | inl is ↦ subst (λ (x : ℕ × TaskPlace g.row.P-Lat-Event.Denot g.row.P-Local.Denot). IsOnItsList g.P.Lat.Spot.PartialEq.eq g.P.Lat.Reads.watched c.match-request.self-inside.gets.lists c.match-request.self-inside.freezes.lists.items ((g.P.Program.functions g.J.Named.program).request x.1.from) x.0) (sym is) l.1
       | inr j ↦ l.2 e (c.self.invariant e (subst (λ es. IsAmong e es) l.0 j))
     ]
 

@@ -15,7 +15,7 @@ pub returns-then-is_empty-clause-wakes : goal.returns-then-is_empty-clause-wakes
 returns-then-is_empty-clause-wakes g c = rw (← c.self.view_is) (wakes_none _ _ _ _ (λ p i may can.
     let here = subst (λ x. MayWake g.P.Lat.Reads.spot_of g.P.Lat.Reads.watched (Some (Put c.args.variable)) c.args.fresh.now ((g.P.Program.functions x).request p.from)) c.requires.program may in
     let r = of_place p c.self.inside.tasks i in
-    no_get_waits g.P.Lat.Spot.PartialEq.eq g.P.Lat.Reads.watched c.self.inside.gets.lists c.self.inside.freezes.lists (c.is_empty.ensures.0 c.if-is_empty.true) c.args.variable ((g.P.Program.functions g.J.Named.program).request p.from) r.0 (c.self.invariant (r.0, p) r.1) g.P.Lat.Reads.spot_of c.args.fresh.now here))
+    no_get_waits g.P.Lat.Spot.PartialEq.eq g.P.Lat.Reads.watched c.self.inside.gets.lists c.self.inside.freezes.lists.items (c.is_empty.ensures.0 c.if-is_empty.true) c.args.variable ((g.P.Program.functions g.J.Named.program).request p.from) r.0 (c.self.invariant (r.0, p) r.1) g.P.Lat.Reads.spot_of c.args.fresh.now here))
 
 pub loop-entry-init : goal.loop-entry-init
 loop-entry-init g c = record {
