@@ -10,7 +10,7 @@ use lvish_calculus::{Meaning, Program};
 use lvish_core::{Core, RunError};
 use lvish_lattice::{Lattice, Plain};
 use lvish_names::TaskName;
-use lvish_variable::Variable;
+use lvish_variable::{Entry, Variable};
 use std::alloc::{AllocError, Global};
 
 /// What a report says of the last configuration.
@@ -20,6 +20,8 @@ pub struct Account<S, E> {
     pub blocked: u64,
     /// The names of the tasks that were ever there, in the order in which they came.
     pub names: Vec<TaskName<E>>,
+    /// The logs of the variables, none after an error.
+    pub logs: Vec<Vec<Entry<E>>>,
 }
 
 // Written out, so that it is proved once, and not at each exit of a function that owns one.
@@ -30,6 +32,7 @@ impl<S: Drop, E: Drop> Drop for Account<S, E> {
             states: _,
             blocked: _,
             names: _,
+            logs: _,
         } = self;
     }
 }
@@ -45,31 +48,34 @@ impl<S, E> Account<S, E> {
             states,
             blocked,
             names,
+            logs,
         } = self;
         Report {
             outcome,
             states,
             steps,
             blocked,
-            trace: Trace::new(noted, names),
+            trace: Trace::new(noted, names, logs),
             by_worker,
         }
     }
 }
 
-/// The variables' states and marks.
+/// The variables' states and marks, and their logs.
 fn final_states<S: Lattice>(
     alloc: Global,
     variables: Vec<Variable<S>>,
-) -> Result<States<S>, AllocError>
-    ensures { IfOk result (λ s. AreStatesOf variables.items s) }
+) -> Result<(States<S>, Vec<Vec<Entry<S::Event>>>), AllocError>
+    ensures { IfOk result (λ s. AreStatesOf variables.items s.0) }
 {
     let mut states = Vec::new(alloc);
+    let mut logs = Vec::new(alloc);
     for variable in variables {
-        let (content, frozen) = variable.into_state();
+        let (content, frozen, log) = variable.into_parts();
         states.push(FinalState { content, frozen })?;
+        logs.push(log)?;
     }
-    Ok(States::from(states))
+    Ok((States::from(states), logs))
 }
 
 /// The outcome of steps of which the last gave this error.
@@ -117,19 +123,24 @@ pub fn account_of<P: Program>(
     ensures names { IfOk result (λ a. a.names.items ≡ task_names core.entry.table.tasks) }
 {
     let blocked = core.running() as u64;
-    let (variables, names) = core.into_parts(alloc)?;
+    let (variables, names) = core.into_parts();
     match &outcome {
         Outcome::Error { .. } => Ok(Account {
             outcome,
             states: States::from(Vec::new(alloc)),
             blocked: 0,
             names,
+            logs: Vec::new(alloc),
         }),
-        Outcome::Ended | Outcome::Budget => Ok(Account {
-            outcome,
-            states: final_states(alloc, variables)?,
-            blocked,
-            names,
-        }),
+        Outcome::Ended | Outcome::Budget => {
+            let (states, logs) = final_states(alloc, variables)?;
+            Ok(Account {
+                outcome,
+                states,
+                blocked,
+                names,
+                logs,
+            })
+        }
     }
 }

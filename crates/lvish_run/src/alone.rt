@@ -9,10 +9,11 @@ ghost use Rattle.std.specs.Prelude.{◌≡◌, ◌≢◌, true, Some, IsSome};
 ghost use Rattle.lvish_run.specs.declared.own_steps.Why.TheVariants.{Over, Others, Stopped};
 
 use crate::gate::Gate;
+use crate::own_queue::OwnQueue;
 use crate::own_steps::Why;
 use crate::pause::Pause;
 use crate::piece::Piece;
-use crate::queue::{Queue, leave, leaves_more};
+use crate::queue::leaves_more;
 use lvish_board::{Asked, Board, Came, Named, Step, Ticket, Works, stretch_with};
 use lvish_compound::Event;
 use lvish_names::HandlerName;
@@ -35,10 +36,9 @@ pub fn work_alone<J: Named<ScriptCode>, R: Wait, G: Gate>(
     ensures patient { G.patient ≡ true → result ≢ Stopped }
     ensures alone { result ≢ Others }
 {
-    let mut queue = Vec::new(alloc);
-    if queue.push(first).is_err() {
+    let Ok(mut queue) = OwnQueue::new(alloc, first) else {
         return Why::Memory;
-    }
+    };
     turns(rt, alloc, code, board, gate, &mut queue)
 }
 
@@ -49,7 +49,7 @@ fn turns<J: Named<ScriptCode>, R: Wait, G: Gate>(
     code: &ScriptCode,
     board: &mut Board<'_, ScriptCode, J>,
     gate: &G,
-    queue: &mut Vec<Piece<J>>,
+    queue: &mut OwnQueue<J>,
 ) -> Why
     requires code { code.now ≡ J.program }
     ensures over { result ≡ Over → IsSome board.new.over }
@@ -88,7 +88,7 @@ fn find_work<J: Named<ScriptCode>, R: Wait, G: Gate>(
     code: &ScriptCode,
     board: &mut Board<'_, ScriptCode, J>,
     gate: &G,
-    queue: &mut Vec<Piece<J>>,
+    queue: &mut OwnQueue<J>,
     pause: &Pause,
     works: &mut Works<ScriptCode, J>,
     spare: &mut Option<Local>,
@@ -98,7 +98,11 @@ fn find_work<J: Named<ScriptCode>, R: Wait, G: Gate>(
     ensures patient { G.patient ≡ true → result ≢ Some Stopped }
     ensures alone { result ≢ Some Others }
 {
-    let Some(piece) = queue.pop() else {
+    if let Some(asked) = queue.woken.pop() {
+        pause.reset();
+        return act_again(alloc, code, board, queue, asked, works, spare);
+    }
+    let Some(piece) = queue.pieces.pop() else {
         return idle(rt, board, gate, pause);
     };
     pause.reset();
@@ -157,7 +161,7 @@ fn run_on<J: Named<ScriptCode>, G: Gate>(
     code: &ScriptCode,
     board: &mut Board<'_, ScriptCode, J>,
     gate: &G,
-    queue: &mut Vec<Piece<J>>,
+    queue: &mut OwnQueue<J>,
     ticket: Ticket<ScriptCode, J>,
     works: &mut Works<ScriptCode, J>,
     spare: &mut Option<Local>,
@@ -179,7 +183,7 @@ fn act_again<J: Named<ScriptCode>>(
     alloc: Global,
     code: &ScriptCode,
     board: &mut Board<'_, ScriptCode, J>,
-    queue: &mut Vec<Piece<J>>,
+    queue: &mut OwnQueue<J>,
     mut asked: Asked<ScriptCode, J>,
     works: &mut Works<ScriptCode, J>,
     spare: &mut Option<Local>,
@@ -200,7 +204,7 @@ fn act_again<J: Named<ScriptCode>>(
 fn act<J: Named<ScriptCode>>(
     alloc: Global,
     board: &mut Board<'_, ScriptCode, J>,
-    queue: &mut Vec<Piece<J>>,
+    queue: &mut OwnQueue<J>,
     asked: Asked<ScriptCode, J>,
     works: &mut Works<ScriptCode, J>,
     spare: &mut Option<Local>,
@@ -218,7 +222,7 @@ fn act<J: Named<ScriptCode>>(
     if is_over(board) {
         return Some(Why::Over);
     }
-    go_by(alloc, queue, came, works)
+    go_by(queue, came, works)
 }
 
 /// Takes a handler to the board.
@@ -226,7 +230,7 @@ fn act<J: Named<ScriptCode>>(
 fn hand<J: Named<ScriptCode>>(
     alloc: Global,
     board: &mut Board<'_, ScriptCode, J>,
-    queue: &mut Vec<Piece<J>>,
+    queue: &mut OwnQueue<J>,
     handler: HandlerName<Event>,
     works: &mut Works<ScriptCode, J>,
 ) -> Option<Why>
@@ -239,15 +243,14 @@ fn hand<J: Named<ScriptCode>>(
     if is_over(board) {
         return Some(Why::Over);
     }
-    go_by(alloc, queue, came, works)
+    go_by(queue, came, works)
 }
 
 /// Goes on by the answer of a board that isn't over: with the task that the step made, else with the
 /// acting one. The other work goes on the queue.
 #[inline(always)]
 fn go_by<J: Named<ScriptCode>>(
-    alloc: Global,
-    queue: &mut Vec<Piece<J>>,
+    queue: &mut OwnQueue<J>,
     came: Came,
     works: &mut Works<ScriptCode, J>,
 ) -> Option<Why>
@@ -264,7 +267,7 @@ fn go_by<J: Named<ScriptCode>>(
     if works.made.is_some() && put_off(queue, works).is_err() {
         return Some(Why::Memory);
     }
-    if leaves_more(works) && leave(alloc, queue, works).is_err() {
+    if leaves_more(works) && queue.leave(works).is_err() {
         return Some(Why::Memory);
     }
     None
@@ -277,11 +280,11 @@ fn go_by<J: Named<ScriptCode>>(
 /// Where there is no room for it.
 #[inline(always)]
 fn put_off<J: Named<ScriptCode>>(
-    queue: &mut Vec<Piece<J>>,
+    queue: &mut OwnQueue<J>,
     works: &mut Works<ScriptCode, J>,
 ) -> Result<(), AllocError> {
     if let Some(own) = mem::replace(&mut works.own, works.made.take()) {
-        queue.push(Piece::Stretch(own))?;
+        queue.pieces.push(Piece::Stretch(own))?;
     }
     Ok(())
 }

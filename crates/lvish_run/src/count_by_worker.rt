@@ -10,7 +10,10 @@ use std::alloc::Global;
 fn made_by(noted: &[Noted], worker: usize) -> u64
     ensures { result ≡ count_by (λ n. n.worker == worker) noted.now }
 {
-    noted.iter().filter(|entry| entry.worker == worker).count() as u64
+    noted
+        .iter()
+        .filter(|entry| entry.worker() == worker)
+        .count() as u64
 }
 
 /// How many of the noted steps each worker made; `Mixed` where they don't add up to all.

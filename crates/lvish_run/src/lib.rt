@@ -28,6 +28,7 @@ mod limits;
 mod naming;
 mod number_text;
 mod opening;
+mod own_queue;
 mod own_steps;
 mod pause;
 mod picks;

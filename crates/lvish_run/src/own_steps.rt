@@ -55,8 +55,8 @@ impl OwnSteps {
     {
         let mut made = 0;
         for entry in noted {
-            if entry.worker == self.worker {
-                if !self.has_at(made, entry.step) {
+            if entry.worker() == self.worker {
+                if !self.has_at(made, entry.step()) {
                     return false;
                 }
                 made += 1;

@@ -61,7 +61,7 @@ pub fn leave<J: Named<ScriptCode>, Q: Queue<Piece<J>>>(
 }
 
 /// Leaves the next handing of each of these handlers on the queue, in their order.
-fn leave_hands<J: Named<ScriptCode>, Q: Queue<Piece<J>>>(
+pub fn leave_hands<J: Named<ScriptCode>, Q: Queue<Piece<J>>>(
     queue: &mut Q,
     hands: &mut Vec<HandlerName<Event>>,
 ) -> Result<(), AllocError> {

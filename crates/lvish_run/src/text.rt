@@ -1,43 +1,45 @@
-ghost use Rattle.std.specs.Prelude.{◌≡◌, ◌++◌, IfOk, string_bytes, length};
+ghost use Rattle.std.specs.Prelude.{◌≡◌, ◌++◌, IfOk, OnOk, string_bytes, length};
 ghost use Rattle.lvish_board.specs.declared.outcome.Outcome.TheVariants.{Ended};
 ghost use Rattle.lvish_run.specs.Text.{variable_line, shown_line, variables_of, variable_lines, count_lines, budget_line, report_text};
 
 use crate::error_line::error_line;
 use crate::report::{FinalState, Report};
-use crate::state_text::state_text;
+use crate::state_text::push_state;
 use lvish_board::Outcome;
 use lvish_compound::Any;
 use lvish_lattice::{Numbered, Plain};
 use lvish_syntax::{Declaration, Identifier, Script, VariableKind};
 use std::alloc::{AllocError, Global};
 
-/// A variable's line.
-fn variable_line(
-    alloc: Global,
+/// Adds a variable's line.
+fn push_variable_line(
+    text: &mut String,
     name: &str,
     kind: VariableKind,
     content: &Any,
-) -> Result<String, AllocError>
-    ensures { IfOk result (λ t. string_bytes t ≡ variable_line name.now kind content.now) }
+) -> Result<(), AllocError>
+    ensures { OnOk result (string_bytes text.new ≡ string_bytes text.old ++ variable_line name.now kind content.now) }
 {
-    let state = state_text(alloc, kind, content)?;
-    format!(in alloc; "{name} = {state}\n")
+    text.push_str(name)?;
+    text.push_str(" = ")?;
+    push_state(text, kind, content)?;
+    text.push_str("\n")
 }
 
-/// The line of a variable that is frozen, or of any with `all`; else nothing.
-fn shown_line(
-    alloc: Global,
+/// Adds the line of a variable that is frozen, or of any with `all`; else nothing.
+fn push_shown_line(
+    text: &mut String,
     name: &Identifier,
     kind: VariableKind,
     state: &FinalState<Any>,
     all: bool,
-) -> Result<String, AllocError>
-    ensures { IfOk result (λ t. string_bytes t ≡ shown_line all (name.now, kind) state.now) }
+) -> Result<(), AllocError>
+    ensures { OnOk result (string_bytes text.new ≡ string_bytes text.old ++ shown_line all (name.now, kind) state.now) }
 {
     if all || state.frozen {
-        return variable_line(alloc, name.as_str(), kind, &state.content);
+        return push_variable_line(text, name.as_str(), kind, &state.content);
     }
-    Ok(String::new(alloc))
+    Ok(())
 }
 
 /// The lines of the variables that are frozen, or of all.
@@ -57,8 +59,7 @@ fn variable_lines(
             let Some(state) = states.get(place) else {
                 unreachable!()
             };
-            let line = shown_line(alloc, name, *kind, state, all)?;
-            text.push_str(line.as_str())?;
+            push_shown_line(&mut text, name, *kind, state, all)?;
             place += 1;
         }
     }

@@ -1,9 +1,9 @@
-use Rattle.std.proofs.Common.{[], ◌∙◌, ap, sym, arith, length, lt-ltb}
+use Rattle.std.proofs.Common.{[], ap, sym, arith, length, lt-ltb}
 use Rattle.std.proofs.lemmas.Bool.{both_ways}
 use Rattle.lvish_run.specs.Text.{declared_variable, shown_line}
 use Rattle.lvish_run.proofs.Texts.{left_from, state_there, line_first}
 use Rattle.lvish_run.proofs.text.variable_lines.Goals as goal
-use Rattle.lvish_run.proofs.text.variable_lines.Goals.{in-Variable+in-Some+in_ok-line+in_ok-push_str, in_default}
+use Rattle.lvish_run.proofs.text.variable_lines.Goals.{in-Variable+in-Some+in_ok-push_shown_line, in_default}
 
 pub unreachable-requires : goal.unreachable-requires
 unreachable-requires c =
@@ -12,11 +12,11 @@ unreachable-requires c =
 
 pub loop-i-preserved : goal.loop-i-preserved
 loop-i-preserved c = elim c.match-declarations-i.branch [
-  | in-Variable+in-Some+in_ok-line+in_ok-push_str w ↦
+  | in-Variable+in-Some+in_ok-push_shown_line w ↦
       let own = ap declared_variable w.in-Variable.is in
       let more = ap length (left_from c.args.declarations.now c.loop-i.i c.index-declarations-i.result (omega arith) c.index-declarations-i.is _ own) in
       let text = line_first c.args.declarations.now c.loop-i.i c.index-declarations-i.result (omega arith) c.index-declarations-i.is _ own c.args.states.now c.loop-i.place c.loop-i.invariant.long c.args.all w.in-Some.state.now _ _ _ _
-      (w.as_str.ensures.value ∙ w.in_ok-line.ensures ∙ ap (shown_line c.args.all (w.in-Variable.name, w.in-Variable.kind)) w.in-Some.ensures.lookup.1) w.in_ok-push_str.ensures.bytes c.loop-i.invariant.text in
+      (ap (shown_line c.args.all (w.in-Variable.name, w.in-Variable.kind)) w.in-Some.ensures.lookup.1) w.in_ok-push_shown_line.ensures c.loop-i.invariant.text in
       record {
         few = let b = c.loop-i.invariant.few in let e = w.place-is in omega (arith, b, e);
         long = omega (arith, c.loop-i.invariant.long, more, w.place-is);

@@ -1,29 +1,29 @@
-use Rattle.std.proofs.Common.{rules, ◌≡◌, ◌∙◌, length, IsTrue, true, false, sym, subst, refl, arith, eq-eqb, ne_eqb, eqb-true}
-use Rattle.std.proofs.lemmas.Option.{slice_get-get_or, slice_get_within}
+use Rattle.std.proofs.Common.{rules, ◌≡◌, ◌∙◌, length, IsTrue, Some, sym, ap, subst, refl, arith, eq-eqb, ne_eqb, eqb-true}
+use Rattle.std.proofs.lemmas.Option.{slice_get_read, slice_get_within}
 use Rattle.lvish_run.proofs.Parts.{IsLeft, another, own, next_of_own, none_left}
 use Rattle.lvish_run.proofs.own_steps.OwnSteps.is_part.Goals as goal
-use Rattle.lvish_run.proofs.own_steps.OwnSteps.is_part.Goals.{then-entry-self+else-not-has_at, else-entry-self}
+use Rattle.lvish_run.proofs.own_steps.OwnSteps.is_part.Goals.{then-worker-self+else-not-has_at, else-worker-self}
 
 pub returns-then-not-has_at : goal.returns-then-not-has_at
 returns-then-not-has_at c =
-    let at = slice_get-get_or c.args.noted.now c.loop-entry.entry-index _ c.loop-entry-test.true in (
+    let at = slice_get_read c.args.noted.now _ c.loop-entry.entry-index c.entry-item.result refl c.loop-entry-test.true c.entry-item.is in (
       (λ e. absurd (let n : ⊥ = cc in n)),
-      (λ part. subst IsTrue c.if-not-has_at.true (c.has_at.ensures.1 (next_of_own _ _ c.args.noted.now c.loop-entry.made c.loop-entry.entry-index _ at c.loop-entry.invariant.left (eq-eqb _ _ c.if-entry-self.true) part))),
+      (λ part. subst IsTrue c.if-not-has_at.true (c.has_at.ensures.1 (next_of_own _ _ c.args.noted.now c.loop-entry.made c.loop-entry.entry-index _ at c.loop-entry.invariant.left (eq-eqb _ _ (sym c.worker.ensures ∙ c.if-worker-self.true)) part ∙ ap (λ s. Some s) (sym c.step.ensures)))),
     )
 
 pub loop-entry-preserved : goal.loop-entry-preserved
 loop-entry-preserved c =
-    let at = slice_get-get_or c.args.noted.now c.loop-entry.entry-index _ c.loop-entry-test.true in
-    elim c.if-entry-self.branch [
-      | then-entry-self+else-not-has_at w ↦
-          let there = w.has_at.ensures.0 (subst IsTrue (sym w.if-not-has_at.false) refl) in
+    let at = slice_get_read c.args.noted.now _ c.loop-entry.entry-index c.entry-item.result refl c.loop-entry-test.true c.entry-item.is in
+    elim c.if-worker-self.branch [
+      | then-worker-self+else-not-has_at w ↦
+          let there = w.has_at.ensures.0 (subst IsTrue (sym w.if-not-has_at.false) refl) ∙ ap (λ s. Some s) w.step.ensures in
           record {
             few = omega (arith, w.made-is, slice_get_within c.args.self.now.steps.items c.loop-entry.made _ there);
-            left = rw w.made-is (own _ _ c.args.noted.now c.loop-entry.made c.loop-entry.entry-index _ at c.loop-entry.invariant.left (eq-eqb _ _ w.if-entry-self.true) there);
+            left = rw w.made-is (own _ _ c.args.noted.now c.loop-entry.made c.loop-entry.entry-index _ at c.loop-entry.invariant.left (eq-eqb _ _ (sym c.worker.ensures ∙ w.if-worker-self.true)) there);
           }
-      | else-entry-self w ↦ record {
+      | else-worker-self w ↦ record {
         few = rw w.made-is c.loop-entry.invariant.few;
-        left = rw w.made-is (another _ _ c.args.noted.now c.loop-entry.made c.loop-entry.entry-index _ at c.loop-entry.invariant.left (ne_eqb _ _ w.if-entry-self.false));
+        left = rw w.made-is (another _ _ c.args.noted.now c.loop-entry.made c.loop-entry.entry-index _ at c.loop-entry.invariant.left (ne_eqb _ _ (λ e. w.if-worker-self.false (c.worker.ensures ∙ e))));
       }
     ]
 
