@@ -20,10 +20,10 @@ module _ {X : Type 0} (show : X → List ℕ) where
   joined (x ∷ xs) = ap (λ t. show x ++ t) (sym (flat_map-map (λ t. codes " " ++ t) show xs))
 
   -- all in braces
-  pub all_braced : (xs : List X) → codes "{" ++ (pieces true xs ++ codes "}") ≡ braced (map show xs)
+  all_braced : (xs : List X) → codes "{" ++ (pieces true xs ++ codes "}") ≡ braced (map show xs)
   all_braced xs = ap (λ t. codes "{" ++ (t ++ codes "}")) (joined xs)
 
-  pub none_left : (first : Bool) → pieces first [] ≡ []
+  none_left : (first : Bool) → pieces first [] ≡ []
   none_left true = refl
   none_left false = refl
 
@@ -39,3 +39,11 @@ module _ {X : Type 0} (show : X → List ℕ) where
       ∙ sym (append_assoc (gap first) (show x ++ pieces false xs) (codes "}"))
       ∙ ap (λ t. t ++ codes "}") (sym (pieces_more first x xs)))
       )
+
+  -- where no piece is left to come, the brace that closes makes the text whole
+  pub closed : (first : Bool) (all rest : List X) (text old : List ℕ) → rest ≡ [] → text ++ (pieces first rest ++ codes "}") ≡ old ++ (codes "{" ++ (pieces true all ++ codes "}")) → text ++ codes "}" ≡ old ++ braced (map show all)
+  closed first all rest text old done so_far =
+      ap (λ t. text ++ (t ++ codes "}")) (sym (none_left first))
+      ∙ ap (λ xs. text ++ (pieces first xs ++ codes "}")) (sym done)
+      ∙ so_far
+      ∙ ap (λ t. old ++ t) (all_braced all)

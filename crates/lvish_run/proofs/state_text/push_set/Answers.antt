@@ -4,7 +4,7 @@ use Rattle.lvish_lattice.specs.GrowSet.{items_of}
 use Rattle.lvish_run.specs.StateText.{set_text}
 use Rattle.std.specs.Map.Iter.{deref}
 use Rattle.std.proofs.lemmas.Map.Iter.{rest_all}
-use Rattle.lvish_run.proofs.Braces.{pieces, after_piece, none_left, all_braced}
+use Rattle.lvish_run.proofs.Braces.{pieces, after_piece, closed}
 use Rattle.lvish_run.proofs.state_text.push_set.Goals as goal
 
 pub loop-element-preserved : goal.loop-element-preserved
@@ -18,12 +18,6 @@ loop-element-preserved c =
 
 pub returns : goal.returns
 returns c =
-    let text = string_bytes c.loop-element.text in
-    let first = c.loop-element.is_first in
     let done = rest_all deref _ _ _ c.in-None.is c.next.ensures.steps in
-    let all : string_bytes c.loop-element.text ++ codes "}" ≡ string_bytes c.args.text.now ++ set_text (items_of c.args.set.now) =
-    ap (λ t. text ++ (t ++ codes "}")) (sym (none_left signed_decimal first))
-    ∙ ap (λ xs. text ++ (pieces signed_decimal first xs ++ codes "}")) (sym done)
-    ∙ c.loop-element.invariant
-    ∙ ap (λ t. string_bytes c.args.text.now ++ t) (all_braced signed_decimal (items_of c.args.set.now)) in
+    let all : string_bytes c.loop-element.text ++ codes "}" ≡ string_bytes c.args.text.now ++ set_text (items_of c.args.set.now) = closed signed_decimal c.loop-element.is_first (items_of c.args.set.now) _ (string_bytes c.loop-element.text) (string_bytes c.args.text.now) done c.loop-element.invariant in
     search (rules, all)

@@ -3,7 +3,7 @@ use Rattle.lvish_compound.specs.Tally.{entries_of}
 use Rattle.lvish_run.specs.StateText.{amount_text, tally_text}
 use Rattle.std.specs.Map.Iter.{deref_pair}
 use Rattle.std.proofs.lemmas.Map.Iter.{rest_all}
-use Rattle.lvish_run.proofs.Braces.{pieces, after_piece, none_left, all_braced}
+use Rattle.lvish_run.proofs.Braces.{pieces, after_piece, closed}
 use Rattle.lvish_run.proofs.state_text.push_tally.Goals as goal
 
 pub loop-key-preserved : goal.loop-key-preserved
@@ -17,12 +17,6 @@ loop-key-preserved c =
 
 pub returns : goal.returns
 returns c =
-    let text = string_bytes c.loop-key.text in
-    let first = c.loop-key.is_first in
     let done = rest_all deref_pair _ _ _ c.in-None.is c.next.ensures.steps in
-    let all : string_bytes c.loop-key.text ++ codes "}" ≡ string_bytes c.args.text.now ++ tally_text (entries_of c.args.tally.now) =
-    ap (λ t. text ++ (t ++ codes "}")) (sym (none_left amount_text first))
-    ∙ ap (λ xs. text ++ (pieces amount_text first xs ++ codes "}")) (sym done)
-    ∙ c.loop-key.invariant
-    ∙ ap (λ t. string_bytes c.args.text.now ++ t) (all_braced amount_text (entries_of c.args.tally.now)) in
+    let all : string_bytes c.loop-key.text ++ codes "}" ≡ string_bytes c.args.text.now ++ tally_text (entries_of c.args.tally.now) = closed amount_text c.loop-key.is_first (entries_of c.args.tally.now) _ (string_bytes c.loop-key.text) (string_bytes c.args.text.now) done c.loop-key.invariant in
     search (rules, all)
