@@ -1,3 +1,3 @@
-pub mod Adding
 pub mod Beginnings
 pub mod Crossing
+pub mod Logs

@@ -1,37 +1,29 @@
 ghost use Rattle.std.specs.Prelude.{◌≡◌, [], None};
-ghost use Rattle.lvish_history.specs.Rules.{head_of};
 ghost use Rattle.lvish_history.specs.Stamped.{IsStamped};
 
 use crate::limits::NO_NUMBER;
+use crate::log::Log;
 use crate::origin::Origin;
-use crate::rule::{Add, Law, Nothing};
 use crate::stamp::Stamp;
-use logbook::{Offer, Seen, Start, Word};
 use std::marker::{Model, PhantomData};
 
 /// A history of no value, which has no name yet.
 pub struct Opened<V> {
-    head: Word<V, u64, Law<V>>,
-    seen: Seen<V, u64, Law<V>>,
-    pub ghost empty: { seen.log ≡ [] },
-    pub ghost head_is: { head ≡ head_of seen.book },
+    seen: Log<V>,
+    pub ghost empty: { seen.values ≡ [] },
 }
 
 // Written out, so that it is proved once, and not at each exit of a function that owns one.
 impl<V> Drop for Opened<V> {
     fn drop(self) {
-        let Opened { head: _, seen: _ } = self;
+        let Opened { seen: _ } = self;
     }
 }
 
 impl<V> Opened<V> {
     /// A history that nobody else has.
     pub fn new() -> Opened<V> {
-        let (seen, mut first, _second) = Seen::open(Start::alone(), 0, 0);
-        Opened {
-            head: Word::tracked(0, &mut first),
-            seen,
-        }
+        Opened { seen: Log::new() }
     }
 
     /// The history under a name.
@@ -39,10 +31,9 @@ impl<V> Opened<V> {
         requires { self.seen.book ≡ O.book }
         ensures { result ≡ [] }
     {
-        let Opened { head, seen } = self;
+        let Opened { seen } = self;
         History {
-            head,
-            seen,
+            log: seen,
             count: 0,
             of: PhantomData,
         }
@@ -51,8 +42,7 @@ impl<V> Opened<V> {
 
 /// The values that were given a number, in the order of their numbers. They exist in the proofs alone.
 pub struct History<V, O: Origin> {
-    head: Word<V, u64, Law<V>>,
-    seen: Seen<V, u64, Law<V>>,
+    log: Log<V>,
     count: u32,
     of: PhantomData<O>,
 }
@@ -61,8 +51,7 @@ pub struct History<V, O: Origin> {
 impl<V, O: Origin> Drop for History<V, O> {
     fn drop(self) {
         let History {
-            head: _,
-            seen: _,
+            log: _,
             count: _,
             of: _,
         } = self;
@@ -72,13 +61,12 @@ impl<V, O: Origin> Drop for History<V, O> {
 impl<V, O: Origin> Model for History<V, O> {
     ghost use Rattle.std.specs.Prelude.{◌≡◌, ◌≤◌, List, length};
     ghost use Rattle.lvish_history.specs.declared.limits.TheConstants.{NO_NUMBER};
-    ghost use Rattle.lvish_history.specs.Rules.{head_of};
 
     ghost Value = { List V };
 
-    ghost view = { λ h. h.seen.log };
+    ghost view = { λ h. h.log.values };
 
-    ghost invariant = { λ h. (h.count ≡ length h.seen.log) × (length h.seen.log ≤ NO_NUMBER) × (h.seen.book ≡ O.book) × (h.head ≡ head_of O.book) };
+    ghost invariant = { λ h. (h.count ≡ length h.log.values) × (length h.log.values ≤ NO_NUMBER) × (h.log.book ≡ O.book) };
 }
 
 impl<V, O: Origin> History<V, O> {
@@ -87,7 +75,7 @@ impl<V, O: Origin> History<V, O> {
     pub fn none(&self) -> Stamp<V, O>
         ensures { result.value ≡ None }
     {
-        Stamp::new(NO_NUMBER, self.seen.again())
+        Stamp::new(NO_NUMBER, self.log.seen())
     }
 
     /// A stamp for the value; that of no value where all numbers are used up.
@@ -99,22 +87,8 @@ impl<V, O: Origin> History<V, O> {
         if number == NO_NUMBER {
             return self.none();
         }
-        let next = number + 1;
-        let mut seen = self.seen.again();
-        let mut offer: Offer<V, u64, Law<V>, Nothing> = seen.plain::<Nothing, V, Add>(value);
-        let mut pen = seen.no_pen();
-        let found = self.head.compare_exchange::<Add, Nothing>(
-            number as u64,
-            next as u64,
-            &mut seen,
-            &mut offer,
-            &mut pen,
-        );
-        if found != number as u64 {
-            return self.none();
-        }
-        self.count = next;
-        self.seen = seen.again();
-        Stamp::new(number, seen)
+        self.log.add(value);
+        self.count = number + 1;
+        Stamp::new(number, self.log.seen())
     }
 }

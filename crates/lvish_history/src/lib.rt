@@ -15,8 +15,8 @@
 
 mod history;
 mod limits;
+mod log;
 mod origin;
-mod rule;
 mod stamp;
 
 pub use history::{History, Opened};

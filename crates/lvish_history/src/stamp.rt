@@ -2,15 +2,14 @@ ghost use Rattle.std.specs.Prelude.{◌≡◌, ◌≢◌, ◌≤◌, ◌<◌, �
 ghost use Rattle.lvish_history.specs.Stamped.{stamped};
 
 use crate::limits::NO_NUMBER;
+use crate::log::Seen;
 use crate::origin::Origin;
-use crate::rule::Law;
-use logbook::Seen;
 use std::marker::{Model, PhantomData};
 
 /// The number of a value in a history, or of none. A contract sees the value.
 pub struct Stamp<V, O: Origin> {
     number: u32,
-    seen: Seen<V, u64, Law<V>>,
+    seen: Seen<V>,
     of: PhantomData<O>,
 }
 
@@ -33,18 +32,18 @@ impl<V, O: Origin> Model for Stamp<V, O> {
 
     ghost Value = { Stamped V };
 
-    ghost view = { λ s. stamped s.seen.log s.number };
+    ghost view = { λ s. stamped s.seen.values s.number };
 
-    ghost invariant = { λ s. (s.seen.book ≡ O.book) × (length s.seen.log ≤ NO_NUMBER) × ((s.number ≡ NO_NUMBER) ⊎ (s.number < length s.seen.log)) };
+    ghost invariant = { λ s. (s.seen.book ≡ O.book) × (length s.seen.values ≤ NO_NUMBER) × ((s.number ≡ NO_NUMBER) ⊎ (s.number < length s.seen.values)) };
 }
 
 impl<V, O: Origin> Stamp<V, O> {
     #[inline(always)]
-    pub(crate) fn new(number: u32, seen: Seen<V, u64, Law<V>>) -> Stamp<V, O>
+    pub(crate) fn new(number: u32, seen: Seen<V>) -> Stamp<V, O>
         requires book { seen.book ≡ O.book }
-        requires few { length seen.log ≤ NO_NUMBER }
-        requires there { (number ≡ NO_NUMBER) ⊎ (number < length seen.log) }
-        ensures { result ≡ stamped seen.log number }
+        requires few { length seen.values ≤ NO_NUMBER }
+        requires there { (number ≡ NO_NUMBER) ⊎ (number < length seen.values) }
+        ensures { result ≡ stamped seen.values number }
     {
         Stamp {
             number,
@@ -83,8 +82,7 @@ impl<V, O: Origin> Stamp<V, O> {
         ensures same { IsTrue result → (v : V) × (self.now.value ≡ Some v) × (other.now.value ≡ Some v) }
         ensures other { IsFalse result → (self.now.value ≡ None) ⊎ (self.now.number ≢ other.now.number) }
     {
-        let mut both = self.seen.again();
-        both.learn(&other.seen);
+        self.seen.compare(&other.seen);
         self.number == other.number && self.number != NO_NUMBER
     }
 }
