@@ -4,7 +4,7 @@ use Rattle.std.proofs.Common.{sym, ◌∙◌, ap, inl, inr, ⊎_elim}
 use Rattle.std.specs.Cmp.{IsTotalOrder}
 use Rattle.std.specs.List.Sorted.{IsStrictlySortedBy}
 use Rattle.std.specs.Ordering.{eq_by_cmp}
-use Rattle.lvish_compound.specs.Vocabulary.{Ordering, Equal, OrdGhosts, PartialEqGhosts, PartialOrdGhosts, HashGhosts, LatticeGhosts}
+use Rattle.lvish_compound.specs.Vocabulary.{Ordering, Equal, KeyGhosts, OrdGhosts, PartialEqGhosts, PartialOrdGhosts, HashGhosts, LatticeGhosts}
 use Rattle.lvish_lattice.specs.Lattice.{IsJoin, IsIdentity}
 use Rattle.lvish_lattice.specs.Listed.{some_is_not_none, unless_some}
 use Rattle.lvish_lattice.specs.Top.{IsTopWhere}
@@ -47,16 +47,16 @@ module _ {K L : Type 0} (R : K → K → Ordering) (least : L) (join : L → L �
           let p : (q : K) × TopAt gs fs q = later gs (add_rises R least join o j f.0 f.1 es gs s e) t.1 (sym (ap (option_and_then (λ hs. add_all R least join hs fs)) e) ∙ h) in
           (p.0, at_later f fs es gs p.0 s t e p.1)
 
-module _ {K L E : Type 0} {ko : OrdGhosts K} {ke : PartialEqGhosts K} {kp : PartialOrdGhosts K} {l : LatticeGhosts L E} {le : PartialEqGhosts L} {eo : OrdGhosts E} {ee : PartialEqGhosts E} {ep : PartialOrdGhosts E} {eh : HashGhosts E}
+module _ {K L E : Type 0} {kk : KeyGhosts K} {ko : OrdGhosts K} {ke : PartialEqGhosts K} {kp : PartialOrdGhosts K} {l : LatticeGhosts L E} {le : PartialEqGhosts L} {eo : OrdGhosts E} {ee : PartialEqGhosts E} {ep : PartialOrdGhosts E} {eh : HashGhosts E}
     (o : IsTotalOrder ko.cmp) (same_key : (x y : K) → ko.cmp x y ≡ Equal → x ≡ y) (j : IsJoin l.least l.joined) (itself : (x : L) → le.eq x x ≡ true) (same : IsIdentity le.eq) where
   -- where the maps have no join, their entries have none
-  no_entries : (a b : MapOf K L E ko ke kp l le eo ee ep eh) → map_of.joined a b ≡ None → add_all ko.cmp l.least l.joined a.entries b.entries ≡ None
+  no_entries : (a b : MapOf K L E kk ko ke kp l le eo ee ep eh) → map_of.joined a b ≡ None → add_all ko.cmp l.least l.joined a.entries b.entries ≡ None
   no_entries a b h = unless_some _ (λ es e. let w = map_laws.with_entries o same_key j itself same a b es e in some_is_not_none (map_of.joined a b) w.0 w.2 h)
 
-  no_join : (a b : MapOf K L E ko ke kp l le eo ee ep eh) (q : K) → l.joined (map_of.at a q) (map_of.at b q) ≡ None → map_of.joined a b ≡ None
+  no_join : (a b : MapOf K L E kk ko ke kp l le eo ee ep eh) (q : K) → l.joined (map_of.at a q) (map_of.at b q) ≡ None → map_of.joined a b ≡ None
   no_join a b q h = unless_some _ (λ c e. some_is_not_none (l.joined (map_of.at a q) (map_of.at b q)) _ (map_laws.joins_places o same_key j itself same a b c e q) h)
 
-  pub maps_top : IsTopWhere (map_of.joined {ko = ko} {ke = ke} {kp = kp} {l = l} {le = le} {eo = eo} {ee = ee} {ep = ep} {eh = eh}) (AtSomeKey {ko = ko} {ke = ke} {kp = kp} {l = l} {le = le} {eo = eo} {ee = ee} {ep = ep} {eh = eh} (JoinToTop l.joined))
+  pub maps_top : IsTopWhere (map_of.joined {kk = kk} {ko = ko} {ke = ke} {kp = kp} {l = l} {le = le} {eo = eo} {ee = ee} {ep = ep} {eh = eh}) (AtSomeKey {kk = kk} {ko = ko} {ke = ke} {kp = kp} {l = l} {le = le} {eo = eo} {ee = ee} {ep = ep} {eh = eh} (JoinToTop l.joined))
   maps_top a b = (λ h. all_top ko.cmp l.least l.joined o j b.entries a.entries a.ascending b.ascending (no_entries a b h), λ w. no_join a b w.0 w.1)
 
 -- two maps clash where their parts do

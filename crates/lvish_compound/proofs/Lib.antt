@@ -1,4 +1,5 @@
 pub mod Answered
+pub mod Blocks
 pub mod Brought
 pub mod Carried
 pub mod Clashes
@@ -9,9 +10,11 @@ pub mod Outcomes
 pub mod PairFresh
 pub mod PartCalls
 pub mod Parts
+pub mod Placed
 pub mod Pushed
 pub mod Refused
 pub mod StateCalls
 pub mod StatesClash
 pub mod Tallies
+pub mod Trees
 pub mod Values

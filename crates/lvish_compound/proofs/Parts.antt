@@ -40,7 +40,7 @@ module _ {K L : Type 0} (R : K → K → Ordering) where
   abbrev S : List (K × L) → Type 0
   S es = IsStrictlySortedBy R (map key es)
 
-  set_same : (k : K) (x : L) (es : List (K × L)) → lookup (is_at (R k)) es ≡ Some x → set_value (is_at (R k)) es x ≡ es
+  pub set_same : (k : K) (x : L) (es : List (K × L)) → lookup (is_at (R k)) es ≡ Some x → set_value (is_at (R k)) es x ≡ es
   set_same k x [] h = refl
   set_same k x (e ∷ es) h = elim (R k e.0) as (λ r. cond (is_eq r) (Some e.1) (lookup (is_at (R k)) es) ≡ Some x → cond (is_eq r) ((e.0, x) ∷ es) (e ∷ set_value (is_at (R k)) es x) ≡ e ∷ es) [
     | Less ↦ λ h. ap (λ fs. e ∷ fs) (set_same k x es h)
@@ -52,6 +52,16 @@ module _ {K L : Type 0} (R : K → K → Ordering) where
     all_at : (k : K) (es rest : List (K × L)) (x : K × L) → AllByRecursion (λ y. R k y ≡ Less) (map key (es ++ x ∷ rest)) → R k x.0 ≡ Less
     all_at k [] rest x b = b.0
     all_at k (e ∷ es) rest x b = all_at k es rest x b.1
+
+    -- an entry that is there gets another part where it stands
+    pub insert_found : (k : K) (x w : L) (es : List (K × L)) → S es → lookup (is_at (R k)) es ≡ Some x → insert_entry R es k w ≡ set_value (is_at (R k)) es w
+    unfolding IsStrictlySortedBy
+    insert_found k x w [] s h = absurd (cc h)
+    insert_found k x w (e ∷ es) s h = elim (R k e.0) as (λ r. R k e.0 ≡ r → cond (is_eq r) (Some e.1) (lookup (is_at (R k)) es) ≡ Some x → match_ordering r ((k, w) ∷ e ∷ es) ((e.0, w) ∷ es) (e ∷ insert_entry R es k w) ≡ cond (is_eq r) ((e.0, w) ∷ es) (e ∷ set_value (is_at (R k)) es w)) [
+      | Less ↦ λ r h. absurd (cc (sym (lookup-none (is_at (R k)) es (none_below_head o k e es s r).1) ∙ h))
+      | Equal ↦ λ r h. refl
+      | Greater ↦ λ r h. ap (λ fs. e ∷ fs) (insert_found k x w es s.1 h)
+    ] refl h
 
     -- an entry above all others is put at the end
     insert_last : (es rest : List (K × L)) (x : K × L) → S (es ++ x ∷ rest) → insert_entry R es x.0 x.1 ≡ es ++ x ∷ []
@@ -93,16 +103,6 @@ module _ {K L : Type 0} (R : K → K → Ordering) (least : L) (join : L → L �
           | Greater ↦ λ r h. ap (option_map (λ fs. e ∷ fs)) (add_found k v x es s.1 h) ∙ map_twice (λ w. set_value (is_at (R k)) es w) (λ fs. e ∷ fs) (join x v)
         ] refl h
 
-    -- an entry that is there gets another part where it stands
-    insert_found : (k : K) (x w : L) (es : List (K × L)) → S R es → lookup (is_at (R k)) es ≡ Some x → insert_entry R es k w ≡ set_value (is_at (R k)) es w
-    unfolding IsStrictlySortedBy
-    insert_found k x w [] s h = absurd (cc h)
-    insert_found k x w (e ∷ es) s h = elim (R k e.0) as (λ r. R k e.0 ≡ r → cond (is_eq r) (Some e.1) (lookup (is_at (R k)) es) ≡ Some x → match_ordering r ((k, w) ∷ e ∷ es) ((e.0, w) ∷ es) (e ∷ insert_entry R es k w) ≡ cond (is_eq r) ((e.0, w) ∷ es) (e ∷ set_value (is_at (R k)) es w)) [
-      | Less ↦ λ r h. absurd (cc (sym (lookup-none (is_at (R k)) es (none_below_head o k e es s r).1) ∙ h))
-      | Equal ↦ λ r h. refl
-      | Greater ↦ λ r h. ap (λ fs. e ∷ fs) (insert_found k x w es s.1 h)
-    ] refl h
-
     -- a part that is joined where it stands, unless the join is top
     put_found : (k : K) (v x w : L) (es fs : List (K × L)) (b : Bool) → S R es → lookup (is_at (R k)) es ≡ Some x → fs ≡ set_value (is_at (R k)) es w → b ≡ is_some (join x v) → w ≡ unwrap_or (join x v) x
         → (b ≡ is_some (add R least join k v es)) × (fs ≡ unwrap_or (add R least join k v es) es)
@@ -123,17 +123,17 @@ module _ {K L : Type 0} (R : K → K → Ordering) (least : L) (join : L → L �
     -- the same of a part that is written at its key
     module _ {T Refused : Type 0} (k : K) (v x w : L) (es ns fs : List (K × L)) (q : Result T Refused) (s : S R es) (h : lookup (is_at (R k)) es ≡ Some x) (written : ns ≡ insert_entry R es k w) (new : fs ≡ ns) where
       pub kept_written : IfErr q (λ _. w ≡ x) → IfErr q (λ _. fs ≡ es)
-      kept_written = kept_by k x w es fs q h (new ∙ written ∙ insert_found k x w es s h)
+      kept_written = kept_by k x w es fs q h (new ∙ written ∙ insert_found R o k x w es s h)
 
     pub put_written : {Refused : Type 0} (k : K) (v x w : L) (es ns fs : List (K × L)) (q : Result Bool Refused) → S R es → lookup (is_at (R k)) es ≡ Some x → ns ≡ insert_entry R es k w → fs ≡ ns
         → IfOk q (λ b. (b ≡ is_some (join x v)) × (w ≡ unwrap_or (join x v) x)) → IfOk q (λ b. (b ≡ is_some (add R least join k v es)) × (fs ≡ unwrap_or (add R least join k v es) es))
-    put_written k v x w es ns fs q s h written new = put_by k v x w es fs q s h (new ∙ written ∙ insert_found k x w es s h)
+    put_written k v x w es ns fs q s h written new = put_by k v x w es fs q s h (new ∙ written ∙ insert_found R o k x w es s h)
 
     -- the same of a part that was joined in place, and of which it is told what it brought
     pub outcome_written : {E Refused : Type 0} (eq : E → E → Bool) (ev : L → List E) (k : K) (v x w : L) (es ns fs : List (K × L)) (q : Result (Brought E) Refused) → S R es → lookup (is_at (R k)) es ≡ Some x → ns ≡ insert_entry R es k w → fs ≡ ns
         → IfOk q (λ t. IsOutcome (join x v) (fresh_of join eq ev x v) x w t) → IfOk q (λ t. IsOutcome (add R least join k v es) (fresh_of join eq ev (at R least join es k) v) es fs t)
     outcome_written eq ev k v x w es ns fs q s h written new m =
-        let stored : fs ≡ set_value (is_at (R k)) es w = new ∙ written ∙ insert_found k x w es s h in
+        let stored : fs ≡ set_value (is_at (R k)) es w = new ∙ written ∙ insert_found R o k x w es s h in
         IfOk-weaker q _ _ (outcome_as (join x v) (add R least join k v es) (fresh_of join eq ev x v) (fresh_of join eq ev (at R least join es k) v) x w es fs
         (λ done p. put_found k v x w es fs done s h stored p.0 p.1)
         (λ same. stored ∙ ap (set_value (is_at (R k)) es) same ∙ set_same R k x es h)

@@ -1,7 +1,7 @@
 -- Where two states clash: where their join is top, by what the states hold.
 use Rattle.std.specs.Prelude.{◌≡◌, ◌≢◌, ◌⊎◌, Option, None}
 use Rattle.lvish_lattice.specs.Top.{TwoValues}
-use Rattle.lvish_compound.specs.Vocabulary.{OrdGhosts, PartialEqGhosts, PartialOrdGhosts, HashGhosts, LatticeGhosts, Pair, Empty, Cell, Set, Max}
+use Rattle.lvish_compound.specs.Vocabulary.{KeyGhosts, OrdGhosts, PartialEqGhosts, PartialOrdGhosts, HashGhosts, LatticeGhosts, Pair, Empty, Cell, Set, Max}
 use Rattle.lvish_compound.specs.declared.part.Part as part
 use Rattle.lvish_compound.specs.MapOf.{MapOf, at}
 use Rattle.lvish_compound.specs.States.{Part, Map, Sides, Tally, Any, nothing}
@@ -11,9 +11,9 @@ use Rattle.lvish_compound.specs.Tally.{IsPastTotal}
 abbrev pub JoinToTop : {S : Type 0} → (S → S → Option S) → S → S → Type 0
 JoinToTop join s t = join s t ≡ None
 
-module _ {K L E : Type 0} {ko : OrdGhosts K} {ke : PartialEqGhosts K} {kp : PartialOrdGhosts K} {l : LatticeGhosts L E} {le : PartialEqGhosts L} {eo : OrdGhosts E} {ee : PartialEqGhosts E} {ep : PartialOrdGhosts E} {eh : HashGhosts E} where
+module _ {K L E : Type 0} {kk : KeyGhosts K} {ko : OrdGhosts K} {ke : PartialEqGhosts K} {kp : PartialOrdGhosts K} {l : LatticeGhosts L E} {le : PartialEqGhosts L} {eo : OrdGhosts E} {ee : PartialEqGhosts E} {ep : PartialOrdGhosts E} {eh : HashGhosts E} where
   -- the parts of two maps at some key clash
-  abbrev pub AtSomeKey : (L → L → Type 0) → MapOf K L E ko ke kp l le eo ee ep eh → MapOf K L E ko ke kp l le eo ee ep eh → Type 0
+  abbrev pub AtSomeKey : (L → L → Type 0) → MapOf K L E kk ko ke kp l le eo ee ep eh → MapOf K L E kk ko ke kp l le eo ee ep eh → Type 0
   AtSomeKey ClashThere a b = (k : K) × ClashThere (at a k) (at b k)
 
 -- the first sides of two pairs clash, or the second

@@ -2,10 +2,12 @@ pub mod Above
 pub mod Amounts
 pub mod AnyReads
 pub mod AnyWatch
+pub mod Blocks
 pub mod Clashes
 pub mod EventNames
 pub mod Held
 pub mod Keyed
+pub mod Keys
 pub mod Kinds
 pub mod MapOf
 pub mod MapReads

@@ -8,20 +8,21 @@ ghost use Rattle.lvish_compound.specs.Keyed.{key, has_no, add, at};
 ghost use Rattle.lvish_compound.specs.Stored.{few, entries};
 
 use crate::entry_iter::EntryIter;
+use crate::key::Key;
 use crate::tree::Tree;
-use lvish_lattice::{Brought, Lattice, Plain};
+use lvish_lattice::{Brought, Lattice};
 use std::alloc::{AllocError, Global};
 use std::marker::Model;
 
 /// At most one entry in place, as most puts have it, else a tree.
 #[derive(Debug)]
-pub(crate) enum Stored<K: Ord, L> {
+pub(crate) enum Stored<K: Key, L> {
     Few(Option<(K, L)>),
     Tree(Tree<K, L>),
 }
 
 // Written out, so that it is proved once, and not at each exit of a function that owns one.
-impl<K: Ord + Drop, L: Drop> Drop for Stored<K, L> {
+impl<K: Key, L: Drop> Drop for Stored<K, L> {
     fn drop(self) {
         match self {
             Stored::Few(_) => {}
@@ -32,13 +33,13 @@ impl<K: Ord + Drop, L: Drop> Drop for Stored<K, L> {
 
 /// Keys with their parts, seen as the list of entries in the order of the keys.
 #[derive(Debug)]
-pub struct Entries<K: Ord, L> {
+pub struct Entries<K: Key, L> {
     stored: Stored<K, L>,
     alloc: Global,
 }
 
 // Written out, so that it is proved once, and not at each exit of a function that owns one.
-impl<K: Ord + Drop, L: Drop> Drop for Entries<K, L> {
+impl<K: Key, L: Drop> Drop for Entries<K, L> {
     fn drop(self) {
         let Entries {
             stored: _,
@@ -47,7 +48,7 @@ impl<K: Ord + Drop, L: Drop> Drop for Entries<K, L> {
     }
 }
 
-impl<K: Ord, L> Model for Entries<K, L> {
+impl<K: Key, L> Model for Entries<K, L> {
     ghost use Rattle.std.specs.Prelude.{List};
     ghost use Rattle.lvish_compound.specs.Stored.{entries};
 
@@ -57,7 +58,7 @@ impl<K: Ord, L> Model for Entries<K, L> {
 }
 
 /// At most one entry, into which a copy of another was put.
-fn grown<K: Plain, L: Lattice>(
+fn grown<K: Key, L: Lattice>(
     alloc: Global,
     held: &Option<(K, L)>,
     of: K,
@@ -73,7 +74,7 @@ fn grown<K: Plain, L: Lattice>(
     Ok(Stored::Tree(Tree::of_two(alloc, first, (of, part))?))
 }
 
-impl<K: Ord, L> Entries<K, L> {
+impl<K: Key, L> Entries<K, L> {
     pub fn new(alloc: Global) -> Entries<K, L>
         ensures { result ≡ [] }
     {
@@ -137,7 +138,7 @@ impl<K: Ord, L> Entries<K, L> {
     }
 }
 
-impl<K: Plain, L: Lattice> Entries<K, L> {
+impl<K: Key, L: Lattice> Entries<K, L> {
     /// The part that the key holds, `None` where it holds bottom.
     pub fn get(&self, of: K) -> Option<&L>
         ensures { unwrap_or (option_copied result) L.least ≡ at K.cmp L.least L.joined self.now of }

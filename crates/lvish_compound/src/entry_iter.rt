@@ -3,15 +3,14 @@ ghost use Rattle.std.specs.Iterator.{at_most};
 ghost use Rattle.std.specs.Map.Iter.{TakesFirst, deref_pair};
 ghost use Rattle.lvish_compound.specs.Stored.{few};
 
-use lvish_lattice::Ranked;
-use std::collections::btree_map;
+use crate::block_iter::BlockIter;
 use std::marker::Model;
 
 /// What is left of at most one entry, or of a tree.
 #[derive(Drop)]
 pub(crate) enum Rest<'a, K, L> {
     Few(Option<(&'a K, &'a L)>),
-    Tree(btree_map::Iter<'a, Ranked<K>, L>),
+    Tree(BlockIter<'a, K, L>),
 }
 
 /// The entries of a map in the order of their keys.
@@ -40,7 +39,7 @@ impl<'a, K, L> EntryIter<'a, K, L> {
     }
 
     /// The entries of a tree.
-    pub(crate) fn of_tree(entries: btree_map::Iter<'a, Ranked<K>, L>) -> EntryIter<'a, K, L>
+    pub(crate) fn of_tree(entries: BlockIter<'a, K, L>) -> EntryIter<'a, K, L>
         ensures { result ≡ entries.entry }
     {
         EntryIter {
@@ -59,10 +58,7 @@ impl<'a, K, L> Iterator for EntryIter<'a, K, L> {
     fn next(&mut self) -> Option<(&'a K, &'a L)> {
         match &mut self.rest {
             Rest::Few(held) => held.take(),
-            Rest::Tree(entries) => match entries.next() {
-                Some((key, part)) => Some((key.get(), part)),
-                None => None,
-            },
+            Rest::Tree(entries) => entries.next(),
         }
     }
 }

@@ -6,11 +6,12 @@ ghost use Rattle.lvish_compound.specs.Keyed.{key, at, add_all, has_no, of_key, e
 ghost use Rattle.lvish_lattice.specs.Lattice.{fresh_of};
 
 use crate::entries::Entries;
-use lvish_lattice::{Lattice, Plain};
+use crate::key::Key;
+use lvish_lattice::Lattice;
 use std::alloc::{AllocError, Global};
 
 /// The entries of both lists, joined where they have the same key; `None` where that is top.
-pub fn joined<K: Plain, L: Lattice>(
+pub fn joined<K: Key, L: Lattice>(
     alloc: Global,
     xs: &Entries<K, L>,
     ys: &Entries<K, L>,
@@ -27,7 +28,7 @@ pub fn joined<K: Plain, L: Lattice>(
 }
 
 /// Whether each part is at or below what its key holds in the other list.
-pub fn is_below<K: Plain, L: Lattice>(xs: &Entries<K, L>, ys: &Entries<K, L>) -> bool
+pub fn is_below<K: Key, L: Lattice>(xs: &Entries<K, L>, ys: &Entries<K, L>) -> bool
     requires above { has_no L.eq L.least xs.now ≡ true }
     ensures { IsTrue result ↔ ((q : K) → L.joined (at K.cmp L.least L.joined xs.now q) (at K.cmp L.least L.joined ys.now q) ≡ Some (at K.cmp L.least L.joined ys.now q)) }
 {
@@ -57,7 +58,7 @@ fn push_events<K: Copy, E: Copy>(
 }
 
 /// The events of each entry, in the order of the entries.
-pub fn events<K: Plain, L: Lattice>(
+pub fn events<K: Key, L: Lattice>(
     alloc: Global,
     entries: &Entries<K, L>,
 ) -> Result<Vec<(K, L::Event)>, AllocError>
@@ -72,7 +73,7 @@ pub fn events<K: Plain, L: Lattice>(
 }
 
 /// What the part brings to the key, `None` where the join there is top.
-fn fresh_at<K: Plain, L: Lattice>(
+fn fresh_at<K: Key, L: Lattice>(
     alloc: Global,
     old: &Entries<K, L>,
     of: K,
@@ -91,7 +92,7 @@ fn fresh_at<K: Plain, L: Lattice>(
 }
 
 /// What the entries bring to the old ones, nothing where their join is top.
-pub fn fresh<K: Plain, L: Lattice>(
+pub fn fresh<K: Key, L: Lattice>(
     alloc: Global,
     old: &Entries<K, L>,
     put: &Entries<K, L>,

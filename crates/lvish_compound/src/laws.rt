@@ -5,6 +5,7 @@ ghost use Rattle.lvish_compound.specs.Clashes.{JoinToTop, AtSomeKey, AtSomeSide,
 ghost use Rattle.lvish_compound.specs.Tally.{IsPastTotal, IsTotalOfEvents, AreReached, AreGrowing};
 
 use crate::any::Any;
+use crate::key::Key;
 use crate::map_of::MapOf;
 use crate::pair::Pair;
 use crate::part::Part;
@@ -14,12 +15,12 @@ use lvish_lattice::{Flat, Lattice, Plain};
 use std::hash::Hash;
 
 /// Two maps join to top exactly where, at some key, their parts do.
-pub fn maps_join_to_top_at_some_key<K: Plain + Hash, L: Lattice>()
+pub fn maps_join_to_top_at_some_key<K: Key + Hash, L: Lattice>()
     ensures { IsTopWhere ⟦<MapOf<K, L> as Lattice>⟧.joined (AtSomeKey (JoinToTop L.joined)) }
 {}
 
 /// Two maps of cells join to top exactly where some key has two values that differ.
-pub fn maps_of_cells_join_to_top_at_two_values<K: Plain + Hash, V: Plain + Hash>()
+pub fn maps_of_cells_join_to_top_at_two_values<K: Key + Hash, V: Plain + Hash>()
     ensures { IsTopWhere ⟦<MapOf<K, Flat<V>> as Lattice>⟧.joined (AtSomeKey TwoValues) }
 {
     maps_join_to_top_at_some_key::<K, Flat<V>>();

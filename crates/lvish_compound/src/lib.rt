@@ -3,7 +3,8 @@
 //! A map has a state of its part's lattice at each key, and bottom where it has no entry. It is
 //! joined key by key, so a put with one key leaves the others as they are, and a join is top
 //! where that of some key is. Its events are pairs of a key and an event of the part there, and
-//! it is read at one key by the reads of the part.
+//! it is read at one key by the reads of the part. A type of keys is a `Key`: it says which keys
+//! are neighbours, and these stand together.
 //!
 //! ```text
 //! let mut scores: MapOf<i64, Flat<i64>> = MapOf::new(alloc);
@@ -33,9 +34,12 @@ mod amount_fault;
 mod any;
 mod any_events;
 mod any_read;
+mod block;
+mod block_iter;
 mod entries;
 mod entry_iter;
 mod event;
+mod key;
 mod keyed;
 mod kind;
 pub mod laws;
@@ -58,6 +62,7 @@ pub use any::{Any, Wrong};
 pub use any_read::AnyRead;
 pub use entry_iter::EntryIter;
 pub use event::Event;
+pub use key::Key;
 pub use kind::Kind;
 pub use limits::HIGHEST_TOTAL;
 pub use map_of::MapOf;

@@ -6,27 +6,28 @@ ghost use Rattle.lvish_lattice.specs.Lattice.{fresh_of, renamed};
 
 use crate::entries::Entries;
 use crate::entry_iter::EntryIter;
+use crate::key::Key;
 use crate::keyed;
-use lvish_lattice::{Brought, Lattice, Plain};
+use lvish_lattice::{Brought, Lattice};
 use std::alloc::{AllocError, Global};
 use std::hash::Hash;
 
 /// A map that only grows: its entries, in the order of their keys. No key holds bottom.
 #[derive(Debug)]
-pub struct MapOf<K: Plain, L: Lattice> {
+pub struct MapOf<K: Key, L: Lattice> {
     entries: Entries<K, L>,
     ghost ascending: { IsStrictlySortedBy K.cmp (map key entries) } by { IsStrictlySortedBy-prop K.cmp (map key entries) },
     ghost above: { has_no L.eq L.least entries ≡ true },
 }
 
 // Written out, so that it is proved once, and not at each exit of a function that owns one.
-impl<K: Plain, L: Lattice> Drop for MapOf<K, L> {
+impl<K: Key, L: Lattice> Drop for MapOf<K, L> {
     fn drop(self) {
         let MapOf { entries: _ } = self;
     }
 }
 
-impl<K: Plain, L: Lattice> MapOf<K, L> {
+impl<K: Key, L: Lattice> MapOf<K, L> {
     ghost use Rattle.lvish_compound.specs.MapOf.{entries_of, at, joined, map_events_of};
 
     /// The empty map.
@@ -92,7 +93,7 @@ fn at_key<K: Copy, E: Copy>(key: K, brought: Brought<E>) -> Brought<(K, E)>
     }
 }
 
-impl<K: Plain, L: Lattice> PartialEq for MapOf<K, L> {
+impl<K: Key, L: Lattice> PartialEq for MapOf<K, L> {
     ghost use Rattle.std.specs.Cmp.{partial_equiv_from_equiv, and_equiv, on_equiv};
     ghost use Rattle.lvish_compound.specs.MapOf.{alike};
     ghost use Rattle.lvish_compound.specs.laws.MapLaws.{alike_equiv};
@@ -106,14 +107,14 @@ impl<K: Plain, L: Lattice> PartialEq for MapOf<K, L> {
     }
 }
 
-impl<K: Plain, L: Lattice> Eq for MapOf<K, L> {
+impl<K: Key, L: Lattice> Eq for MapOf<K, L> {
     ghost use Rattle.std.specs.Cmp.{and_equiv, on_equiv};
     ghost use Rattle.lvish_compound.specs.laws.MapLaws.{alike_equiv};
 
     ghost laws = { alike_equiv (and_equiv (on_equiv (λ (t : K × L). t.0) K.Eq.laws) (on_equiv (λ (t : K × L). t.1) L.Eq.laws)) };
 }
 
-impl<K: Plain + Hash, L: Lattice> Lattice for MapOf<K, L> {
+impl<K: Key + Hash, L: Lattice> Lattice for MapOf<K, L> {
     ghost use Rattle.lvish_compound.specs.MapOf.{empty, joined, map_events_of};
 
     type Event = (K, L::Event);

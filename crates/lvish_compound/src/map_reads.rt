@@ -1,7 +1,8 @@
 ghost use Rattle.std.specs.Prelude.{◌≡◌};
 
+use crate::key::Key;
 use crate::map_of::MapOf;
-use lvish_lattice::{Lattice, Plain, Reads};
+use lvish_lattice::{Lattice, Reads};
 use std::hash::Hash;
 
 /// A read of what one key holds.
@@ -11,7 +12,7 @@ pub struct AtKey<K, R> {
     pub read: R,
 }
 
-impl<K: Plain + Hash, L: Reads> Reads for MapOf<K, L> {
+impl<K: Key + Hash, L: Reads> Reads for MapOf<K, L> {
     ghost use Rattle.lvish_compound.specs.MapReads.{Member, answer_of, spot_of, watched};
 
     type Read = AtKey<K, L::Read>;

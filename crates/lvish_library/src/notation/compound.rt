@@ -4,12 +4,12 @@
 use super::{Notation, ReadNotation, RowValue};
 use crate::row_fault::RowFault;
 use crate::words::{halves, integer, items_of};
-use lvish_compound::{AtKey, MapOf, Pair, SideOf};
-use lvish_lattice::{Lattice, Plain};
+use lvish_compound::{AtKey, Key, MapOf, Pair, SideOf};
+use lvish_lattice::Lattice;
 use std::alloc::{AllocError, Global};
 use std::fmt::Write;
 
-fn empty<K: Plain, L: Lattice>(alloc: Global) -> MapOf<K, L> {
+fn empty<K: Key, L: Lattice>(alloc: Global) -> MapOf<K, L> {
     MapOf::new(alloc)
 }
 

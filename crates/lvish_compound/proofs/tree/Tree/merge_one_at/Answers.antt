@@ -1,36 +1,87 @@
-use Rattle.std.proofs.Common.{rules, ◌≡◌, ◌∙◌, None, Some, ap, sym, subst}
+use Rattle.std.proofs.Common.{rules, ◌≡◌, ◌∙◌, ◌∷◌, [], None, Some, ap, sym, subst}
 use Rattle.std.specs.Map.{lookup}
-use Rattle.std.specs.BTreeMap.{ContainsKey, get_key, is_at}
+use Rattle.std.specs.BTreeMap.{ContainsKey, get_key, is_at, insert_entry}
 use Rattle.std.specs.BTreeMap.Entry.{MatchEntry, entry_key, entry_value, map_with_value}
-use Rattle.lvish_compound.proofs.Parts.{made_for_none, kept_written, outcome_written, outcome_new}
+use Rattle.lvish_lattice.specs.Ascending.{ties_are_same}
+use Rattle.lvish_compound.proofs.Parts.{made_for_none}
+use Rattle.lvish_compound.proofs.Trees.{held_rises, refused_flat, outcome_flat, outcome_blocks, new_outcome, new_blocks}
 use Rattle.lvish_compound.proofs.tree.Tree.merge_one_at.Goals as goal
+
+pub merge_one_at-merged-requires : goal.merge_one_at-merged-requires
+merge_one_at-merged-requires g c =
+    let R = g.K.Ord.cmp in
+    let h = g.K.Key.high in
+    let same = ties_are_same R g.met.K.Plain.identical g.met.K.Ord.matches_eq in
+    let bs = c.self.inside.blocks.entries in
+    let es = c.into_mut-block.result.now in
+    let place = rw (c.new.ensures, c.high.ensures) at c.in_ok-place.ensures in
+    let held : lookup (is_at (R (h c.args.of))) bs ≡ Some es = sym place.value ∙ ap entry_value c.in-Occupied.is ∙ c.into_mut-block.ensures.value in
+    held_rises R h g.met.K.Ord.total same g.met.K.Key.rises (h c.args.of) bs c.self.inside.count es c.self.invariant held
+
+pub invariant_of-self-in-Occupied : goal.invariant_of-self-in-Occupied
+invariant_of-self-in-Occupied g c =
+    let R = g.K.Ord.cmp in
+    let h = g.K.Key.high in
+    let same = ties_are_same R g.met.K.Plain.identical g.met.K.Ord.matches_eq in
+    let bs = c.self.inside.blocks.entries in
+    let es = c.into_mut-block.result.now in
+    let place = rw (c.new.ensures, c.high.ensures) at c.in_ok-place.ensures in
+    let held : lookup (is_at (R (h c.args.of))) bs ≡ Some es = sym place.value ∙ ap entry_value c.in-Occupied.is ∙ c.into_mut-block.ensures.value in
+    let w = c.merge_one_at-merged.new.self in
+    outcome_blocks R h g.met.K.Ord.total same g.met.K.Key.rises c.args.of bs (map_with_value c.in_ok-place.place w).entries _ es w c.self.inside.count c.self.invariant held (place.update.1 w) (search rules) place.ordered c.in-Some.more c.counted-self-inside.result c.len-before.result c.len.result c.in-Some.ensures.1 c.len-before.ensures c.len.ensures c.counted-self-inside.ensures.stays c.counted-self-inside.ensures.grows g.L.Lattice.least g.L.Lattice.joined g.met.L.Lattice.is_join c.args.part.now _ c.merge_one_at-merged.result c.merge_one_at-merged.ensures.merged c.merge_one_at-merged.ensures.refused
 
 pub returns-in-Occupied-clause-merged : goal.returns-in-Occupied-clause-merged
 returns-in-Occupied-clause-merged g c =
-    let w = c.merge_one.new.self in
-    let place = rw c.new.ensures at c.in_ok-place.ensures in
-    rw (← c.self.view_is) (outcome_written g.K.Ord.cmp g.L.Lattice.least g.L.Lattice.joined g.met.K.Ord.total g.L.Event.PartialEq.eq g.L.Lattice.events_of c.args.of c.args.part.now c.into_mut.result.now w c.self.inside.parts.entries
-    (map_with_value c.in_ok-place.place w).entries _ c.merge_one.result place.ordered
-    (sym place.value ∙ ap entry_value c.in-Occupied.is ∙ c.into_mut.ensures.value)
-    (place.update.1 w) (search rules) c.merge_one.ensures.merged)
+    let R = g.K.Ord.cmp in
+    let h = g.K.Key.high in
+    let same = ties_are_same R g.met.K.Plain.identical g.met.K.Ord.matches_eq in
+    let bs = c.self.inside.blocks.entries in
+    let es = c.into_mut-block.result.now in
+    let place = rw (c.new.ensures, c.high.ensures) at c.in_ok-place.ensures in
+    let held : lookup (is_at (R (h c.args.of))) bs ≡ Some es = sym place.value ∙ ap entry_value c.in-Occupied.is ∙ c.into_mut-block.ensures.value in
+    let w = c.merge_one_at-merged.new.self in
+    rw (← c.self.view_is) (outcome_flat R h g.met.K.Ord.total same g.met.K.Key.rises c.args.of bs (map_with_value c.in_ok-place.place w).entries es w c.self.inside.count c.self.invariant held (place.update.1 w) place.ordered _ (search rules) g.L.Lattice.least g.L.Lattice.joined c.args.part.now g.L.Event.PartialEq.eq g.L.Lattice.events_of c.merge_one_at-merged.result c.merge_one_at-merged.ensures.merged)
 
 pub returns-in-Occupied-clause-refused : goal.returns-in-Occupied-clause-refused
 returns-in-Occupied-clause-refused g c =
-    let w = c.merge_one.new.self in
-    let place = rw c.new.ensures at c.in_ok-place.ensures in
-    rw (← c.self.view_is) (kept_written g.K.Ord.cmp g.L.Lattice.least g.L.Lattice.joined g.met.K.Ord.total c.args.of c.args.part.now c.into_mut.result.now w c.self.inside.parts.entries
-    (map_with_value c.in_ok-place.place w).entries _ c.merge_one.result place.ordered
-    (sym place.value ∙ ap entry_value c.in-Occupied.is ∙ c.into_mut.ensures.value)
-    (place.update.1 w) (search rules) c.merge_one.ensures.refused)
+    let R = g.K.Ord.cmp in
+    let h = g.K.Key.high in
+    let same = ties_are_same R g.met.K.Plain.identical g.met.K.Ord.matches_eq in
+    let bs = c.self.inside.blocks.entries in
+    let es = c.into_mut-block.result.now in
+    let place = rw (c.new.ensures, c.high.ensures) at c.in_ok-place.ensures in
+    let held : lookup (is_at (R (h c.args.of))) bs ≡ Some es = sym place.value ∙ ap entry_value c.in-Occupied.is ∙ c.into_mut-block.ensures.value in
+    let w = c.merge_one_at-merged.new.self in
+    rw (← c.self.view_is) (refused_flat R h g.met.K.Ord.total same g.met.K.Key.rises c.args.of bs (map_with_value c.in_ok-place.place w).entries es w c.self.inside.count c.self.invariant held (place.update.1 w) place.ordered _ (search rules) c.merge_one_at-merged.result c.merge_one_at-merged.ensures.refused)
+
+pub invariant_of-self-2 : goal.invariant_of-self-2
+invariant_of-self-2 g c =
+    let R = g.K.Ord.cmp in
+    let h = g.K.Key.high in
+    let same = ties_are_same R g.met.K.Plain.identical g.met.K.Ord.matches_eq in
+    let m = c.self.inside.blocks in
+    let k = c.args.of in
+    let w = c.in-Ok.field-0.now in
+    let place = rw (c.new.ensures, c.high.ensures) at c.in_ok-place.ensures in
+    let none : lookup (is_at (R (h k))) m.entries ≡ None =
+    subst (λ e. MatchEntry e (ContainsKey R m (h k) × (get_key R m (h k) ≡ Some (entry_key e))) (lookup (is_at (R (h k))) m.entries ≡ None)) c.in-Vacant.is place.found in
+    let told = made_for_none _ _ w (sym (ap entry_value c.in-Vacant.is) ∙ place.value ∙ none) c.in-Ok.ensures.value in
+    let first = c.first_part-first.result.0 in
+    let one : w ≡ (k, first) ∷ [] = search (rules, told) in
+    new_blocks R h g.met.K.Ord.total same g.met.K.Key.rises k first m.entries (map_with_value c.in_ok-place.place w).entries _ c.self.inside.count c.in-Some.more c.self.invariant none (place.update.1 w ∙ ap (insert_entry R m.entries (h k)) one) (search rules) c.in-Some.ensures.1
 
 pub returns-clause-merged : goal.returns-clause-merged
 returns-clause-merged g c =
-    let m = c.self.inside.parts in
+    let R = g.K.Ord.cmp in
+    let h = g.K.Key.high in
+    let same = ties_are_same R g.met.K.Plain.identical g.met.K.Ord.matches_eq in
+    let m = c.self.inside.blocks in
     let k = c.args.of in
-    let w = c.first_part-first.result.0 in
-    let place = rw c.new.ensures at c.in_ok-place.ensures in
-    let none : lookup (is_at (g.K.Ord.cmp k)) m.entries ≡ None =
-    subst (λ e. MatchEntry e (ContainsKey g.K.Ord.cmp m k × (get_key g.K.Ord.cmp m k ≡ Some (entry_key e))) (lookup (is_at (g.K.Ord.cmp k)) m.entries ≡ None)) c.in-Vacant.is place.found in
-    let told = made_for_none _ _ c.in-Ok.field-0.now (sym (ap entry_value c.in-Vacant.is) ∙ place.value ∙ none) c.in-Ok.ensures.value in
-    rw (← c.self.view_is) (outcome_new g.K.Ord.cmp g.L.Lattice.least g.L.Lattice.joined g.L.Event.PartialEq.eq g.L.Lattice.events_of g.met.L.Lattice.is_join k c.args.part.now w m.entries (map_with_value c.in_ok-place.place w).entries _ none
-    (place.update.1 w) (search (rules, told)) c.first_part-first.result.1 told.1 c.first_part-first.ensures)
+    let w = c.in-Ok.field-0.now in
+    let place = rw (c.new.ensures, c.high.ensures) at c.in_ok-place.ensures in
+    let none : lookup (is_at (R (h k))) m.entries ≡ None =
+    subst (λ e. MatchEntry e (ContainsKey R m (h k) × (get_key R m (h k) ≡ Some (entry_key e))) (lookup (is_at (R (h k))) m.entries ≡ None)) c.in-Vacant.is place.found in
+    let told = made_for_none _ _ w (sym (ap entry_value c.in-Vacant.is) ∙ place.value ∙ none) c.in-Ok.ensures.value in
+    let first = c.first_part-first.result.0 in
+    let one : w ≡ (k, first) ∷ [] = search (rules, told) in
+    rw (← c.self.view_is) (new_outcome R h g.met.K.Ord.total same g.met.K.Key.rises k first m.entries (map_with_value c.in_ok-place.place w).entries c.self.inside.count c.self.invariant none (place.update.1 w ∙ ap (insert_entry R m.entries (h k)) one) _ (search rules) g.L.Lattice.least g.L.Lattice.joined c.args.part.now g.L.Event.PartialEq.eq g.L.Lattice.events_of g.met.L.Lattice.is_join c.first_part-first.result.1 told.1 c.first_part-first.ensures)

@@ -1,0 +1,31 @@
+use Rattle.std.proofs.Common.{rules, refl}
+use Rattle.std.proofs.lemmas.Option.{slice_get_read}
+use Rattle.std.specs.List.{slice_set}
+use Rattle.lvish_lattice.specs.Ascending.{ties_are_same}
+use Rattle.lvish_compound.proofs.Placed.{insert_at_gap, lookup_at_gap, set_at, lookup_at_place}
+use Rattle.lvish_compound.proofs.Parts.{put_written, new_written}
+use Rattle.lvish_compound.proofs.block.join_among.Goals as goal
+
+pub returns-in-Ok-clause-added : goal.returns-in-Ok-clause-added
+returns-in-Ok-clause-added g c =
+    let R = g.K.Ord.cmp in
+    let same = ties_are_same R g.met.K.Plain.identical g.met.K.Ord.matches_eq in
+    let es = c.args.entries.now.items in
+    let x = c.index_mut.result.now in
+    let place = rw c.as_slice.ensures.value at c.in-Ok.ensures.found in
+    let there = slice_get_read es _ c.in-Ok.at x refl (rw c.as_slice.ensures.value at c.in-Ok.ensures.bound) c.index_mut.ensures.value in
+    put_written R g.L.Lattice.least g.L.Lattice.joined g.met.K.Ord.total c.args.of c.args.part.now x.1 c.merge.new.self es (slice_set es c.in-Ok.at (x.0, c.merge.new.self)) _ c.merge.result c.requires
+    (lookup_at_place R (λ x. x) g.met.K.Ord.total same (λ x y e. e) c.args.of es c.in-Ok.at x place there)
+    (set_at R (λ x. x) g.met.K.Ord.total same (λ x y e. e) c.args.of c.merge.new.self es c.in-Ok.at x place there)
+    (search rules) c.merge.ensures.merged
+
+pub returns-in_ok-insert-in-Err-clause-added : goal.returns-in_ok-insert-in-Err-clause-added
+returns-in_ok-insert-in-Err-clause-added g c =
+    let R = g.K.Ord.cmp in
+    let same = ties_are_same R g.met.K.Plain.identical g.met.K.Ord.matches_eq in
+    let es = c.args.entries.now.items in
+    let place = rw c.as_slice.ensures.value at c.in-Err.ensures.gap in
+    new_written R g.L.Lattice.least g.L.Lattice.joined c.args.of c.args.part.now c.in_ok-part-in-Err.part es _ c.insert.new.self.items
+    (lookup_at_gap R (λ x. x) g.met.K.Ord.total same (λ x y e. e) c.args.of es c.in-Err.at place c.requires)
+    (insert_at_gap R (λ x. x) g.met.K.Ord.total same (λ x y e. e) c.args.of c.in_ok-part-in-Err.part es c.in-Err.at place)
+    c.in_ok-part-in-Err.ensures c.in_ok-insert-in-Err.ensures.items

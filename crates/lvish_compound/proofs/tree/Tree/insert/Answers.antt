@@ -1,0 +1,80 @@
+use Rattle.std.proofs.Common.{rules, ◌≡◌, ◌∙◌, None, Some, ap, sym, subst}
+use Rattle.std.specs.Map.{lookup}
+use Rattle.std.specs.BTreeMap.{ContainsKey, get_key, is_at, insert_entry}
+use Rattle.std.specs.BTreeMap.Entry.{MatchEntry, entry_key, entry_value, map_with_value}
+use Rattle.lvish_lattice.specs.Ascending.{ties_are_same}
+use Rattle.lvish_compound.proofs.Trees.{held_rises, refused_flat, inserted_flat, inserted_blocks, new_put, new_blocks}
+use Rattle.lvish_compound.proofs.tree.Tree.insert.Goals as goal
+
+pub put-put-requires : goal.put-put-requires
+put-put-requires g c =
+    let R = g.K.Ord.cmp in
+    let h = g.K.Key.high in
+    let same = ties_are_same R g.met.K.Plain.identical g.met.K.Ord.matches_eq in
+    let bs = c.self.inside.blocks.entries in
+    let es = c.into_mut-block.result.now in
+    let place = rw (c.new.ensures, c.high.ensures) at c.in_ok-place.ensures in
+    let held : lookup (is_at (R (h c.args.key))) bs ≡ Some es = sym place.value ∙ ap entry_value c.in-Occupied.is ∙ c.into_mut-block.ensures.value in
+    held_rises R h g.met.K.Ord.total same g.met.K.Key.rises (h c.args.key) bs c.self.inside.count es c.self.invariant held
+
+pub invariant_of-self-in-Occupied : goal.invariant_of-self-in-Occupied
+invariant_of-self-in-Occupied g c =
+    let R = g.K.Ord.cmp in
+    let h = g.K.Key.high in
+    let same = ties_are_same R g.met.K.Plain.identical g.met.K.Ord.matches_eq in
+    let bs = c.self.inside.blocks.entries in
+    let es = c.into_mut-block.result.now in
+    let place = rw (c.new.ensures, c.high.ensures) at c.in_ok-place.ensures in
+    let held : lookup (is_at (R (h c.args.key))) bs ≡ Some es = sym place.value ∙ ap entry_value c.in-Occupied.is ∙ c.into_mut-block.ensures.value in
+    let w = c.put-put.new.self in
+    inserted_blocks R h g.met.K.Ord.total same g.met.K.Key.rises c.args.key bs (map_with_value c.in_ok-place.place w).entries _ es w c.self.inside.count c.self.invariant held (place.update.1 w) (search rules) place.ordered c.in-Some.more c.counted-self-inside.result c.len-before.result c.len.result c.in-Some.ensures.1 c.len-before.ensures c.len.ensures c.counted-self-inside.ensures.stays c.counted-self-inside.ensures.grows c.args.part c.put-put.result c.put-put.ensures.inserted c.put-put.ensures.refused
+
+pub returns-in-Occupied-clause-inserted : goal.returns-in-Occupied-clause-inserted
+returns-in-Occupied-clause-inserted g c =
+    let R = g.K.Ord.cmp in
+    let h = g.K.Key.high in
+    let same = ties_are_same R g.met.K.Plain.identical g.met.K.Ord.matches_eq in
+    let bs = c.self.inside.blocks.entries in
+    let es = c.into_mut-block.result.now in
+    let place = rw (c.new.ensures, c.high.ensures) at c.in_ok-place.ensures in
+    let held : lookup (is_at (R (h c.args.key))) bs ≡ Some es = sym place.value ∙ ap entry_value c.in-Occupied.is ∙ c.into_mut-block.ensures.value in
+    let w = c.put-put.new.self in
+    rw (← c.self.view_is) (inserted_flat R h g.met.K.Ord.total same g.met.K.Key.rises c.args.key bs (map_with_value c.in_ok-place.place w).entries es w c.self.inside.count c.self.invariant held (place.update.1 w) place.ordered _ (search rules) c.args.part c.put-put.result c.put-put.ensures.inserted)
+
+pub returns-in-Occupied-clause-refused : goal.returns-in-Occupied-clause-refused
+returns-in-Occupied-clause-refused g c =
+    let R = g.K.Ord.cmp in
+    let h = g.K.Key.high in
+    let same = ties_are_same R g.met.K.Plain.identical g.met.K.Ord.matches_eq in
+    let bs = c.self.inside.blocks.entries in
+    let es = c.into_mut-block.result.now in
+    let place = rw (c.new.ensures, c.high.ensures) at c.in_ok-place.ensures in
+    let held : lookup (is_at (R (h c.args.key))) bs ≡ Some es = sym place.value ∙ ap entry_value c.in-Occupied.is ∙ c.into_mut-block.ensures.value in
+    let w = c.put-put.new.self in
+    rw (← c.self.view_is) (refused_flat R h g.met.K.Ord.total same g.met.K.Key.rises c.args.key bs (map_with_value c.in_ok-place.place w).entries es w c.self.inside.count c.self.invariant held (place.update.1 w) place.ordered _ (search rules) c.put-put.result c.put-put.ensures.refused)
+
+pub invariant_of-self-in-Vacant : goal.invariant_of-self-in-Vacant
+invariant_of-self-in-Vacant g c =
+    let R = g.K.Ord.cmp in
+    let h = g.K.Key.high in
+    let same = ties_are_same R g.met.K.Plain.identical g.met.K.Ord.matches_eq in
+    let m = c.self.inside.blocks in
+    let k = c.args.key in
+    let w = c.insert.result.now in
+    let place = rw (c.new.ensures, c.high.ensures) at c.in_ok-place.ensures in
+    let none : lookup (is_at (R (h k))) m.entries ≡ None =
+    subst (λ e. MatchEntry e (ContainsKey R m (h k) × (get_key R m (h k) ≡ Some (entry_key e))) (lookup (is_at (R (h k))) m.entries ≡ None)) c.in-Vacant.is place.found in
+    new_blocks R h g.met.K.Ord.total same g.met.K.Key.rises k c.args.part m.entries (map_with_value c.in_ok-place.place w).entries _ c.self.inside.count c.in-Some.more c.self.invariant none (place.update.1 w ∙ ap (insert_entry R m.entries (h k)) (c.insert.ensures.value ∙ c.of_one.ensures)) (search rules) c.in-Some.ensures.1
+
+pub returns-in-Vacant-clause-inserted : goal.returns-in-Vacant-clause-inserted
+returns-in-Vacant-clause-inserted g c =
+    let R = g.K.Ord.cmp in
+    let h = g.K.Key.high in
+    let same = ties_are_same R g.met.K.Plain.identical g.met.K.Ord.matches_eq in
+    let m = c.self.inside.blocks in
+    let k = c.args.key in
+    let w = c.insert.result.now in
+    let place = rw (c.new.ensures, c.high.ensures) at c.in_ok-place.ensures in
+    let none : lookup (is_at (R (h k))) m.entries ≡ None =
+    subst (λ e. MatchEntry e (ContainsKey R m (h k) × (get_key R m (h k) ≡ Some (entry_key e))) (lookup (is_at (R (h k))) m.entries ≡ None)) c.in-Vacant.is place.found in
+    rw (← c.self.view_is) (new_put R h g.met.K.Ord.total same g.met.K.Key.rises k c.args.part m.entries (map_with_value c.in_ok-place.place w).entries c.self.inside.count c.self.invariant none (place.update.1 w ∙ ap (insert_entry R m.entries (h k)) (c.insert.ensures.value ∙ c.of_one.ensures)) _ (search rules))
