@@ -1,6 +1,7 @@
 ghost use Rattle.std.specs.Prelude.{◌≡◌, IfOk};
 ghost use Rattle.lvish_lattice.specs.Lattice.{IsIdentity};
 ghost use Rattle.lvish_calculus.specs.Program.{Functions, IsProgram, IsReplyTo};
+ghost use Rattle.lvish_calculus.specs.declared.request.Reply.TheVariants.{Content};
 
 use crate::request::{Reply, Request};
 use lvish_lattice::{Lattice, Reads};
@@ -85,6 +86,21 @@ pub trait Program {
     ) -> Result<Self::Local, AllocError>
         requires { IsReplyTo ((functions self.now).request at) reply }
         ensures { IfOk result (λ l. l ≡ (functions self.now).resume at reply) };
+
+    /// The local state after the freeze that `at` asks for, whose reply is this content: without a copy
+    /// of it, where the program needs none. It may lie in the memory of `at`.
+    fn resume_on(
+        &self,
+        alloc: Global,
+        at: Self::Local,
+        content: &Self::Lat,
+    ) -> Result<Self::Local, AllocError>
+        requires { IsReplyTo {A = Self.Lat.Answer} ((functions self.now).request at) (Content content.now) }
+        ensures { IfOk result (λ l. l ≡ (functions self.now).resume at (Content content.now)) }
+    {
+        let content = content.copy(alloc)?;
+        self.resume(alloc, at, Reply::Content(content))
+    }
 
     ghost identical: { IsIdentity Self.Local.eq };
 

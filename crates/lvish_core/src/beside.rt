@@ -29,16 +29,11 @@ pub(crate) fn put_at<L: Lattice>(
 }
 
 /// Freezes the variable of this number.
-pub(crate) fn freeze_at<L: Lattice>(
-    variables: &mut [Variable<L>],
-    alloc: Global,
-    number: usize,
-) -> Result<(), AllocError>
+pub(crate) fn freeze_at<L: Lattice>(variables: &mut [Variable<L>], number: usize)
     requires { number < length variables.old }
-    ensures { MatchResult result (λ _. FrozenAt number variables.old variables.new) (λ _. variables.new ≡ variables.old) }
+    ensures { FrozenAt number variables.old variables.new }
 {
-    variables[number].freeze(alloc)?;
-    Ok(())
+    variables[number].mark();
 }
 
 /// Adds a handler on the variable, which isn't frozen.

@@ -3,6 +3,7 @@
 ghost use Rattle.std.specs.Prelude.{◌≡◌, IfOk};
 ghost use Rattle.lvish_calculus.specs.Calculus.{Live};
 ghost use Rattle.lvish_calculus.specs.Program.{IsReplyTo};
+ghost use Rattle.lvish_calculus.specs.declared.request.Reply.TheVariants.{Content};
 ghost use Rattle.lvish_core.specs.Tasks.{standing};
 
 use crate::stage::{Stage, TaskNumbers};
@@ -27,6 +28,24 @@ pub(crate) fn resumed<P: Program>(
     ensures own { IfOk result (λ r. r.1 ≡ (P.functions program.now).resume at reply) }
 {
     let local = program.resume(alloc, at, reply)?;
+    let own = program.copy_local(alloc, &local)?;
+    Ok((Stage::live(local, numbers), own))
+}
+
+/// The same, where the reply is the content of a frozen variable.
+pub(crate) fn resumed_on<P: Program>(
+    program: &P,
+    alloc: Global,
+    at: P::Local,
+    content: &P::Lat,
+    numbers: TaskNumbers,
+) -> Result<(Stage<P::Local>, P::Local), AllocError>
+    requires asks { (l : P.Local) × (at ≡ (P.functions program.now).at l) }
+    requires fits { IsReplyTo {A = P.Lat.Answer} ((P.functions program.now).request at) (Content content.now) }
+    ensures stage { IfOk result (λ r. standing r.0 ≡ Live ((P.functions program.now).resume at (Content content.now)) numbers.forks numbers.adds numbers.puts) }
+    ensures own { IfOk result (λ r. r.1 ≡ (P.functions program.now).resume at (Content content.now)) }
+{
+    let local = program.resume_on(alloc, at, content)?;
     let own = program.copy_local(alloc, &local)?;
     Ok((Stage::live(local, numbers), own))
 }

@@ -5,6 +5,7 @@ pub mod Numbers
 pub mod Below
 pub mod Arithmetic
 pub mod States
+pub mod Heard
 pub mod Meaning
 pub mod Run
 pub mod Jumps

@@ -9,6 +9,7 @@ mod evaluate;
 mod fits;
 mod frame;
 mod frames;
+mod heard;
 mod in_place;
 pub mod laws;
 mod limits;

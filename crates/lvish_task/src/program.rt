@@ -1,7 +1,9 @@
 ghost use Rattle.std.specs.Prelude.{◌≡◌, IfOk};
 ghost use Rattle.lvish_task.specs.Run.{functions};
+ghost use Rattle.lvish_calculus.specs.declared.request.Reply.TheVariants.{Content};
 
 use crate::frame::Frame;
+use crate::heard::Heard;
 use crate::in_place::InPlace;
 use crate::local::Local;
 use crate::script_code::ScriptCode;
@@ -67,7 +69,13 @@ impl Program for ScriptCode {
     fn resume(&self, alloc: Global, at: Local, reply: Reply<Any, i64>) -> Result<Local, AllocError>
         ensures { IfOk result (λ l. l ≡ (functions self.now).resume at reply) }
     {
-        self.resumed(alloc, at, reply)
+        self.resumed(alloc, at, Heard::of(&reply))
+    }
+
+    fn resume_on(&self, alloc: Global, at: Local, content: &Any) -> Result<Local, AllocError>
+        ensures { IfOk result (λ l. l ≡ (functions self.now).resume at (Content content.now)) }
+    {
+        self.resumed(alloc, at, Heard::Content(content))
     }
 
     ghost use Rattle.std.specs.Prelude.{refl};

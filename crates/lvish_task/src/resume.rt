@@ -1,39 +1,36 @@
 ghost use Rattle.std.specs.Prelude.{◌≡◌, ◌<◌, ◌+◌, ◌^◌, true, IfOk, OnOk};
 ghost use Rattle.lvish_calculus.specs.declared.request.Request.TheVariants.{End};
+ghost use Rattle.lvish_task.specs.Heard.{said};
 ghost use Rattle.lvish_task.specs.Run.{AsksBy, answered, asked, resumed, resumed_top, run, stack_fits};
 
 use crate::at_once::{read_at_once, state_at_once};
 use crate::frame::Frame;
+use crate::heard::Heard;
 use crate::limits::TURNS;
 use crate::local::Local;
 use crate::remaining::Remaining;
 use crate::script_code::ScriptCode;
 use crate::stack::Stack;
 use crate::states::{count_below, events_below};
-use lvish_calculus::{Asks, Reply, Request};
+use lvish_calculus::{Asks, Request};
 use lvish_code::{Action, Instruction};
 use lvish_compound::{Any, AnyRead};
 use std::alloc::{AllocError, Global};
 
 impl Frame {
     /// Goes on after the reply to an action.
-    fn answer(
-        &mut self,
-        alloc: Global,
-        action: &Action,
-        reply: Reply<Any, i64>,
-    ) -> Result<(), AllocError>
+    fn answer(&mut self, alloc: Global, action: &Action, reply: Heard<'_>) -> Result<(), AllocError>
         requires { self.old.place + 1 < 2 ^ 64 }
-        ensures { OnOk result (self.new ≡ answered self.old action.now reply) }
+        ensures { OnOk result (self.new ≡ answered self.old action.now (said reply.entry)) }
     {
-        match (action, &reply) {
-            (Action::Get(local, _, _, _), Reply::Answer(n)) => {
-                self.values.set(alloc, *local, *n)?;
+        match (action, reply) {
+            (Action::Get(local, _, _, _), Heard::Answer(n)) => {
+                self.values.set(alloc, *local, n)?;
             }
-            (Action::Freeze(local, _, _, None), Reply::Content(state)) => {
+            (Action::Freeze(local, _, _, None), Heard::Content(state)) => {
                 self.values.set(alloc, *local, count_below(state)?)?;
             }
-            (Action::Freeze(local, _, _, Some(procedure)), Reply::Content(state)) => {
+            (Action::Freeze(local, _, _, Some(procedure)), Heard::Content(state)) => {
                 let events = events_below(alloc, state)?;
                 self.values.set(alloc, *local, events.len() as i64)?;
                 self.each = *procedure;
@@ -182,9 +179,9 @@ impl ScriptCode {
         &self,
         alloc: Global,
         mut at: Local,
-        reply: Reply<Any, i64>,
+        reply: Heard<'_>,
     ) -> Result<Local, AllocError>
-        ensures { IfOk result (λ l. l ≡ resumed self.now.flat at reply) }
+        ensures { IfOk result (λ l. l ≡ resumed self.now.flat at (said reply.entry)) }
     {
         if !self.fits(&at) {
             return Ok(at);
@@ -208,10 +205,10 @@ impl ScriptCode {
         &self,
         alloc: Global,
         at: &Local,
-        reply: Reply<Any, i64>,
+        reply: Heard<'_>,
     ) -> Result<Local, AllocError>
         requires { stack_fits self.now.flat at.now ≡ true }
-        ensures { IfOk result (λ l. l ≡ resumed self.now.flat at.now reply) }
+        ensures { IfOk result (λ l. l ≡ resumed self.now.flat at.now (said reply.entry)) }
     {
         let stack = at.stack();
         let mut next = stack.copy(alloc)?;
@@ -227,9 +224,9 @@ impl ScriptCode {
         alloc: Global,
         frame: &mut Frame,
         left: usize,
-        reply: Reply<Any, i64>,
+        reply: Heard<'_>,
     ) -> Result<(), AllocError>
-        ensures { OnOk result (frame.new ≡ resumed_top self.now.flat frame.old reply left) }
+        ensures { OnOk result (frame.new ≡ resumed_top self.now.flat frame.old (said reply.entry) left) }
     {
         if left == 0 {
             return Ok(());

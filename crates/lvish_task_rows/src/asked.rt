@@ -1,6 +1,6 @@
 //! What a task asks for, one request after the other.
 
-use crate::calls::{asks_with, fits, resumed};
+use crate::calls::{asks_with, fits, is_equal, resumed, resumed_beside, resumed_on};
 use crate::request::request_text;
 use lvish_calculus::{Asks, Reply, Request};
 use lvish_compound::{Any, AnyRead};
@@ -82,9 +82,31 @@ impl RunningTask {
         if is_last(&asks.request) {
             return Ok(false);
         }
-        let next = replied(alloc, code, asks, replies)?;
+        let next = self.replied(alloc, code, asks, replies)?;
         self.spare = Some(mem::replace(&mut self.local, next));
         Ok(true)
+    }
+
+    /// The local state after the reply. A frozen content is read where it stands, and is to lead where it
+    /// leads as a reply.
+    fn replied(
+        &mut self,
+        alloc: Global,
+        code: &ScriptCode,
+        asks: Asks<Any, AnyRead, Local>,
+        replies: &Replies,
+    ) -> Result<Local, AllocError> {
+        let Asks { request, at } = asks;
+        let reply = reply_to(alloc, &request, replies)?;
+        if !matches!(reply, Reply::Content(..)) {
+            return resumed(alloc, code, at, reply);
+        }
+        let by_reply = resumed_beside(alloc, code, &at, reply)?;
+        let next = resumed_on(alloc, code, at, &replies.frozen)?;
+        if !is_equal(&by_reply, &next) {
+            self.push("its content leads elsewhere than the reply")?;
+        }
+        Ok(next)
     }
 
     fn push_request(
@@ -102,17 +124,6 @@ impl RunningTask {
         }
         self.text.push_str(text)
     }
-}
-
-fn replied(
-    alloc: Global,
-    code: &ScriptCode,
-    asks: Asks<Any, AnyRead, Local>,
-    replies: &Replies,
-) -> Result<Local, AllocError> {
-    let Asks { request, at } = asks;
-    let reply = reply_to(alloc, &request, replies)?;
-    resumed(alloc, code, at, reply)
 }
 
 fn reply_to(

@@ -65,7 +65,17 @@ pub fn resumed(
     code.resume(alloc, at, reply)
 }
 
-/// The same, of a local state that stays as it is.
+/// The local state after a freeze, with the content where it stands.
+pub fn resumed_on(
+    alloc: Global,
+    code: &ScriptCode,
+    at: Local,
+    content: &Any,
+) -> Result<Local, AllocError> {
+    code.resume_on(alloc, at, content)
+}
+
+/// The local state after a reply, where the one before it stays as it is.
 pub fn resumed_beside(
     alloc: Global,
     code: &ScriptCode,

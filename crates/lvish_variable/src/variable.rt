@@ -142,8 +142,15 @@ impl<L: Lattice> Variable<L> {
         ensures refused { IfErr result (λ _. self.new ≡ self.old) }
     {
         let state = self.state.copy(alloc)?;
-        self.frozen = true;
+        self.mark();
         Ok(state)
+    }
+
+    /// Freezes the variable, for one who reads its state where it stands.
+    pub fn mark(&mut self)
+        ensures { self.new ≡ record { state = self.old.state; frozen = true; log = self.old.log } }
+    {
+        self.frozen = true;
     }
 
     /// The state, whether it is frozen, and the log, without a copy.

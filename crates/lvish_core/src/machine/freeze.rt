@@ -11,11 +11,11 @@ use crate::ending::close;
 use crate::fault::{StepFault, Stepped};
 use crate::limits::MOST_STEPS;
 use crate::moved::Moved;
-use crate::resumed::resumed;
+use crate::resumed::resumed_on;
 use crate::stage::TaskNumbers;
 use crate::touched::Touched;
 use lvish_calculus::laws::lawful;
-use lvish_calculus::{Meaning, Program, Reply};
+use lvish_calculus::{Meaning, Program};
 use lvish_lattice::Lattice;
 use lvish_names::TaskName;
 use lvish_picture::laws::{counts_kept, freeze_kept};
@@ -39,10 +39,9 @@ impl<'p, P: Program> Core<'p, P> {
         lawful::<P>();
         freeze_kept::<P>();
         counts_kept::<P>();
-        let state = self.variables[variable].state().copy(alloc)?;
-        let reply = Reply::Content(state);
-        let (stage, own) = resumed(self.program, alloc, at, reply, numbers)?;
-        freeze_at(&mut self.variables, alloc, variable)?;
+        let content = self.variables[variable].state();
+        let (stage, own) = resumed_on(self.program, alloc, at, content, numbers)?;
+        freeze_at(&mut self.variables, variable);
         close(
             &mut self.tasks,
             &mut self.steps,

@@ -1,6 +1,7 @@
 //! A counter that one task waits for and another raises.
 
 ghost use Rattle.std.specs.Prelude.{◌≡◌, IfOk};
+ghost use Rattle.lvish_calculus.specs.declared.request.Reply.TheVariants.{Content};
 ghost use Rattle.lvish_core_tests.specs.Toys.{gone_on};
 
 use super::bench::run;
@@ -88,6 +89,13 @@ impl Program for Climbing {
         ensures { IfOk result (λ l. l ≡ gone_on at reply) }
     {
         Ok(after(at, reply))
+    }
+
+    fn resume_on(&self, alloc: Global, at: At, content: &MaxCounter) -> Result<At, AllocError>
+        ensures { IfOk result (λ l. l ≡ gone_on at (Content content.now)) }
+    {
+        let content = content.copy(alloc)?;
+        Ok(after(at, Reply::Content(content)))
     }
 
     ghost identical = { pairs_identical _ _ nat_identical int_identical _ (λ p q. refl) };

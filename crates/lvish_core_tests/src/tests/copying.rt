@@ -1,6 +1,7 @@
 //! A handler's tasks copy a set into another one.
 
 ghost use Rattle.std.specs.Prelude.{◌≡◌, IfOk};
+ghost use Rattle.lvish_calculus.specs.declared.request.Reply.TheVariants.{Content};
 ghost use Rattle.lvish_core_tests.specs.Toys.{copying_asks, gone_on, main_asks};
 
 use super::bench::{Call, run};
@@ -100,6 +101,13 @@ impl Program for Copying {
         ensures { IfOk result (λ l. l ≡ gone_on at reply) }
     {
         Ok(after(at, reply))
+    }
+
+    fn resume_on(&self, alloc: Global, at: At, content: &Any) -> Result<At, AllocError>
+        ensures { IfOk result (λ l. l ≡ gone_on at (Content content.now)) }
+    {
+        let content = content.copy(alloc)?;
+        Ok(after(at, Reply::Content(content)))
     }
 
     ghost identical = { pairs_identical _ _ nat_identical int_identical _ (λ p q. refl) };

@@ -1,6 +1,7 @@
 //! A set that one task freezes and another puts into, and a set that is put into without end.
 
 ghost use Rattle.std.specs.Prelude.{◌≡◌, IfOk};
+ghost use Rattle.lvish_calculus.specs.declared.request.Reply.TheVariants.{Content};
 ghost use Rattle.lvish_core_tests.specs.Toys.{gone_on};
 
 use super::bench::{many, run};
@@ -83,6 +84,13 @@ impl Program for Freezing {
         ensures { IfOk result (λ l. l ≡ gone_on at reply) }
     {
         Ok(after(at, reply))
+    }
+
+    fn resume_on(&self, alloc: Global, at: At, content: &Any) -> Result<At, AllocError>
+        ensures { IfOk result (λ l. l ≡ gone_on at (Content content.now)) }
+    {
+        let content = content.copy(alloc)?;
+        Ok(after(at, Reply::Content(content)))
     }
 
     ghost identical = { pairs_identical _ _ nat_identical int_identical _ (λ p q. refl) };

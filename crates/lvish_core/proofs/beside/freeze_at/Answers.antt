@@ -6,5 +6,5 @@ pub returns : goal.returns
 returns g c = record {
   from = _;
   was = slice_get-get_or c.args.variables.now c.args.number c.index-variables-number.result c.requires;
-  is = ap (λ x. slice_set c.args.variables.now c.args.number x) c.in_ok-freeze.ensures.frozen;
+  is = ap (λ x. slice_set c.args.variables.now c.args.number x) c.mark.ensures;
 }
