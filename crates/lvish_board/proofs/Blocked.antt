@@ -34,7 +34,7 @@ none_of : {X : Type 0} (o : Option X) → (IsSome o → ⊥) → o ≡ None
 none_of None never = refl
 none_of (Some x) never = absurd (never refl)
 
-some_of : {X : Type 0} (o : Option X) → IsSome o → (x : X) × (o ≡ Some x)
+pub some_of : {X : Type 0} (o : Option X) → IsSome o → (x : X) × (o ≡ Some x)
 some_of None s = absurd (false≢true s)
 some_of (Some x) s = (x, refl)
 

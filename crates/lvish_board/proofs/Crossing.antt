@@ -1,15 +1,12 @@
 -- Tickets, requests and a board may go to another thread where the program may be seen from one, and its
 -- states, reads, local states and events may go there. Each fact is one step of a search, which would else go
 -- down all links of each name.
-use mathlib.Core.List.{[], ◌∷◌}
-use denote.Builtin.{usize}
 use denote.Hole.{as_row}
 use denote.Param.Send.{IsSend, IsSync, sendable, view_send}
 use denote.Param.SendFields.{as_row_send, declared_send, variants_send}
 use denote.RattleType.{RattleType}
 use denote.Ref.{NamedLft}
 use denote.Struct.Field.{row_field, u32-field, u64-field}
-use denote.Struct.Tuple.{Tuple}
 use Rattle.std.proofs.Crossing.{crosses}
 use Rattle.std.proofs.MapsCrossing as maps
 use Rattle.std.specs.contracts.alloc.Global as Global
@@ -45,8 +42,8 @@ use Rattle.lvish_board.specs.contracts.parked.Parked as Parked
 use Rattle.lvish_board.specs.contracts.parked.Parked.TheInside as inside_parked
 use Rattle.lvish_board.specs.contracts.place.Place as Place
 use Rattle.lvish_board.specs.contracts.room.Room as Room
+use Rattle.lvish_board.specs.contracts.shelves.BySpot as BySpot
 use Rattle.lvish_board.specs.contracts.shelves.ByVariable as ByVariable
-use Rattle.lvish_board.specs.contracts.shelves.Shelves as Shelves
 use Rattle.lvish_board.specs.contracts.ticket.Ticket as Ticket
 use Rattle.lvish_board.specs.contracts.ticket.Ticket.TheInside as inside_ticket
 use Rattle.lvish_board.specs.declared.named.Named as named
@@ -60,11 +57,11 @@ index_send = search sendable depth 20
 trace_send : IsSend (Vec.the_row Noted.the_row Global.the_row ghosts)
 trace_send = search (crosses, sendable) depth 24
 
-shelves_send : (K : RattleType) → IsSend K → (g : same.Ghosts K.Denot) (h : hash.Ghosts K.Denot) → IsSend (Shelves.the_row K g h)
-shelves_send K k g h = search (crosses, maps.crosses, sendable) depth 30
+spots_send : (K : RattleType) → IsSend K → (g : same.Ghosts K.Denot) (h : hash.Ghosts K.Denot) → IsSend (BySpot.the_row K g h)
+spots_send K k g h = search (crosses, maps.crosses, sendable) depth 30
 
-freezes_send : IsSend (as_row ByVariable.the_field)
-freezes_send = search (crosses, sendable) depth 30
+lists_send : IsSend (as_row ByVariable.the_field)
+lists_send = search (crosses, sendable) depth 30
 
 module _ (E : RattleType) (s : IsSend E) (y : IsSync E) where
   name : IsSend (TaskName.the_row E)
@@ -108,22 +105,21 @@ module _ (E : RattleType) (s : IsSend E) (y : IsSync E) where
     by_index_send : IsSend (ByIndex.the_row P J S L R A W E p s3 s1 s2 e1 e3 e4 e5 w1 w2 w3 w4 l1 n o)
     by_index_send = search (asked_send, crosses, sendable) depth 30
 
-    module _ (sW : IsSend W) (w0 : equal.Ghosts W.Denot) where
-      parked_send : IsSend (Parked.the_row P J S L R A W E p s3 s1 s2 e1 e3 e4 e5 w1 w0 w2 w3 w4 l1 n o)
+    module _ (sW : IsSend W) where
+      parked_send : IsSend (Parked.the_row P J S L R A W E p s3 s1 s2 e1 e3 e4 e5 w1 w2 w3 w4 l1 n o)
       parked_send =
-          let key : IsSend (Tuple (usize ∷ Option.the_row W ∷ [])) = search sendable depth 20 in
-          view_send (inside_parked.the_row P J S L R A W E p s3 s1 s2 e1 e3 e4 e5 w1 w0 w2 w3 w4 l1 n o) _ _ _ _
-          (declared_send (inside_parked.the_type P J S L R A W E p s3 s1 s2 e1 e3 e4 e5 w1 w0 w2 w3 w4 l1 n o)
-          (as_row_send (ByIndex.the_field P J S L R A W E p s3 s1 s2 e1 e3 e4 e5 w1 w2 w3 w4 l1 n o) by_index_send, (shelves_send _ key _ _, (freezes_send, tt))))
+          view_send (inside_parked.the_row P J S L R A W E p s3 s1 s2 e1 e3 e4 e5 w1 w2 w3 w4 l1 n o) _ _ _ _
+          (declared_send (inside_parked.the_type P J S L R A W E p s3 s1 s2 e1 e3 e4 e5 w1 w2 w3 w4 l1 n o)
+          (as_row_send (ByIndex.the_field P J S L R A W E p s3 s1 s2 e1 e3 e4 e5 w1 w2 w3 w4 l1 n o) by_index_send, (lists_send, (spots_send W sW _ _, (lists_send, tt)))))
 
       newest_send : IsSend (Newest.the_row P J S L R A W E p s3 s1 s2 e1 e3 e4 e5 w1 w2 w3 w4 l1 n o)
       newest_send = search (history_send, stamp_send, crosses, sendable) depth 30
 
-      pub board_send : (a : NamedLft) → IsSync P → IsSend (Board.the_row a P J S L R A W E p s3 s1 s2 e1 e2 e3 e4 e5 w1 w0 w2 w3 w4 l1 n o)
+      pub board_send : (a : NamedLft) → IsSync P → IsSend (Board.the_row a P J S L R A W E p s3 s1 s2 e1 e2 e3 e4 e5 w1 w2 w3 w4 l1 n o)
       board_send a yP =
           let core = as_row_send (Core.the_field a P S L R A W E p s3 s1 s2 e1 e2 e3 e4 e5 w1 w2 w3 w4 l1) (core_send E s y S sS e1 e2 e3 e4 e5 s1 s2 P L R A W p s3 w1 w2 w3 w4 l1 a yP sL) in
           let newest = as_row_send (Newest.the_field P J S L R A W E p s3 s1 s2 e1 e3 e4 e5 w1 w2 w3 w4 l1 n o) newest_send in
-          let parked = as_row_send (Parked.the_field P J S L R A W E p s3 s1 s2 e1 e3 e4 e5 w1 w0 w2 w3 w4 l1 n o) parked_send in
-          view_send (inside_board.the_row a P J S L R A W E p s3 s1 s2 e1 e2 e3 e4 e5 w1 w0 w2 w3 w4 l1 n o) _ _ _ _
-          (declared_send (inside_board.the_type a P J S L R A W E p s3 s1 s2 e1 e2 e3 e4 e5 w1 w0 w2 w3 w4 l1 n o)
+          let parked = as_row_send (Parked.the_field P J S L R A W E p s3 s1 s2 e1 e3 e4 e5 w1 w2 w3 w4 l1 n o) parked_send in
+          view_send (inside_board.the_row a P J S L R A W E p s3 s1 s2 e1 e2 e3 e4 e5 w1 w2 w3 w4 l1 n o) _ _ _ _
+          (declared_send (inside_board.the_type a P J S L R A W E p s3 s1 s2 e1 e2 e3 e4 e5 w1 w2 w3 w4 l1 n o)
           (core, (newest, (trace_send, (number_send, (over_send, (parked, (room_send, tt))))))))

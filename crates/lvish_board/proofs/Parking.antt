@@ -1,5 +1,5 @@
 -- One more is parked.
-use Rattle.std.proofs.Common.{◌≡◌, ◌⊎◌, ◌↔◌, inl, inr, ℕ, List, [], ◌∷◌, ◌++◌, Result, Ok, Err, IfOk, IfErr, refl, sym, ap, subst, ◌∙◌, append-nil}
+use Rattle.std.proofs.Common.{◌≡◌, ◌⊎◌, ◌↔◌, inl, inr, ℕ, List, [], ◌∷◌, ◌++◌, Result, Ok, Err, IfOk, OnErr, refl, sym, ap, subst, ◌∙◌, append-nil}
 use Rattle.std.specs.Prelude.{slice_get}
 use Rattle.std.proofs.lemmas.List.{map-append}
 use Rattle.std.proofs.lemmas.Option.{same_Some}
@@ -68,29 +68,29 @@ module _ {E L : Type 0} where
       )
 
   -- of an answer to the parking of one more: what is parked is that one, or was parked before
-  pub parked_or_before : {R : Type 0} (r : Result R (TaskPlace E L)) (i : ℕ) (p : TaskPlace E L) (es fs : List (ℕ × TaskPlace E L)) → IfOk r (λ _. fs ≡ es ++ (i, p) ∷ []) → IfErr r (λ a. (a ≡ p) × (fs ≡ es)) → (e : ℕ × TaskPlace E L) → IsAmong e fs → (e ≡ (i, p)) ⊎ IsAmong e es
-  parked_or_before (Ok x) i p es fs one none e a = elim (either_among e es ((i, p) ∷ []) (subst (λ xs. IsAmong e xs) one a)) [
+  pub parked_or_before : {R X : Type 0} (Y : Type 0) (r : Result R X) (i : ℕ) (p : TaskPlace E L) (es fs : List (ℕ × TaskPlace E L)) → IfOk r (λ _. fs ≡ es ++ (i, p) ∷ []) → OnErr r (Y × (fs ≡ es)) → (e : ℕ × TaskPlace E L) → IsAmong e fs → (e ≡ (i, p)) ⊎ IsAmong e es
+  parked_or_before Y (Ok x) i p es fs one none e a = elim (either_among e es ((i, p) ∷ []) (subst (λ xs. IsAmong e xs) one a)) [
     | inl old ↦ inr old
     | inr new ↦ elim new [
       | inl is ↦ inl is
       | inr k ↦ absurd k
     ]
   ]
-  parked_or_before (Err x) i p es fs one none e a = inr (subst (λ xs. IsAmong e xs) none.1 a)
+  parked_or_before Y (Err x) i p es fs one none e a = inr (subst (λ xs. IsAmong e xs) none.1 a)
 
   -- where the answer is not an error, it is parked beside the others
-  pub beside_if_ok : {R : Type 0} (r : Result R (TaskPlace E L)) (i : ℕ) (p : TaskPlace E L) (es fs : List (ℕ × TaskPlace E L)) → (IsAmong p.task (tasks_of (places_of es)) → ⊥) → IfOk r (λ _. fs ≡ es ++ (i, p) ∷ []) → IfOk r (λ _. IsParkedBeside (places_of es) p (places_of fs))
+  pub beside_if_ok : {R X : Type 0} (r : Result R X) (i : ℕ) (p : TaskPlace E L) (es fs : List (ℕ × TaskPlace E L)) → (IsAmong p.task (tasks_of (places_of es)) → ⊥) → IfOk r (λ _. fs ≡ es ++ (i, p) ∷ []) → IfOk r (λ _. IsParkedBeside (places_of es) p (places_of fs))
   beside_if_ok (Ok x) i p es fs absent one = beside_others p (places_of es) (places_of fs) absent (λ q. subst (λ xs. IsAmong q (places_of xs) ↔ ((q ≡ p) ⊎ IsAmong q (places_of es))) (sym one) (among_pushed p q i es))
   beside_if_ok (Err x) i p es fs absent one = tt
 
   -- and no task is parked twice
-  pub once_beside : {R : Type 0} (r : Result R (TaskPlace E L)) (i : ℕ) (p : TaskPlace E L) (es fs : List (ℕ × TaskPlace E L)) → (IsAmong p.task (tasks_of (places_of es)) → ⊥) → NoRepeats (tasks_of (places_of es)) → IfOk r (λ _. fs ≡ es ++ (i, p) ∷ []) → IfErr r (λ a. (a ≡ p) × (fs ≡ es)) → NoRepeats (tasks_of (places_of fs))
-  once_beside (Ok x) i p es fs absent once one none =
+  pub once_beside : {R X : Type 0} (Y : Type 0) (r : Result R X) (i : ℕ) (p : TaskPlace E L) (es fs : List (ℕ × TaskPlace E L)) → (IsAmong p.task (tasks_of (places_of es)) → ⊥) → NoRepeats (tasks_of (places_of es)) → IfOk r (λ _. fs ≡ es ++ (i, p) ∷ []) → OnErr r (Y × (fs ≡ es)) → NoRepeats (tasks_of (places_of fs))
+  once_beside Y (Ok x) i p es fs absent once one none =
       let places : places_of (es ++ (i, p) ∷ []) ≡ places_of es ++ p ∷ [] = map-append (λ (e : ℕ × TaskPlace E L). e.1) es ((i, p) ∷ []) in
       let tasks : tasks_of (places_of fs) ≡ tasks_of (places_of es) ++ p.task ∷ [] = ap (λ xs. tasks_of (places_of xs)) one ∙ ap (λ ps. tasks_of ps) places ∙ map-append (λ (q : TaskPlace E L). q.task) (places_of es) (p ∷ []) in
       let empty = append-nil (tasks_of (places_of es)) in
       subst (λ ts. NoRepeats ts) (sym tasks) (once_more p.task (tasks_of (places_of es)) [] (λ a. absent (subst (λ ts. IsAmong p.task ts) empty a)) (subst (λ ts. NoRepeats ts) (sym empty) once))
-  once_beside (Err x) i p es fs absent once one none = subst (λ xs. NoRepeats (tasks_of (places_of xs))) (sym none.1) once
+  once_beside Y (Err x) i p es fs absent once one none = subst (λ xs. NoRepeats (tasks_of (places_of xs))) (sym none.1) once
 
   -- a task whose index is that of none that is parked is not parked
   pub not_parked : (i : ℕ) (t : Name E) (es : List (ℕ × TaskPlace E L)) → ((e : ℕ × TaskPlace E L) → IsAmong e es → (e.1.task ≡ t) ↔ (e.0 ≡ i)) → (IsAmong i (indices_of es) → ⊥) → IsAmong t (tasks_of (places_of es)) → ⊥

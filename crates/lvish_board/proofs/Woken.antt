@@ -11,6 +11,10 @@ only : {E : Type 0} (e x : E) → Contains (e ∷ []) x → e ≡ x
 only e x (zero, lt, same) = same
 only e x (suc k, lt, same) = absurd (omega (arith, lt))
 
+none_or_some : {W : Type 0} (k : Option W) → (k ≡ None) ⊎ ((w : W) × (k ≡ Some w))
+none_or_some None = inl refl
+none_or_some (Some w) = inr (w, refl)
+
 module _ {E W : Type 0} (spot_of : E → W) where
   at_none : (k : Option W) → MayAnswer spot_of k [] → k ≡ None
   at_none None may = refl
@@ -26,17 +30,25 @@ module _ {E W : Type 0} (spot_of : E → W) where
 
 module _ {S E R L W : Type 0} (spot_of : E → W) (watched : R → Option W) where
   -- without an entry a put may wake the gets that wait at no spot alone
-  pub may_first : (v : ℕ) (q : Request S R L) → MayWake spot_of watched (Some (Put v)) [] q → WaitsAt watched (v, None) q
+  pub may_first : (v : ℕ) (q : Request S R L) → MayWake spot_of watched (Some (Put v)) [] q → WaitsAt watched v None q
   may_first v (Get w r) may = (may.0, at_none spot_of (watched r) may.1)
   may_first v q may = absurd may
 
   -- and with an entry more those that wait at its spot
-  pub may_more : (v : ℕ) (es : List (Entry E)) (e : Entry E) (q : Request S R L) → MayWake spot_of watched (Some (Put v)) (es ++ e ∷ []) q → MayWake spot_of watched (Some (Put v)) es q ⊎ WaitsAt watched (v, Some (spot_of e.event)) q
+  pub may_more : (v : ℕ) (es : List (Entry E)) (e : Entry E) (q : Request S R L) → MayWake spot_of watched (Some (Put v)) (es ++ e ∷ []) q → MayWake spot_of watched (Some (Put v)) es q ⊎ WaitsAt watched v (Some (spot_of e.event)) q
   may_more v es e (Get w r) may = elim (at_more spot_of (watched r) es e may.1) [
     | inl old ↦ inl (may.0, old)
     | inr at ↦ inr (may.0, at)
   ]
   may_more v es e q may = absurd may
+
+  -- a get that a put may wake waits at its variable, at a spot or at none
+  pub may_at : (v : ℕ) (es : List (Entry E)) (q : Request S R L) → MayWake spot_of watched (Some (Put v)) es q → WaitsAt watched v None q ⊎ ((w : W) × WaitsAt watched v (Some w) q)
+  may_at v es (Get u r) may = elim (none_or_some (watched r)) [
+    | inl e ↦ inl (may.0, e)
+    | inr at ↦ inr (at.0, (may.0, at.1))
+  ]
+  may_at v es q may = absurd may
 
   -- a handing wakes no others than the end of a task in a pool of the variable
   pub may_end : (v : ℕ) (es fs : List (Entry E)) (q : Request S R L) → MayWake spot_of watched (Some (Ended v)) es q → MayWake spot_of watched (Some (Handed v)) fs q

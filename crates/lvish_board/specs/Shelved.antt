@@ -1,8 +1,7 @@
 -- Lists under keys, and which list a parked task is on.
-use Rattle.std.specs.Prelude.{◌≡◌, ◌&&◌, ℕ, Bool, List, [], Option, Some, None, nat_eq, slice_get}
+use Rattle.std.specs.Prelude.{◌≡◌, ℕ, Bool, List, [], Option, Some, None, slice_get}
 use Rattle.smallvec.specs.SmallVec.{SmallVec}
 use Rattle.std.specs.HashMap.{HashMap, get}
-use Rattle.std.specs.Option.{option_eq}
 use Rattle.lvish_board.specs.Vocabulary.{Request, Get, Freeze}
 use Rattle.lvish_calculus.specs.Handing.{IsAmong}
 
@@ -19,17 +18,27 @@ shelf eq lists k = list_items (get eq lists k)
 abbrev pub list_at : {T : Type 0} → List (SmallVec T) → ℕ → List T
 list_at lists v = list_items (slice_get lists v)
 
--- whether the variables and the spots at them are the same
-abbrev pub same_spot : {W : Type 0} → (W → W → Bool) → (ℕ × Option W) → (ℕ × Option W) → Bool
-same_spot eq x y = nat_eq x.0 y.0 && option_eq eq x.1 y.1
+-- what lies under the key in a table: nothing where there is none
+abbrev pub shelf_of : {K T H : Type 0} → (K → K → Bool) → Option (HashMap K (SmallVec T) H) → K → List T
+shelf_of eq None k = []
+shelf_of eq (Some lists) k = shelf eq lists k
 
--- the index is on the list of what the request waits for: a get's by its variable and its spot, a freeze's by its variable
-abbrev pub IsOnItsList : {S R L W H : Type 0} → (W → W → Bool) → (R → Option W) → HashMap (ℕ × Option W) (SmallVec ℕ) H → List (SmallVec ℕ) → Request S R L → ℕ → Type 0
-IsOnItsList eq watched gets freezes (Get v r) t = IsAmong t (shelf (same_spot eq) gets (v, watched r))
-IsOnItsList eq watched gets freezes (Freeze v pools) t = IsAmong t (list_at freezes v)
-IsOnItsList eq watched gets freezes _ t = ⊥
+-- what lies at the variable under the key
+abbrev pub shelf_at : {K T H : Type 0} → (K → K → Bool) → List (HashMap K (SmallVec T) H) → ℕ → K → List T
+shelf_at eq tables v k = shelf_of eq (slice_get tables v) k
 
--- the request is a get that waits here
-abbrev pub WaitsAt : {S R L W : Type 0} → (R → Option W) → (ℕ × Option W) → Request S R L → Type 0
-WaitsAt watched key (Get v r) = (v ≡ key.0) × (watched r ≡ key.1)
-WaitsAt watched key _ = ⊥
+-- what lies where a get of the variable waits, at a spot or at none
+abbrev pub get_list : {W T H : Type 0} → (W → W → Bool) → List (SmallVec T) → List (HashMap W (SmallVec T) H) → ℕ → Option W → List T
+get_list eq whole spots v None = list_at whole v
+get_list eq whole spots v (Some w) = shelf_at eq spots v w
+
+-- the index is on the list of what the request waits for: a get's by its variable, and its spot if it has one, a freeze's by its variable
+abbrev pub IsOnItsList : {S R L W H : Type 0} → (W → W → Bool) → (R → Option W) → List (SmallVec ℕ) → List (HashMap W (SmallVec ℕ) H) → List (SmallVec ℕ) → Request S R L → ℕ → Type 0
+IsOnItsList eq watched whole spots freezes (Get v r) t = IsAmong t (get_list eq whole spots v (watched r))
+IsOnItsList eq watched whole spots freezes (Freeze v pools) t = IsAmong t (list_at freezes v)
+IsOnItsList eq watched whole spots freezes _ t = ⊥
+
+-- the request is a get of the variable that waits at this spot, or at none
+abbrev pub WaitsAt : {S R L W : Type 0} → (R → Option W) → ℕ → Option W → Request S R L → Type 0
+WaitsAt watched v spot (Get w r) = (w ≡ v) × (watched r ≡ spot)
+WaitsAt watched v spot _ = ⊥

@@ -110,7 +110,7 @@ impl<P: Program, J: Named<P>> Asked<P, J> {
     ) -> Result<(Stepped, Moved<<P::Lat as Lattice>::Event, P::Local>), StepFault>
         requires program { core.old.program ≡ J.program }
         requires live { ⟦<P as CoreMeaning>⟧.is_live core.old self.old.task self.old.from numbers }
-        ensures stepped { MatchResult result (λ s. ⟦<P as CoreMeaning>⟧.is_step core.old (Act self.old.task) core.new s.0) (λ _. core.new ≡ core.old) }
+        ensures stepped { MatchResult result (λ s. ⟦<P as CoreMeaning>⟧.is_step core.old (Act self.old.task) core.new s.0) (λ e. ⟦<P as CoreMeaning>⟧.is_refused core.old (Act self.old.task) e × (core.new ≡ core.old)) }
         ensures moved { IfOk result (λ s. ⟦<P as CoreMeaning>⟧.is_moved core.old (Act self.old.task) s.1) }
         ensures same { self.new ≡ self.old }
     {
@@ -128,11 +128,12 @@ impl<P: Program, J: Named<P>> Asked<P, J> {
         )
     }
 
-    /// Gives back the local state in which it asks, of which no use is made as long as it is blocked.
-    pub(crate) fn rest(&mut self)
+    /// Gives away the local state in which it asks, of which no use is made as long as it is blocked.
+    #[inline(always)]
+    pub(crate) fn rest(&mut self) -> Option<P::Local>
         ensures { self.new ≡ self.old }
     {
-        self.at = None;
+        self.at.take()
     }
 
     /// Makes the local state in which it asks anew, where it was given back, so that its step needn't. It

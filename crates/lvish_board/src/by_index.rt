@@ -1,11 +1,12 @@
 //! The parked tasks, by index.
 
-ghost use Rattle.std.specs.Prelude.{◌≡◌, ◌+◌, ◌<◌, ◌≤◌, ◌↔◌, ◌++◌, ◌∷◌, [], ℕ, Some, IfOk, IfErr, OnOk, IsTrue, MatchOption, length, slice_get, vec_len, vec_capacity};
+ghost use Rattle.std.specs.Prelude.{◌≡◌, ◌+◌, ◌<◌, ◌≤◌, ◌↔◌, ◌++◌, ◌∷◌, [], ℕ, Some, IfOk, IsSome, OnOk, OnErr, IsTrue, MatchOption, length, slice_get, vec_len, vec_capacity};
 ghost use Rattle.std.specs.List.{swap_remove};
 ghost use Rattle.lvish_calculus.specs.declared.label.Label.TheVariants.{Act};
 ghost use Rattle.lvish_calculus.specs.Handing.{IsAmong, NoRepeats};
 ghost use Rattle.lvish_board.specs.Place.{TaskPlace};
 ghost use Rattle.lvish_board.specs.Seated.{AreWithin, HasIndexAmong, indices_of, places_of};
+ghost use Rattle.lvish_board.specs.Shelved.{shelf};
 ghost use Rattle.lvish_board.specs.Standing.{tasks_of};
 ghost use Rattle.lvish_board.specs.Waking.{Wakes};
 
@@ -15,6 +16,8 @@ use lvish_calculus::Program;
 use lvish_core::{Core, CoreMeaning};
 use smallvec::SmallVec;
 use std::alloc::{AllocError, Global};
+use std::collections::HashMap;
+use std::hash::Hash;
 use std::marker::Model;
 
 /// The parked tasks, each with its index, in any order.
@@ -82,18 +85,25 @@ impl<P: Program, J: Named<P>> ByIndex<P, J> {
         self.find(index).is_some()
     }
 
-    /// Parks a task that isn't there.
+    /// Parks a task that isn't there, out of its place.
     ///
     /// # Errors
     ///
-    /// Where there is no room for it, what was to be parked; nothing has changed.
-    pub(crate) fn insert(&mut self, index: usize, asked: Asked<P, J>) -> Result<(), Asked<P, J>>
-        requires { IsAmong index (indices_of self.old) → ⊥ }
-        ensures ok { IfOk result (λ _. self.new ≡ self.old ++ (index, asked) ∷ []) }
-        ensures err { IfErr result (λ a. (a ≡ asked) × (self.new ≡ self.old)) }
+    /// Where there is no room for it; nothing has changed.
+    #[inline(always)]
+    pub(crate) fn insert(
+        &mut self,
+        index: usize,
+        place: &mut Option<Asked<P, J>>,
+    ) -> Result<(), AllocError>
+        requires there { IsSome place.old }
+        requires absent { IsAmong index (indices_of self.old) → ⊥ }
+        ensures ok { (a : TaskPlace P.Lat.Event P.Local) → place.old ≡ Some a → IfOk result (λ _. self.new ≡ self.old ++ (index, a) ∷ []) }
+        ensures err { OnErr result ((place.new ≡ place.old) × (self.new ≡ self.old)) }
     {
-        let Ok(()) = reserve_at(&mut self.asked, &mut self.seats, index) else {
-            return Err(asked);
+        reserve_at(&mut self.asked, &mut self.seats, index)?;
+        let Some(asked) = place.take() else {
+            unreachable!()
         };
         self.seats[index] = self.asked.len();
         self.asked.push_reserved((index, asked));
@@ -166,6 +176,31 @@ impl<P: Program, J: Named<P>> ByIndex<P, J> {
             if self.wake(core, indices.as_slice()[next], woken) {
                 indices.swap_remove(next);
             }
+        }
+    }
+
+    /// Takes out those of the tasks whose indices lie under this key that can go on, and leaves the indices of
+    /// the others.
+    #[inline(always)]
+    pub(crate) fn wake_under<K: Eq + Hash + Drop>(
+        &mut self,
+        core: &Core<'_, P>,
+        lists: &mut HashMap<K, SmallVec<usize, 2>>,
+        key: &K,
+        woken: &mut Vec<Asked<P, J>>,
+    )
+        requires program { core.now.program ≡ J.program }
+        requires current { (p : TaskPlace P.Lat.Event P.Local) → IsAmong p (places_of self.old) → ⟦<P as CoreMeaning>⟧.local_in core.now p.task ≡ Some p.from }
+        requires once { NoRepeats (tasks_of (places_of self.old)) }
+        requires room { vec_len woken.old + length self.old ≤ vec_capacity woken.old }
+        ensures wakes { Wakes (λ p. ⟦<P as CoreMeaning>⟧.can_take core.now (Act p.task)) (HasIndexAmong (shelf K.eq lists.old key.now) self.old) (places_of self.old) (places_of self.new) woken.old.items woken.new.items }
+        ensures left { (q : K) (i : ℕ) → IsAmong i (indices_of self.new) → IsAmong i (shelf K.eq lists.old q) → IsAmong i (shelf K.eq lists.new q) }
+        ensures once { NoRepeats (tasks_of (places_of self.new)) }
+        ensures within { AreWithin self.new self.old }
+        ensures capacity { vec_capacity woken.new ≡ vec_capacity woken.old }
+    {
+        if let Some(indices) = lists.get_mut(key) {
+            self.wake_each(core, indices, woken);
         }
     }
 }

@@ -1,6 +1,6 @@
 //! The parked tasks.
 
-ghost use Rattle.std.specs.Prelude.{◌≡◌, ◌+◌, ◌≤◌, ◌⊎◌, ◌↔◌, [], ℕ, None, Some, Option, IfOk, IfErr, OnOk, length, vec_len, vec_capacity};
+ghost use Rattle.std.specs.Prelude.{◌≡◌, ◌+◌, ◌≤◌, ◌⊎◌, ◌↔◌, [], ℕ, List, None, Some, Option, IfOk, IsSome, IsFalse, OnOk, OnErr, length, vec_len, vec_capacity};
 ghost use Rattle.std.specs.List.Sorted.{IsPermutation, IsSortedBy, IsStrictlySortedBy};
 ghost use Rattle.std.specs.Ordering.{is_lt};
 ghost use Rattle.lvish_names.specs.NameOrder.{name_cmp};
@@ -10,29 +10,31 @@ ghost use Rattle.lvish_board.specs.Place.{TaskPlace};
 ghost use Rattle.lvish_board.specs.Seated.{AreWithin, places_of};
 ghost use Rattle.lvish_board.specs.Standing.{tasks_of};
 ghost use Rattle.lvish_board.specs.Waking.{Wakes};
-ghost use Rattle.lvish_board.specs.Shelved.{WaitsAt};
+ghost use Rattle.lvish_board.specs.Shelved.{IsOnItsList, WaitsAt};
 ghost use Rattle.lvish_core.specs.declared.touched.Touched.TheVariants.{Put, Handed};
 ghost use Rattle.lvish_board.specs.Woken.{IsWaiting, IsParkedBeside, IsWoken, MayWake};
 
 use crate::asked::Asked;
 use crate::by_index::ByIndex;
 use crate::named::Named;
-use crate::shelves::{ByVariable, Shelves};
+use crate::shelves::{BySpot, ByVariable};
 use lvish_calculus::{Program, Request};
 use lvish_core::{Core, CoreMeaning, Touched};
 use lvish_lattice::{Lattice, Reads};
 use lvish_names::TaskName;
 use lvish_variable::Entry;
-use std::alloc::Global;
+use std::alloc::{AllocError, Global};
 use std::cmp::Ordering;
 use std::marker::Model;
 
 /// The parked tasks, each once, and on one list each.
 pub(crate) struct Parked<P: Program, J: Named<P>> {
     tasks: ByIndex<P, J>,
-    /// By the variable and the spot at which they wait.
-    gets: Shelves<(usize, Option<<P::Lat as Reads>::Spot>)>,
-    /// By the variable.
+    /// The gets that wait at no spot, by the variable.
+    whole: ByVariable,
+    /// The other gets, by the variable and the spot at which they wait.
+    spots: BySpot<<P::Lat as Reads>::Spot>,
+    /// The freezes, by the variable.
     freezes: ByVariable,
 }
 
@@ -41,7 +43,8 @@ impl<P: Program, J: Named<P>> Drop for Parked<P, J> {
     fn drop(self) {
         let Parked {
             tasks: _,
-            gets: _,
+            whole: _,
+            spots: _,
             freezes: _,
         } = self;
     }
@@ -57,7 +60,7 @@ impl<P: Program, J: Named<P>> Model for Parked<P, J> {
 
     ghost view = { λ p. p.tasks };
 
-    ghost invariant = { λ p. (e : ℕ × TaskPlace P.Lat.Event P.Local) → IsAmong e p.tasks → IsOnItsList P.Lat.Spot.eq P.Lat.watched p.gets.lists p.freezes.lists.items ((P.functions J.program).request e.1.from) e.0 };
+    ghost invariant = { λ p. (e : ℕ × TaskPlace P.Lat.Event P.Local) → IsAmong e p.tasks → IsOnItsList P.Lat.Spot.eq P.Lat.watched p.whole.lists.items p.spots.tables.items p.freezes.lists.items ((P.functions J.program).request e.1.from) e.0 };
 }
 
 impl<P: Program, J: Named<P>> Parked<P, J> {
@@ -67,7 +70,8 @@ impl<P: Program, J: Named<P>> Parked<P, J> {
     {
         Parked {
             tasks: ByIndex::new(alloc),
-            gets: Shelves::new(alloc),
+            whole: ByVariable::new(alloc),
+            spots: BySpot::new(alloc),
             freezes: ByVariable::new(alloc),
         }
     }
@@ -79,45 +83,43 @@ impl<P: Program, J: Named<P>> Parked<P, J> {
         self.tasks.len()
     }
 
-    /// Parks a task, in place of any at its name.
+    /// Parks a task out of its place, where none of its name is parked.
     ///
     /// # Errors
     ///
-    /// Where there is no room for it, what was to be parked; nothing has changed.
+    /// Where there is no room for it; nothing has changed.
     pub(crate) fn park(
         &mut self,
         alloc: Global,
         index: usize,
-        asked: Asked<P, J>,
-    ) -> Result<(), Asked<P, J>>
-        requires waiting { IsWaiting ((P.functions J.program).request asked.from) }
-        requires same { (q : TaskPlace P.Lat.Event P.Local) → IsAmong q (places_of self.old) → q.task ≡ asked.task → q ≡ asked }
-        requires theirs { (e : ℕ × TaskPlace P.Lat.Event P.Local) → IsAmong e self.old → (e.1.task ≡ asked.task) ↔ (e.0 ≡ index) }
+        place: &mut Option<Asked<P, J>>,
+    ) -> Result<(), AllocError>
+        requires there { IsSome place.old }
+        requires waiting { (a : TaskPlace P.Lat.Event P.Local) → place.old ≡ Some a → IsWaiting ((P.functions J.program).request a.from) }
+        requires same { (a q : TaskPlace P.Lat.Event P.Local) → place.old ≡ Some a → IsAmong q (places_of self.old) → q.task ≡ a.task → q ≡ a }
+        requires theirs { (a : TaskPlace P.Lat.Event P.Local) (e : ℕ × TaskPlace P.Lat.Event P.Local) → place.old ≡ Some a → IsAmong e self.old → (e.1.task ≡ a.task) ↔ (e.0 ≡ index) }
         requires once { NoRepeats (tasks_of (places_of self.old)) }
-        ensures ok { IfOk result (λ _. IsParkedBeside (places_of self.old) asked (places_of self.new)) }
-        ensures entries { (e : ℕ × TaskPlace P.Lat.Event P.Local) → IsAmong e self.new → (e ≡ (index, asked)) ⊎ IsAmong e self.old }
+        ensures ok { (a : TaskPlace P.Lat.Event P.Local) → place.old ≡ Some a → IfOk result (λ _. IsParkedBeside (places_of self.old) a (places_of self.new)) }
+        ensures entries { (a : TaskPlace P.Lat.Event P.Local) (e : ℕ × TaskPlace P.Lat.Event P.Local) → place.old ≡ Some a → IsAmong e self.new → (e ≡ (index, a)) ⊎ IsAmong e self.old }
         ensures once { NoRepeats (tasks_of (places_of self.new)) }
-        ensures err { IfErr result (λ a. (a ≡ asked) × (self.new ≡ self.old)) }
+        ensures err { OnErr result ((place.new ≡ place.old) × (self.new ≡ self.old)) }
     {
+        let Some(asked) = place.as_ref() else {
+            unreachable!()
+        };
         if self.tasks.has(index) {
             return Ok(());
         }
-        match asked.request() {
-            Request::Get(variable, read) => {
-                let key = (*variable, <P::Lat as Reads>::watch(read));
-                let Ok(()) = self.gets.push(alloc, key, index) else {
-                    return Err(asked);
-                };
-            }
-            Request::Freeze(variable, _) => {
-                let Ok(()) = self.freezes.push(alloc, *variable, index) else {
-                    return Err(asked);
-                };
-            }
-            _ => return Ok(()),
-        }
-        // Where this is refused the name stays on its list, and is dropped when a step looks there.
-        self.tasks.insert(index, asked)
+        list_index(
+            &mut self.whole,
+            &mut self.spots,
+            &mut self.freezes,
+            alloc,
+            index,
+            asked,
+        )?;
+        // Where this is refused the index stays on its list, and is dropped when a step looks there.
+        self.tasks.insert(index, place)
     }
 
     /// Takes out the tasks that the last step woke, in the order of their names: these entries are
@@ -140,14 +142,83 @@ impl<P: Program, J: Named<P>> Parked<P, J> {
         ensures within { AreWithin self.new self.old }
         ensures few { vec_len woken.new ≤ length self.old }
     {
-        // (small, so that a step while nothing is parked asks for no more)
+        // (small, so that a step that wakes none asks for no more)
         if self.tasks.len() == 0 {
+            return;
+        }
+        if !self.may_wake(core) {
             return;
         }
         self.wake_some(core, fresh, woken);
     }
 
-    /// Takes out the tasks that the last step woke, where some are parked.
+    /// Whether the last step may have woken a parked task.
+    #[inline(always)]
+    fn may_wake(&self, core: &Core<'_, P>) -> bool
+        requires program { core.now.program ≡ J.program }
+        requires current { (p : TaskPlace P.Lat.Event P.Local) → IsAmong p (places_of self.now) → ⟦<P as CoreMeaning>⟧.local_in core.now p.task ≡ Some p.from }
+        ensures { IsFalse result → (fresh : List (Entry P.Lat.Event)) (p : TaskPlace P.Lat.Event P.Local) → IsAmong p (places_of self.now) → MayWake P.Lat.spot_of P.Lat.watched core.now.touched fresh ((P.functions core.now.program).request p.from) → ⟦<P as CoreMeaning>⟧.can_take core.now (Act p.task) → ⊥ }
+    {
+        match core.last_touched() {
+            Some(Touched::Put(variable)) => self.may_get(variable),
+            Some(Touched::Handed(variable)) => self.may_freeze(core, variable),
+            Some(Touched::Ended(variable)) => self.may_freeze(core, variable),
+            Some(Touched::Other) => false,
+            None => false,
+        }
+    }
+
+    /// Whether a get of the variable may wait.
+    #[inline(always)]
+    fn may_get(&self, variable: usize) -> bool
+        ensures { IsFalse result → (fresh : List (Entry P.Lat.Event)) (p : TaskPlace P.Lat.Event P.Local) → IsAmong p (places_of self.now) → MayWake P.Lat.spot_of P.Lat.watched (Some (Put variable)) fresh ((P.functions J.program).request p.from) → ⊥ }
+    {
+        if self.has_spots(variable) {
+            return true;
+        }
+        self.has_whole(variable)
+    }
+
+    /// Whether a get of the variable may wait at no spot.
+    #[inline(always)]
+    fn has_whole(&self, variable: usize) -> bool
+        ensures { IsFalse result → (p : TaskPlace P.Lat.Event P.Local) → IsAmong p (places_of self.now) → WaitsAt P.Lat.watched variable None ((P.functions J.program).request p.from) → ⊥ }
+    {
+        match self.whole.lists.get(variable) {
+            Some(indices) => !indices.is_empty(),
+            None => false,
+        }
+    }
+
+    /// Whether a get of the variable may wait at a spot.
+    #[inline(always)]
+    fn has_spots(&self, variable: usize) -> bool
+        ensures { IsFalse result → (w : P.Lat.Spot) (p : TaskPlace P.Lat.Event P.Local) → IsAmong p (places_of self.now) → WaitsAt P.Lat.watched variable (Some w) ((P.functions J.program).request p.from) → ⊥ }
+    {
+        match self.spots.tables.get(variable) {
+            Some(lists) => !lists.is_empty(),
+            None => false,
+        }
+    }
+
+    /// Whether a freeze of the variable may wait that can go on.
+    #[inline(always)]
+    fn may_freeze(&self, core: &Core<'_, P>, variable: usize) -> bool
+        requires program { core.now.program ≡ J.program }
+        requires current { (p : TaskPlace P.Lat.Event P.Local) → IsAmong p (places_of self.now) → ⟦<P as CoreMeaning>⟧.local_in core.now p.task ≡ Some p.from }
+        ensures { IsFalse result → (fresh : List (Entry P.Lat.Event)) (p : TaskPlace P.Lat.Event P.Local) → IsAmong p (places_of self.now) → MayWake P.Lat.spot_of P.Lat.watched (Some (Handed variable)) fresh ((P.functions core.now.program).request p.from) → ⟦<P as CoreMeaning>⟧.can_take core.now (Act p.task) → ⊥ }
+    {
+        let Some(indices) = self.freezes.lists.get(variable) else {
+            return false;
+        };
+        if indices.is_empty() {
+            return false;
+        }
+        // While something is left to hand there, no freeze can go on.
+        core.is_drained_at(variable)
+    }
+
+    /// Takes out the tasks that the last step woke, where some may be.
     fn wake_some(
         &mut self,
         core: &Core<'_, P>,
@@ -191,35 +262,52 @@ impl<P: Program, J: Named<P>> Parked<P, J> {
         ensures once { NoRepeats (tasks_of (places_of self.new)) }
         ensures within { AreWithin self.new self.old }
     {
-        // A run in which no get ever waited hashes no key.
-        if self.gets.lists.is_empty() {
+        self.wake_whole(core, variable, woken);
+        // (where no get ever waited at a spot of the variable, no spot is hashed)
+        if !self.has_spots(variable) {
             return;
         }
-        self.wake_at(core, (variable, None), woken);
         for entry in fresh {
             let spot = <P::Lat as Reads>::spot(&entry.event);
-            self.wake_at(core, (variable, Some(spot)), woken);
+            self.wake_at(core, variable, &spot, woken);
         }
     }
 
-    /// Takes out the gets that wait here and can go on.
+    /// Takes out the gets that wait at no spot of the variable and can go on.
+    fn wake_whole(&mut self, core: &Core<'_, P>, variable: usize, woken: &mut Vec<Asked<P, J>>)
+        requires program { core.now.program ≡ J.program }
+        requires current { (p : TaskPlace P.Lat.Event P.Local) → IsAmong p (places_of self.old) → ⟦<P as CoreMeaning>⟧.local_in core.now p.task ≡ Some p.from }
+        requires once { NoRepeats (tasks_of (places_of self.old)) }
+        requires room { vec_len woken.old + length self.old ≤ vec_capacity woken.old }
+        ensures wakes { Wakes (λ p. ⟦<P as CoreMeaning>⟧.can_take core.now (Act p.task)) (λ p. WaitsAt P.Lat.watched variable None ((P.functions core.now.program).request p.from)) (places_of self.old) (places_of self.new) woken.old.items woken.new.items }
+        ensures once { NoRepeats (tasks_of (places_of self.new)) }
+        ensures within { AreWithin self.new self.old }
+        ensures capacity { vec_capacity woken.new ≡ vec_capacity woken.old }
+    {
+        if let Some(indices) = self.whole.lists.get_mut(variable) {
+            self.tasks.wake_each(core, indices, woken);
+        }
+    }
+
+    /// Takes out the gets that wait at this spot of the variable and can go on.
     fn wake_at(
         &mut self,
         core: &Core<'_, P>,
-        key: (usize, Option<<P::Lat as Reads>::Spot>),
+        variable: usize,
+        spot: &<P::Lat as Reads>::Spot,
         woken: &mut Vec<Asked<P, J>>,
     )
         requires program { core.now.program ≡ J.program }
         requires current { (p : TaskPlace P.Lat.Event P.Local) → IsAmong p (places_of self.old) → ⟦<P as CoreMeaning>⟧.local_in core.now p.task ≡ Some p.from }
         requires once { NoRepeats (tasks_of (places_of self.old)) }
         requires room { vec_len woken.old + length self.old ≤ vec_capacity woken.old }
-        ensures wakes { Wakes (λ p. ⟦<P as CoreMeaning>⟧.can_take core.now (Act p.task)) (λ p. WaitsAt P.Lat.watched key ((P.functions core.now.program).request p.from)) (places_of self.old) (places_of self.new) woken.old.items woken.new.items }
+        ensures wakes { Wakes (λ p. ⟦<P as CoreMeaning>⟧.can_take core.now (Act p.task)) (λ p. WaitsAt P.Lat.watched variable (Some spot.now) ((P.functions core.now.program).request p.from)) (places_of self.old) (places_of self.new) woken.old.items woken.new.items }
         ensures once { NoRepeats (tasks_of (places_of self.new)) }
         ensures within { AreWithin self.new self.old }
         ensures capacity { vec_capacity woken.new ≡ vec_capacity woken.old }
     {
-        if let Some(indices) = self.gets.lists.get_mut(&key) {
-            self.tasks.wake_each(core, indices, woken);
+        if let Some(lists) = self.spots.tables.get_mut(variable) {
+            self.tasks.wake_under(core, lists, spot, woken);
         }
     }
 
@@ -233,13 +321,36 @@ impl<P: Program, J: Named<P>> Parked<P, J> {
         ensures once { NoRepeats (tasks_of (places_of self.new)) }
         ensures within { AreWithin self.new self.old }
     {
-        let Some(indices) = self.freezes.lists.get_mut(variable) else {
-            return;
-        };
-        // While something is left to hand there, no freeze can go on.
-        if core.is_drained_at(variable) {
+        if let Some(indices) = self.freezes.lists.get_mut(variable) {
             self.tasks.wake_each(core, indices, woken);
         }
+    }
+}
+
+/// Adds the index of a task to the list of what it waits for.
+///
+/// # Errors
+///
+/// Where there is no room for it.
+fn list_index<P: Program, J: Named<P>>(
+    whole: &mut ByVariable,
+    spots: &mut BySpot<<P::Lat as Reads>::Spot>,
+    freezes: &mut ByVariable,
+    alloc: Global,
+    index: usize,
+    asked: &Asked<P, J>,
+) -> Result<(), AllocError>
+    requires waiting { IsWaiting ((P.functions J.program).request asked.now.from) }
+    ensures kept { (r : Request P.Lat P.Lat.Read P.Local) (t : ℕ) → IsOnItsList P.Lat.Spot.eq P.Lat.watched whole.old.lists.items spots.old.tables.items freezes.old.lists.items r t → IsOnItsList P.Lat.Spot.eq P.Lat.watched whole.new.lists.items spots.new.tables.items freezes.new.lists.items r t }
+    ensures there { OnOk result (IsOnItsList P.Lat.Spot.eq P.Lat.watched whole.new.lists.items spots.new.tables.items freezes.new.lists.items ((P.functions J.program).request asked.now.from) index) }
+{
+    match asked.request() {
+        Request::Get(variable, read) => match <P::Lat as Reads>::watch(read) {
+            Some(spot) => spots.push(alloc, *variable, spot, index),
+            None => whole.push(alloc, *variable, index),
+        },
+        Request::Freeze(variable, _) => freezes.push(alloc, *variable, index),
+        _ => unreachable!(),
     }
 }
 

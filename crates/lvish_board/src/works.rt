@@ -18,6 +18,9 @@ pub struct Works<P: Program, J: Named<P>> {
     pub step: Step,
     /// The next ticket of the task that acted, where it goes on.
     pub own: Option<Ticket<P, J>>,
+    /// A local state that nobody needs any more, where the task was parked: it is of no more use than its
+    /// memory, and no work.
+    pub spare: Option<P::Local>,
     /// The ticket of a task that the step made.
     pub made: Option<Ticket<P, J>>,
     /// What the parked tasks ask for that the step woke, by their names.
@@ -36,6 +39,7 @@ impl<P: Program, J: Named<P>> Works<P, J> {
         Works {
             step,
             own: None,
+            spare: None,
             made: None,
             woken: Vec::new(alloc),
             hands: Vec::new(alloc),
@@ -66,6 +70,7 @@ impl<P: Program, J: Named<P>> Works<P, J> {
         let Works {
             step: _,
             own,
+            spare: _,
             made,
             woken,
             hands,

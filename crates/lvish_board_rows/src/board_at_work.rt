@@ -120,6 +120,7 @@ impl<'p, P: Program, J: Named<P>> BoardAtWork<'p, P, J> {
             let none = Works {
                 step: works.step,
                 own: None,
+                spare: None,
                 made: None,
                 woken: Vec::new(alloc),
                 hands: Vec::new(alloc),

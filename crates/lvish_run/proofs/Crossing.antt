@@ -60,11 +60,11 @@ module _ (J : RattleType) (j : IsSend J)
         ),
       )
 
-  pub board_send_at : (a : NamedLft) → IsSend (Board.the_row a ScriptCode.the_row J Any.the_row Local.the_row AnyRead.the_row i64 Event.the_row Event.the_row scripts.ghosts states_read.ghosts states_joined.ghosts states_same.ghosts events_ordered.ghosts events_equal.ghosts events_same.ghosts events_partial.ghosts events_hash.ghosts events_ordered.ghosts events_equal.ghosts events_same.ghosts events_partial.ghosts events_hash.ghosts locals_same.ghosts n o)
+  pub board_send_at : (a : NamedLft) → IsSend (Board.the_row a ScriptCode.the_row J Any.the_row Local.the_row AnyRead.the_row i64 Event.the_row Event.the_row scripts.ghosts states_read.ghosts states_joined.ghosts states_same.ghosts events_ordered.ghosts events_equal.ghosts events_same.ghosts events_partial.ghosts events_hash.ghosts events_ordered.ghosts events_same.ghosts events_partial.ghosts events_hash.ghosts locals_same.ghosts n o)
   board_send_at a =
       board_send Event.the_row of_event.the_send of_event.the_sync ScriptCode.the_row J Any.the_row Local.the_row AnyRead.the_row i64 Event.the_row j of_any.the_send of_local.the_send of_read.the_send
       events_ordered.ghosts events_equal.ghosts events_same.ghosts events_partial.ghosts events_hash.ghosts scripts.ghosts states_joined.ghosts states_same.ghosts states_read.ghosts
-      events_ordered.ghosts events_same.ghosts events_partial.ghosts events_hash.ghosts locals_same.ghosts n o of_event.the_send events_equal.ghosts a of_code.the_sync
+      events_ordered.ghosts events_same.ghosts events_partial.ghosts events_hash.ghosts locals_same.ghosts n o of_event.the_send a of_code.the_sync
 
 pub code_sync : IsSync ScriptCode.the_row
 code_sync = of_code.the_sync

@@ -218,6 +218,8 @@ fn act<J: Named<ScriptCode>>(
     // (what is left of the task is kept as spare memory)
     if let Some(asked) = place {
         *spare = Some(asked.into_from());
+    } else if works.spare.is_some() {
+        *spare = works.spare.take();
     }
     if is_over(board) {
         return Some(Why::Over);

@@ -100,6 +100,7 @@ pub(crate) fn open_all<P: Program, J: Named<P>>(
     let Works {
         step: _,
         own,
+        spare: _,
         made,
         woken,
         hands,

@@ -262,6 +262,8 @@ fn act<J: Named<ScriptCode>, R: Wait>(
     // (what is left of the task is dropped, or kept as spare memory, when the board is free again)
     if let Some(asked) = place {
         *spare = Some(asked.into_from());
+    } else if works.spare.is_some() {
+        *spare = works.spare.take();
     }
     go_by(alloc, seat, steps, over, came, works)
 }

@@ -111,18 +111,28 @@ impl<'p, P: Program, J: Named<P>> Board<'p, P, J> {
             return Came::Stale;
         };
         if self.trace.len() as u64 >= self.budget {
-            return self.act_no_more(alloc, numbers.index, asked);
+            return self.act_no_more(alloc, numbers.index, asked, &mut works.spare);
         }
         match self.make(alloc, worker, numbers, task, works) {
-            Came::Memory => self.not_made(alloc, numbers.index, asked),
-            came => came,
+            Came::Parked => self.park(alloc, numbers.index, asked, &mut works.spare),
+            Came::Memory => self.not_made(alloc, numbers.index, asked, &mut works.spare),
+            Came::Next => Came::Next,
+            Came::Gone => Came::Gone,
+            Came::Over => Came::Over,
+            Came::Stale => Came::Stale,
         }
     }
 
     /// What comes of an act where the budget is used up: the task is parked where it is blocked, else
     /// the board is over.
     #[inline(never)]
-    fn act_no_more(&mut self, alloc: Global, index: usize, place: &mut Option<Asked<P, J>>) -> Came
+    fn act_no_more(
+        &mut self,
+        alloc: Global,
+        index: usize,
+        place: &mut Option<Asked<P, J>>,
+        spare: &mut Option<P::Local>,
+    ) -> Came
         requires running { self.old.over ≡ None }
         requires used { length self.old.trace ≡ J.budget }
         requires there { IsSome place.old }
@@ -137,15 +147,21 @@ impl<'p, P: Program, J: Named<P>> Board<'p, P, J> {
             unreachable!()
         };
         if !self.can_go_on(asked) {
-            return self.park(alloc, index, place);
+            return self.park(alloc, index, place, spare);
         }
         self.over = Some(Outcome::Budget);
         Came::Over
     }
 
-    /// What comes of an act whose step isn't made: the task is blocked, or there is no memory for it.
+    /// What comes of an act for whose step there is no memory, where the task may be blocked besides.
     #[inline(never)]
-    fn not_made(&mut self, alloc: Global, index: usize, place: &mut Option<Asked<P, J>>) -> Came
+    fn not_made(
+        &mut self,
+        alloc: Global,
+        index: usize,
+        place: &mut Option<Asked<P, J>>,
+        spare: &mut Option<P::Local>,
+    ) -> Came
         requires running { self.old.over ≡ None }
         requires there { IsSome place.old }
         requires current { (a : TaskPlace P.Lat.Event P.Local) → place.old ≡ Some a → ⟦<P as CoreMeaning>⟧.local_in self.old.core a.task ≡ Some a.from }
@@ -161,7 +177,7 @@ impl<'p, P: Program, J: Named<P>> Board<'p, P, J> {
         if self.can_go_on(asked) {
             return Came::Memory;
         }
-        self.park(alloc, index, place)
+        self.park(alloc, index, place, spare)
     }
 
     /// The task's numbers, where it is there in the local state in which it asks.
@@ -197,9 +213,15 @@ impl<'p, P: Program, J: Named<P>> Board<'p, P, J> {
         self.core.can_act(asked.task(), asked.request())
     }
 
-    /// Parks a blocked task.
+    /// Parks a blocked task. The local state in which it asks goes to `spare`.
     #[inline(never)]
-    fn park(&mut self, alloc: Global, index: usize, place: &mut Option<Asked<P, J>>) -> Came
+    fn park(
+        &mut self,
+        alloc: Global,
+        index: usize,
+        place: &mut Option<Asked<P, J>>,
+        spare: &mut Option<P::Local>,
+    ) -> Came
         requires running { self.old.over ≡ None }
         requires there { IsSome place.old }
         requires current { (a : TaskPlace P.Lat.Event P.Local) → place.old ≡ Some a → ⟦<P as CoreMeaning>⟧.local_in self.old.core a.task ≡ Some a.from }
@@ -210,48 +232,26 @@ impl<'p, P: Program, J: Named<P>> Board<'p, P, J> {
         ensures came { (a : TaskPlace P.Lat.Event P.Local) → place.old ≡ Some a → ComesOfNoAct (⟦<P as CoreMeaning>⟧.can_take self.old.core (Act a.task)) a self.old self.new result }
         ensures back { result ≡ Came.Memory → place.new ≡ place.old }
     {
-        let Some(asked) = place.take() else {
-            unreachable!()
-        };
-        match self.park_asked(alloc, index, asked) {
-            Ok(()) => Came::Parked,
-            Err(asked) => {
-                *place = Some(asked);
-                Came::Memory
-            }
-        }
-    }
-
-    /// Parks a blocked task that stands by itself.
-    ///
-    /// # Errors
-    ///
-    /// Where there is no room for it, the task; nothing has changed.
-    fn park_asked(
-        &mut self,
-        alloc: Global,
-        index: usize,
-        asked: Asked<P, J>,
-    ) -> Result<(), Asked<P, J>>
-        requires running { self.old.over ≡ None }
-        requires current { ⟦<P as CoreMeaning>⟧.local_in self.old.core asked.task ≡ Some asked.from }
-        requires at { IsAt self.old.core.table.tasks index asked.task }
-        requires blocked { ⟦<P as CoreMeaning>⟧.can_take self.old.core (Act asked.task) → ⊥ }
-        ensures trace { self.new.trace ≡ self.old.trace }
-        ensures core { self.new.core ≡ self.old.core }
-        ensures ok { IfOk result (λ _. IsParkedBeside self.old.parked asked self.new.parked) }
-        ensures err { IfErr result (λ a. (a ≡ asked) × (self.new ≡ self.old)) }
-    {
         self.core.each_task_once();
-        let mut asked = asked;
-        asked.rest();
-        match self.parked.park(alloc, index, asked) {
+        *spare = rest_in(place);
+        match self.parked.park(alloc, index, place) {
             Ok(()) => {
                 self.settle();
-                Ok(())
+                Came::Parked
             }
-            Err(asked) => Err(asked),
+            Err(_refused) => Came::Memory,
         }
+    }
+}
+
+/// Gives away the local state in which the task in its place asks.
+#[inline(always)]
+fn rest_in<P: Program, J: Named<P>>(place: &mut Option<Asked<P, J>>) -> Option<P::Local>
+    ensures { place.new ≡ place.old }
+{
+    match place {
+        Some(asked) => asked.rest(),
+        None => None,
     }
 }
 

@@ -26,7 +26,7 @@ use std::alloc::Global;
 
 impl<'p, P: Program, J: Named<P>> Board<'p, P, J> {
     /// Makes the step of a task that stands where it asks, if it can go on. Where it isn't made, nothing
-    /// has changed.
+    /// has changed: a blocked task is still to be parked.
     #[inline(always)]
     pub(super) fn make(
         &mut self,
@@ -39,7 +39,8 @@ impl<'p, P: Program, J: Named<P>> Board<'p, P, J> {
         requires running { self.old.over ≡ None }
         requires room { length self.old.trace < J.budget }
         requires live { ⟦<P as CoreMeaning>⟧.is_live self.old.core asked.old.task asked.old.from numbers }
-        ensures comes { ComesOfAct P.Lat.Event.cmp (⟦<P as Meaning>⟧.machine J.program) (⟦<P as CoreMeaning>⟧.local_in self.old.core asked.old.task ≡ Some asked.old.from) (⟦<P as CoreMeaning>⟧.can_take self.old.core (Act asked.old.task)) worker asked.old self.old self.new (with_work result (ActOn asked.old) works.new) }
+        ensures comes { (result ≡ Came.Parked → ⊥) → ComesOfAct P.Lat.Event.cmp (⟦<P as Meaning>⟧.machine J.program) (⟦<P as CoreMeaning>⟧.local_in self.old.core asked.old.task ≡ Some asked.old.from) (⟦<P as CoreMeaning>⟧.can_take self.old.core (Act asked.old.task)) worker asked.old self.old self.new (with_work result (ActOn asked.old) works.new) }
+        ensures blocked { result ≡ Came.Parked → (⟦<P as CoreMeaning>⟧.can_take self.old.core (Act asked.old.task) → ⊥) × (self.new ≡ self.old) × (asked.new ≡ asked.old) }
         ensures kept { result ≡ Came.Memory → self.new ≡ self.old }
         ensures back { result ≡ Came.Memory → asked.new ≡ asked.old }
     {
@@ -50,7 +51,7 @@ impl<'p, P: Program, J: Named<P>> Board<'p, P, J> {
         let step = Step::Act(numbers.index);
         let parked = self.parked.len();
         let next = self.core.tasks();
-        let Ok((logged, stepped, moved)) = step_with_room(
+        let (logged, stepped, moved) = match step_with_room(
             alloc,
             &mut self.core,
             &mut self.newest,
@@ -60,8 +61,10 @@ impl<'p, P: Program, J: Named<P>> Board<'p, P, J> {
             worker,
             numbers,
             asked,
-        ) else {
-            return Came::Memory;
+        ) {
+            Ok(made) => made,
+            Err(StepFault::NotEnabled) => return Came::Parked,
+            Err(_) => return Came::Memory,
         };
         self.core.each_task_once();
         match stepped {
@@ -124,7 +127,7 @@ fn step_with_room<P: Program, J: Named<P>>(
     ensures woken_room { IfOk result (λ _. parked ≤ vec_capacity room.new.woken) }
     ensures concerned_room { IfOk result (λ _. length room.new.concerned.items + most_added ((P.functions J.program).request asked.old.from) ≤ vec_capacity room.new.concerned) }
     ensures hands_room { IfOk result (λ _. length room.new.concerned.items + most_added ((P.functions J.program).request asked.old.from) ≤ vec_capacity room.new.hands) }
-    ensures kept { IfErr result (λ _. (core.new ≡ core.old) × (trace.new.items ≡ trace.old.items)) }
+    ensures kept { IfErr result (λ e. ⟦<P as CoreMeaning>⟧.is_refused core.old (Act asked.old.task) e × (core.new ≡ core.old) × (trace.new.items ≡ trace.old.items)) }
     ensures newest { newest.new ≡ newest.old }
     ensures same { asked.new ≡ asked.old }
 {
@@ -154,7 +157,7 @@ fn step<P: Program, J: Named<P>>(
     requires program { core.old.program ≡ J.program }
     requires live { ⟦<P as CoreMeaning>⟧.is_live core.old asked.old.task asked.old.from numbers }
     requires room { vec_len trace.old < vec_capacity trace.old }
-    ensures stepped { MatchResult result (λ s. ⟦<P as CoreMeaning>⟧.is_step core.old (Act asked.old.task) core.new s.0) (λ _. core.new ≡ core.old) }
+    ensures stepped { MatchResult result (λ s. ⟦<P as CoreMeaning>⟧.is_step core.old (Act asked.old.task) core.new s.0) (λ e. ⟦<P as CoreMeaning>⟧.is_refused core.old (Act asked.old.task) e × (core.new ≡ core.old)) }
     ensures moved { IfOk result (λ s. ⟦<P as CoreMeaning>⟧.is_moved core.old (Act asked.old.task) s.1) }
     ensures written { MatchResult result (λ _. trace.new.items ≡ trace.old.items ++ noted ∷ []) (λ _. trace.new ≡ trace.old) }
     ensures same { asked.new ≡ asked.old }

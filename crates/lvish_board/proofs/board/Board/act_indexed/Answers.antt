@@ -1,5 +1,6 @@
 use Rattle.std.proofs.Common.{rules, ◌≡◌, ◌≤◌, None, Some, length, refl, ap, subst, sym, ◌∙◌, arith}
 use Rattle.lvish_core.specs.Tasks.{task_names}
+use Rattle.lvish_board.specs.Vocabulary.{CameGone, CameNext, CameOver, CameParked, CameStale}
 use Rattle.lvish_board.proofs.Comes.{act_unmade, for_this}
 use Rattle.lvish_board.proofs.Noting.{as_many}
 use Rattle.lvish_board.proofs.Steps.{none_is}
@@ -21,7 +22,7 @@ act_no_more-requires-clause-used g c =
 pub returns-then-len-self-clause-comes : goal.returns-then-len-self-clause-comes
 returns-then-len-self-clause-comes g c =
     let none : c.args.self.now.over ≡ None = rw (← c.self.view_is) (none_is c.self.inside.over (sym c.is_some.ensures ∙ c.if-is_some.false)) in
-    for_this _ _ _ c.in-Some.ensures.value (act_unmade c.args.works.now c.act_no_more.result none c.act_no_more.ensures.trace c.act_no_more.ensures.core (c.act_no_more.ensures.came c.in-Some.task.now refl))
+    for_this _ _ _ c.in-Some.ensures.value (act_unmade _ c.act_no_more.result none c.act_no_more.ensures.trace c.act_no_more.ensures.core (c.act_no_more.ensures.came c.in-Some.task.now refl))
 
 pub make-requires-clause-running : goal.make-requires-clause-running
 make-requires-clause-running g c = rw (← c.self.view_is) (none_is c.self.inside.over (sym c.is_some.ensures ∙ c.if-is_some.false))
@@ -31,4 +32,31 @@ returns-in-Memory-clause-comes g c =
     let none : c.args.self.now.over ≡ None = rw (← c.self.view_is) (none_is c.self.inside.over (sym c.is_some.ensures ∙ c.if-is_some.false)) in
     let kept = c.make.ensures.kept c.in-Memory.is in
     let back = ap (λ a. Some a) (c.make.ensures.back c.in-Memory.is) in
-    for_this _ _ _ c.in-Some.ensures.value (act_unmade c.make.new.works c.not_made.result none (c.not_made.ensures.trace ∙ ap (λ b. b.trace) kept) (c.not_made.ensures.core ∙ ap (λ b. b.core) kept) (rw kept at (c.not_made.ensures.came c.in-Some.task.now back)))
+    for_this _ _ _ c.in-Some.ensures.value (act_unmade _ c.not_made.result none (c.not_made.ensures.trace ∙ ap (λ b. b.trace) kept) (c.not_made.ensures.core ∙ ap (λ b. b.core) kept) (rw kept at (c.not_made.ensures.came c.in-Some.task.now back)))
+
+pub park-requires-clause-blocked : goal.park-requires-clause-blocked
+park-requires-clause-blocked g c =
+    let k = c.make.ensures.blocked c.in-Parked.is in
+    for_this _ _ _ refl (rw (k.1, k.2) k.0)
+
+pub returns-in-Parked-clause-comes : goal.returns-in-Parked-clause-comes
+returns-in-Parked-clause-comes g c =
+    let none : c.args.self.now.over ≡ None = rw (← c.self.view_is) (none_is c.self.inside.over (sym c.is_some.ensures ∙ c.if-is_some.false)) in
+    let k = c.make.ensures.blocked c.in-Parked.is in
+    let back = ap (λ a. Some a) k.2 in
+    for_this _ _ _ c.in-Some.ensures.value (act_unmade _ c.park.result none (c.park.ensures.trace ∙ ap (λ b. b.trace) k.1) (c.park.ensures.core ∙ ap (λ b. b.core) k.1) (rw k.1 at (c.park.ensures.came c.in-Some.task.now back)))
+
+pub returns-in-Parked-clause-back : goal.returns-in-Parked-clause-back
+returns-in-Parked-clause-back g c = λ refused. c.park.ensures.back refused ∙ ap (λ a. Some a) (c.make.ensures.blocked c.in-Parked.is).2 ∙ c.in-Some.ensures.value
+
+pub returns-in-Next-clause-comes : goal.returns-in-Next-clause-comes
+returns-in-Next-clause-comes g c = for_this _ _ _ c.in-Some.ensures.value (rw c.in-Next.is at (c.make.ensures.comes (λ e. let z : CameNext ≡ CameParked = sym c.in-Next.is ∙ e in cc)))
+
+pub returns-in-Gone-clause-comes : goal.returns-in-Gone-clause-comes
+returns-in-Gone-clause-comes g c = for_this _ _ _ c.in-Some.ensures.value (rw c.in-Gone.is at (c.make.ensures.comes (λ e. let z : CameGone ≡ CameParked = sym c.in-Gone.is ∙ e in cc)))
+
+pub returns-in-Over-clause-comes : goal.returns-in-Over-clause-comes
+returns-in-Over-clause-comes g c = for_this _ _ _ c.in-Some.ensures.value (rw c.in-Over.is at (c.make.ensures.comes (λ e. let z : CameOver ≡ CameParked = sym c.in-Over.is ∙ e in cc)))
+
+pub returns-in-Stale-clause-comes : goal.returns-in-Stale-clause-comes
+returns-in-Stale-clause-comes g c = for_this _ _ _ c.in-Some.ensures.value (rw c.in-Stale.is at (c.make.ensures.comes (λ e. let z : CameStale ≡ CameParked = sym c.in-Stale.is ∙ e in cc)))

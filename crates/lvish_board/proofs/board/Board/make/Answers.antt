@@ -43,11 +43,11 @@ returns-in-Error-clause-comes g c =
     let there = acts_there (task_names c.step_with_room.new.core.table.tasks) c.args.numbers.index c.args.asked.now.task (step.indices c.args.numbers.index c.args.asked.now.task live) in
     let longer = written (task_names c.self.inside.core.table.tasks) (task_names c.step_with_room.new.core.table.tasks) step.indices c.self.inside.trace.items c.step_with_room.new.trace.items c.args.worker (ActStep c.args.numbers.index) c.self.invariant.1 c.in-Ok.ensures.written (Act c.args.asked.now.task) there
     ∙ ap (λ b. b.trace ++ entry_of c.args.worker (Act c.args.asked.now.task) ∷ []) c.self.view_is in
-    act_gone _ c.requires.running longer (error_done _ _ _ _ _ step) (error_listed _ _ _ _ _ step _ c.args.self.now _ (seen_core c.self.view_is) refl (sym (seen_parked c.self.view_is)) _ c.empty.ensures.list)
+    λ _. act_gone _ c.requires.running longer (error_done _ _ _ _ _ step) (error_listed _ _ _ _ _ step _ c.args.self.now _ (seen_core c.self.view_is) refl (sym (seen_parked c.self.view_is)) _ c.empty.ensures.list)
     (ap (label_at _) c.empty.ensures.step ∙ there) c.empty.ensures.own
 
 -- a step that gave none, and how many handlers it added at most
-made : (g : _) (c : After-left_by-left g) → IsMade (machine_of g.P.Lat.PartialEq.eq g.P.Lat.Event.PartialEq.eq g.P.Lat.Event.Ord.cmp g.P.Lat.Lattice.least g.P.Lat.Lattice.joined g.P.Lat.Lattice.events_of g.P.Lat.Reads.answer_of (g.P.Program.functions g.J.Named.program)) g.P.Lat.Event.Ord.cmp c.self.inside.core (Act c.args.asked.now.task) c.step_with_room.new.core c.in-Ok.logged c.step_with_room.new.room.concerned.items c.left_by-left.result.added c.in-Ok.moved
+made : (g : _) (c : After-left_by-left g) → IsMade (machine_of g.P.Lat.PartialEq.eq g.P.Lat.Event.PartialEq.eq g.P.Lat.Event.Ord.cmp g.P.Lat.Lattice.least g.P.Lat.Lattice.joined g.P.Lat.Lattice.events_of g.P.Lat.Reads.answer_of (g.P.Program.functions g.J.Named.program)) g.P.Lat.Event.Ord.cmp c.self.inside.core (Act c.args.asked.now.task) c.step_with_room.new.core c.in-Ok.made.0 c.step_with_room.new.room.concerned.items c.left_by-left.result.added c.in-Ok.made.2
     × (length (option_list c.left_by-left.result.added) ≤ most_added ((g.P.Program.functions g.J.Named.program).request c.args.asked.now.from))
 made g c =
     let M = machine_of g.P.Lat.PartialEq.eq g.P.Lat.Event.PartialEq.eq g.P.Lat.Event.Ord.cmp g.P.Lat.Lattice.least g.P.Lat.Lattice.joined g.P.Lat.Lattice.events_of g.P.Lat.Reads.answer_of (g.P.Program.functions g.J.Named.program) in
@@ -93,7 +93,7 @@ invariant_of-self-in-Done g c =
     let noted = all_noted (task_names c.self.inside.core.table.tasks) (task_names c.step_with_room.new.core.table.tasks) k.step.indices c.self.inside.trace.items c.step_with_room.new.trace.items c.args.worker (ActStep c.args.numbers.index) c.self.invariant.1 c.in-Ok.ensures.written (c.args.asked.now.task, there) in
     let longer = written (task_names c.self.inside.core.table.tasks) (task_names c.step_with_room.new.core.table.tasks) k.step.indices c.self.inside.trace.items c.step_with_room.new.trace.items c.args.worker (ActStep c.args.numbers.index) c.self.invariant.1 c.in-Ok.ensures.written (Act c.args.asked.now.task) (acts_there (task_names c.step_with_room.new.core.table.tasks) c.args.numbers.index c.args.asked.now.task there) in
     let newest = rw (c.step_with_room.ensures.same, c.step_with_room.ensures.newest) at c.left_by-left.ensures.newest in
-    let known = step_known _ (c.tasks_after.ensures.others g.J.Named.program) _ sound.leads c.each_task_once.ensures (c.tasks_after.ensures.made g.J.Named.program) c.in-Ok.moved c.args.asked.now.task c.args.numbers.index _ k.step k.told live
+    let known = step_known _ (c.tasks_after.ensures.others g.J.Named.program) _ sound.leads c.each_task_once.ensures (c.tasks_after.ensures.made g.J.Named.program) c.in-Ok.made.2 c.args.asked.now.task c.args.numbers.index _ k.step k.told live
     (stands (c.lawful.ensures g.J.Named.program) k) c.self.inside.newest c.left_by-left.new.newest c.self.invariant.3 newest.0 newest.1 c.tasks-next.result c.tasks-next.ensures newest.2 in
     (c.self.invariant.0, noted, kept_made (c.waiting_tasks.ensures.until_touched g.J.Named.program) k (c.passes_at_its_spot.ensures g.J.Named.program) sound.blocked c.leave.ensures.left _ _ _ _ _ c.args.worker sound going (rw (← c.self.view_is) at c.requires.room) longer c.leave.ensures.once, known, still_indexed _ _ k.step.indices _ _ c.self.invariant.4 c.leave.ensures.within)
 
@@ -107,10 +107,10 @@ returns-in-Done-clause-comes g c =
     let longer = c.settle.ensures.trace ∙ written (task_names c.self.inside.core.table.tasks) (task_names c.step_with_room.new.core.table.tasks) k.step.indices c.self.inside.trace.items c.step_with_room.new.trace.items c.args.worker (ActStep c.args.numbers.index) c.self.invariant.1 c.in-Ok.ensures.written (Act c.args.asked.now.task) there
     ∙ ap (λ b. b.trace ++ entry_of c.args.worker (Act c.args.asked.now.task) ∷ []) c.self.view_is in
     let own = ap is_some (sym (rw c.step_with_room.ensures.same at c.left_by-left.ensures.own)) ∙ sym c.is_some-goes_on.ensures in
-    act_left c.is_some-goes_on.result c.leave.new.works c.next_or_gone.result c.next_or_gone.ensures.next c.next_or_gone.ensures.gone c.requires.running longer
+    λ _. act_left c.is_some-goes_on.result c.leave.new.works c.next_or_gone.result c.next_or_gone.ensures.next c.next_or_gone.ensures.gone c.requires.running longer
     (λ goes done. not_done ok k (own ∙ goes) (subst (λ z. IsDone M z c.args.asked.now.task) c.settle.ensures.core done))
     (λ ends. subst (λ z. IsDone M z c.args.asked.now.task) (sym c.settle.ensures.core) (is_done ok k (own ∙ ends)))
-    (is_listed (c.waiting_tasks.ensures.until_touched g.J.Named.program) k (c.passes_at_its_spot.ensures g.J.Named.program) c.self.invariant.2.blocked c.leave.ensures.left (act_tickets c.args.asked.now.task c.in-Ok.moved c.left_by-left.result.own c.left_by-left.result.made (rw c.step_with_room.ensures.same at c.left_by-left.ensures.own) c.left_by-left.ensures.made) c.args.self.now c.settle.new.self (seen_core c.self.view_is) (seen_parked c.self.view_is) c.settle.ensures.core c.settle.ensures.parked)
+    (is_listed (c.waiting_tasks.ensures.until_touched g.J.Named.program) k (c.passes_at_its_spot.ensures g.J.Named.program) c.self.invariant.2.blocked c.leave.ensures.left (act_tickets c.args.asked.now.task c.in-Ok.made.2 c.left_by-left.result.own c.left_by-left.result.made (rw c.step_with_room.ensures.same at c.left_by-left.ensures.own) c.left_by-left.ensures.made) c.args.self.now c.settle.new.self (seen_core c.self.view_is) (seen_parked c.self.view_is) c.settle.ensures.core c.settle.ensures.parked)
     (ap (λ z. label_at (task_names z.table.tasks) c.leave.new.works.step) c.settle.ensures.core ∙ ap (label_at _) (c.leave.ensures.step ∙ c.left_by-left.ensures.step) ∙ there)
     (ap is_some c.leave.ensures.own ∙ sym c.is_some-goes_on.ensures)
 
@@ -121,4 +121,7 @@ pub returns-in-Done-clause-kept : goal.returns-in-Done-clause-kept
 returns-in-Done-clause-kept g c = left_kept c.is_some-goes_on.result c.next_or_gone.result c.next_or_gone.ensures.next c.next_or_gone.ensures.gone
 
 pub invariant_of-self : goal.invariant_of-self
-invariant_of-self g c = rw (c.in_default.ensures.kept.0, c.in_default.ensures.kept.1, c.step_with_room.ensures.newest) c.self.invariant
+invariant_of-self g c = rw (c.in-Err-NotEnabled.ensures.kept.1, c.in-Err-NotEnabled.ensures.kept.2, c.step_with_room.ensures.newest) c.self.invariant
+
+pub invariant_of-self-in-Err : goal.invariant_of-self-in-Err
+invariant_of-self-in-Err g c = rw (c.in-Err.ensures.kept.1, c.in-Err.ensures.kept.2, c.step_with_room.ensures.newest) c.self.invariant

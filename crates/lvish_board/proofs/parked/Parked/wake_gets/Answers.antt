@@ -5,31 +5,30 @@ use Rattle.lvish_core.specs.Core.{CanTake}
 use Rattle.lvish_board.specs.Seated.{places_of}
 use Rattle.lvish_board.specs.Shelved.{WaitsAt}
 use Rattle.lvish_board.specs.Woken.{MayWake}
-use Rattle.lvish_board.proofs.Woken.{may_first, may_more}
-use Rattle.lvish_board.proofs.Lists.{no_get_waits}
-use Rattle.lvish_board.proofs.Seating.{of_place}
-use Rattle.lvish_board.proofs.Waking.{wakes_fewer, wakes_none, wakes_then}
+use Rattle.lvish_board.proofs.Woken.{may_at, may_first, may_more}
+use Rattle.lvish_board.proofs.Waking.{wakes_fewer, wakes_then}
 use Rattle.lvish_board.proofs.parked.Parked.wake_gets.Goals as goal
 
-pub returns-then-is_empty-clause-wakes : goal.returns-then-is_empty-clause-wakes
-returns-then-is_empty-clause-wakes g c = rw (← c.self.view_is) (wakes_none _ _ _ _ (λ p i may can.
-    let here = subst (λ x. MayWake g.P.Lat.Reads.spot_of g.P.Lat.Reads.watched (Some (Put c.args.variable)) c.args.fresh.now ((g.P.Program.functions x).request p.from)) c.requires.program may in
-    let r = of_place p c.self.inside.tasks i in
-    no_get_waits g.P.Lat.Spot.PartialEq.eq g.P.Lat.Reads.watched c.self.inside.gets.lists c.self.inside.freezes.lists.items (c.is_empty.ensures.0 c.if-is_empty.true) c.args.variable ((g.P.Program.functions g.J.Named.program).request p.from) r.0 (c.self.invariant (r.0, p) r.1) g.P.Lat.Reads.spot_of c.args.fresh.now here))
+-- without an entry a put wakes the gets that wait at no spot alone
+pub returns-then-not-has_spots-clause-wakes : goal.returns-then-not-has_spots-clause-wakes
+returns-then-not-has_spots-clause-wakes g c = wakes_fewer _ _ _ _ _ _ _ c.wake_whole.ensures.wakes (λ p i may. elim (may_at g.P.Lat.Reads.spot_of g.P.Lat.Reads.watched c.args.variable c.args.fresh.now ((g.P.Program.functions c.args.core.now.program).request p.from) may) [
+  | inl at ↦ at
+  | inr at ↦ absurd (c.has_spots.ensures c.if-not-has_spots.true at.0 p i (subst (λ x. WaitsAt g.P.Lat.Reads.watched c.args.variable (Some at.0) ((g.P.Program.functions x).request p.from)) c.requires.program at.1))
+])
 
 pub loop-entry-init : goal.loop-entry-init
 loop-entry-init g c = record {
-  wakes = wakes_fewer _ _ _ _ _ _ _ c.wake_at.ensures.wakes (λ p i may. may_first g.P.Lat.Reads.spot_of g.P.Lat.Reads.watched c.args.variable ((g.P.Program.functions c.args.core.now.program).request p.from) may);
-  once = c.wake_at.ensures.once;
-  within = c.wake_at.ensures.within;
-  capacity = c.wake_at.ensures.capacity;
+  wakes = wakes_fewer _ _ _ _ _ _ _ c.wake_whole.ensures.wakes (λ p i may. may_first g.P.Lat.Reads.spot_of g.P.Lat.Reads.watched c.args.variable ((g.P.Program.functions c.args.core.now.program).request p.from) may);
+  once = c.wake_whole.ensures.once;
+  within = c.wake_whole.ensures.within;
+  capacity = c.wake_whole.ensures.capacity;
 }
 
-pub wake_at-requires-in-loop-entry-clause-current : goal.wake_at-requires-in-loop-entry-clause-current
-wake_at-requires-in-loop-entry-clause-current g c = λ p i. c.requires.current p (c.loop-entry.invariant.wakes.woken.stay p i).0
+pub wake_at-requires-clause-current : goal.wake_at-requires-clause-current
+wake_at-requires-clause-current g c = λ p i. c.requires.current p (c.loop-entry.invariant.wakes.woken.stay p i).0
 
-pub wake_at-requires-in-loop-entry-clause-once : goal.wake_at-requires-in-loop-entry-clause-once
-wake_at-requires-in-loop-entry-clause-once g c = c.loop-entry.invariant.once
+pub wake_at-requires-clause-once : goal.wake_at-requires-clause-once
+wake_at-requires-clause-once g c = c.loop-entry.invariant.once
 
 pub loop-entry-preserved : goal.loop-entry-preserved
 loop-entry-preserved g c =
@@ -41,16 +40,16 @@ loop-entry-preserved g c =
       wakes = wakes_then (λ p. CanTake M c.args.core.now (Act p.task))
           (λ p. MayWake g.P.Lat.Reads.spot_of g.P.Lat.Reads.watched (Some (Put c.args.variable)) (take (c.loop-entry.entry-index + 1) c.args.fresh.now) ((g.P.Program.functions c.args.core.now.program).request p.from))
           (λ p. MayWake g.P.Lat.Reads.spot_of g.P.Lat.Reads.watched (Some (Put c.args.variable)) (take c.loop-entry.entry-index c.args.fresh.now) ((g.P.Program.functions c.args.core.now.program).request p.from))
-          (λ p. WaitsAt g.P.Lat.Reads.watched (c.args.variable, Some c.spot-spot.result) ((g.P.Program.functions c.args.core.now.program).request p.from))
-          (places_of c.args.self.now) (places_of c.loop-entry.self) (places_of c.wake_at-in-loop-entry.new.self) c.args.woken.now.items c.loop-entry.woken.items c.wake_at-in-loop-entry.new.woken.items c.loop-entry.invariant.wakes c.wake_at-in-loop-entry.ensures.wakes (λ p i j one two may can.
+          (λ p. WaitsAt g.P.Lat.Reads.watched c.args.variable (Some c.spot-spot.result) ((g.P.Program.functions c.args.core.now.program).request p.from))
+          (places_of c.args.self.now) (places_of c.loop-entry.self) (places_of c.wake_at.new.self) c.args.woken.now.items c.loop-entry.woken.items c.wake_at.new.woken.items c.loop-entry.invariant.wakes c.wake_at.ensures.wakes (λ p i j one two may can.
           let q = (g.P.Program.functions c.args.core.now.program).request p.from in
           elim (may_more g.P.Lat.Reads.spot_of g.P.Lat.Reads.watched c.args.variable (take c.loop-entry.entry-index c.args.fresh.now) c.entry-item.result q (subst (λ es. MayWake g.P.Lat.Reads.spot_of g.P.Lat.Reads.watched (Some (Put c.args.variable)) es q) more may)) [
             | inl old ↦ one old can
-            | inr at ↦ two (subst (λ w. WaitsAt g.P.Lat.Reads.watched (c.args.variable, Some w) q) (sym c.spot-spot.ensures) at) can
+            | inr at ↦ two (subst (λ w. WaitsAt g.P.Lat.Reads.watched c.args.variable (Some w) q) (sym c.spot-spot.ensures) at) can
           ]);
-      once = c.wake_at-in-loop-entry.ensures.once;
-      within = λ e i. c.loop-entry.invariant.within e (c.wake_at-in-loop-entry.ensures.within e i);
-      capacity = c.wake_at-in-loop-entry.ensures.capacity ∙ c.loop-entry.invariant.capacity;
+      once = c.wake_at.ensures.once;
+      within = λ e i. c.loop-entry.invariant.within e (c.wake_at.ensures.within e i);
+      capacity = c.wake_at.ensures.capacity ∙ c.loop-entry.invariant.capacity;
     }
 
 pub returns-clause-wakes : goal.returns-clause-wakes
