@@ -7,7 +7,7 @@ ghost use Rattle.lvish_core_tests.specs.Toys.{gone_on};
 use super::bench::run;
 use super::{At, after, steps};
 use lvish_calculus::{Asks, Pools, Program, Reply, Request};
-use lvish_lattice::{Items, Levels, MaxCounter};
+use lvish_lattice::{Items, Lattice, Levels, MaxCounter};
 use std::alloc::{AllocError, Global};
 use std::test::Fail;
 

@@ -8,6 +8,7 @@ use super::bench::{Call, run};
 use super::{At, act, after, first, steps};
 use lvish_calculus::{Asks, Label, Pools, Program, Reply, Request};
 use lvish_compound::{Any, AnyRead, Event, Kind};
+use lvish_lattice::Lattice;
 use lvish_names::{NameFault, TaskName};
 use std::alloc::{AllocError, Global};
 use std::test::Fail;

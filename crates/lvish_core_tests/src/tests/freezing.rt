@@ -9,6 +9,7 @@ use super::{At, act, after, asked, steps};
 use lvish_calculus::{Asks, Pools, Program, Reply, Request};
 use lvish_compound::{Any, AnyRead, Event};
 use lvish_core::StepFault;
+use lvish_lattice::Lattice;
 use std::alloc::{AllocError, Global};
 use std::test::Fail;
 

@@ -7,7 +7,7 @@ ghost use Rattle.lvish_core_tests.specs.Toys.{gone_on};
 use super::bench::run_to_the_end;
 use super::{At, after};
 use lvish_calculus::{Asks, Program, Reply, Request};
-use lvish_lattice::{Levels, MaxCounter};
+use lvish_lattice::{Lattice, Levels, MaxCounter};
 use std::alloc::{AllocError, Global};
 use std::test::Fail;
 
