@@ -28,6 +28,10 @@ pub made_for_none : {T : Type 0} (o : Option T) (P : T → Type 0) (x : T) → o
 made_for_none None P x e h = h
 made_for_none (Some y) P x e h = absurd (cc e)
 
+-- what a borrow leaves behind once it has ended, by the value e that was matched as d
+pub left_behind : {A N X : Type 0} (name : A → N) (left : A → X) (e d : A) (n : N) (x : X) → name e ≡ n → e ≡ d → (n ≡ name d → x ≡ left d) → x ≡ left e
+left_behind name left e d n x same is told = told (sym same ∙ ap name is) ∙ ap left (sym is)
+
 -- the only entry, read as the first
 pub only_by : {A K L : Type 0} (shows : A → K × L) (es : List (K × L)) (n : ℕ) (r : Option A) → n ≡ length es → n ≡ 1 → (IsSome r ↔ (0 < length es)) → IfSome r (λ p. slice_get es 0 ≡ Some (shows p))
     → MatchOption r (length es ≡ 1 → ⊥) (λ p. es ≡ shows p ∷ [])

@@ -1,8 +1,12 @@
-use Rattle.std.proofs.Common.{rules, ◌≡◌, ◌∙◌, None, Some, ap, sym, subst}
+-- What a borrow of the tree leaves is cited by its name in the prover (`given`): a search for it takes 8 seconds where it
+-- is found, and minutes where a wrong body makes it false.
+use Rattle.std.proofs.Common.{◌≡◌, ◌∙◌, None, Some, ap, sym, subst}
 use Rattle.std.specs.Map.{lookup}
 use Rattle.std.specs.BTreeMap.{ContainsKey, get_key, is_at, insert_entry}
-use Rattle.std.specs.BTreeMap.Entry.{MatchEntry, entry_key, entry_value, map_with_value}
+use Rattle.std.specs.BTreeMap.Entry.{MatchEntry, entry_key, entry_map_ref, entry_value, map_with_value}
 use Rattle.lvish_lattice.specs.Ascending.{ties_are_same}
+use Rattle.lvish_compound.specs.Blocks.{flat}
+use Rattle.lvish_compound.proofs.Parts.{left_behind}
 use Rattle.lvish_compound.proofs.Trees.{held_rises, refused_flat, inserted_flat, inserted_blocks, new_put, new_blocks}
 use Rattle.lvish_compound.proofs.tree.Tree.insert.Goals as goal
 
@@ -27,7 +31,8 @@ invariant_of-self-in-Occupied g c =
     let place = rw (c.new.ensures, c.high.ensures) at c.in_ok-place.ensures in
     let held : lookup (is_at (R (h c.args.key))) bs ≡ Some es = sym place.value ∙ ap entry_value c.in-Occupied.is ∙ c.into_mut-block.ensures.value in
     let w = c.put-put.new.self in
-    inserted_blocks R h g.met.K.Ord.total same g.met.K.Key.rises c.args.key bs (map_with_value c.in_ok-place.place w).entries _ es w c.self.inside.count c.self.invariant held (place.update.1 w) (search rules) place.ordered c.in-Some.more c.counted-self-inside.result c.len-before.result c.len.result c.in-Some.ensures.1 c.len-before.ensures c.len.ensures c.counted-self-inside.ensures.stays c.counted-self-inside.ensures.grows c.args.part c.put-put.result c.put-put.ensures.inserted c.put-put.ensures.refused
+    let now = left_behind (λ e. (entry_map_ref e).ghost_name) (λ e. map_with_value e w) _ _ _ _ c.in_ok-place.ensures.same_map c.in-Occupied.is c.self-in-Occupied-2-1.given.1 in
+    inserted_blocks R h g.met.K.Ord.total same g.met.K.Key.rises c.args.key bs (map_with_value c.in_ok-place.place w).entries _ es w c.self.inside.count c.self.invariant held (place.update.1 w) (ap (λ m. m.entries) now) place.ordered c.in-Some.more c.counted-self-inside.result c.len-before.result c.len.result c.in-Some.ensures.1 c.len-before.ensures c.len.ensures c.counted-self-inside.ensures.stays c.counted-self-inside.ensures.grows c.args.part c.put-put.result c.put-put.ensures.inserted c.put-put.ensures.refused
 
 pub returns-in-Occupied-clause-inserted : goal.returns-in-Occupied-clause-inserted
 returns-in-Occupied-clause-inserted g c =
@@ -39,7 +44,8 @@ returns-in-Occupied-clause-inserted g c =
     let place = rw (c.new.ensures, c.high.ensures) at c.in_ok-place.ensures in
     let held : lookup (is_at (R (h c.args.key))) bs ≡ Some es = sym place.value ∙ ap entry_value c.in-Occupied.is ∙ c.into_mut-block.ensures.value in
     let w = c.put-put.new.self in
-    rw (← c.self.view_is) (inserted_flat R h g.met.K.Ord.total same g.met.K.Key.rises c.args.key bs (map_with_value c.in_ok-place.place w).entries es w c.self.inside.count c.self.invariant held (place.update.1 w) place.ordered _ (search rules) c.args.part c.put-put.result c.put-put.ensures.inserted)
+    let now = left_behind (λ e. (entry_map_ref e).ghost_name) (λ e. map_with_value e w) _ _ _ _ c.in_ok-place.ensures.same_map c.in-Occupied.is c.self-in-Occupied-2-1.given.1 in
+    rw (← c.self.view_is) (inserted_flat R h g.met.K.Ord.total same g.met.K.Key.rises c.args.key bs (map_with_value c.in_ok-place.place w).entries es w c.self.inside.count c.self.invariant held (place.update.1 w) place.ordered _ (ap (λ m. flat m.entries) now) c.args.part c.put-put.result c.put-put.ensures.inserted)
 
 pub returns-in-Occupied-clause-refused : goal.returns-in-Occupied-clause-refused
 returns-in-Occupied-clause-refused g c =
@@ -51,7 +57,8 @@ returns-in-Occupied-clause-refused g c =
     let place = rw (c.new.ensures, c.high.ensures) at c.in_ok-place.ensures in
     let held : lookup (is_at (R (h c.args.key))) bs ≡ Some es = sym place.value ∙ ap entry_value c.in-Occupied.is ∙ c.into_mut-block.ensures.value in
     let w = c.put-put.new.self in
-    rw (← c.self.view_is) (refused_flat R h g.met.K.Ord.total same g.met.K.Key.rises c.args.key bs (map_with_value c.in_ok-place.place w).entries es w c.self.inside.count c.self.invariant held (place.update.1 w) place.ordered _ (search rules) c.put-put.result c.put-put.ensures.refused)
+    let now = left_behind (λ e. (entry_map_ref e).ghost_name) (λ e. map_with_value e w) _ _ _ _ c.in_ok-place.ensures.same_map c.in-Occupied.is c.self-in-Occupied-2-1.given.1 in
+    rw (← c.self.view_is) (refused_flat R h g.met.K.Ord.total same g.met.K.Key.rises c.args.key bs (map_with_value c.in_ok-place.place w).entries es w c.self.inside.count c.self.invariant held (place.update.1 w) place.ordered _ (ap (λ m. flat m.entries) now) c.put-put.result c.put-put.ensures.refused)
 
 pub invariant_of-self-in-Vacant : goal.invariant_of-self-in-Vacant
 invariant_of-self-in-Vacant g c =
@@ -61,10 +68,11 @@ invariant_of-self-in-Vacant g c =
     let m = c.self.inside.blocks in
     let k = c.args.key in
     let w = c.insert.result.now in
+    let now = left_behind (λ e. (entry_map_ref e).ghost_name) (λ e. map_with_value e w) _ _ _ _ c.in_ok-place.ensures.same_map c.in-Vacant.is c.self-in-Vacant-2-1.given.1 in
     let place = rw (c.new.ensures, c.high.ensures) at c.in_ok-place.ensures in
     let none : lookup (is_at (R (h k))) m.entries ≡ None =
     subst (λ e. MatchEntry e (ContainsKey R m (h k) × (get_key R m (h k) ≡ Some (entry_key e))) (lookup (is_at (R (h k))) m.entries ≡ None)) c.in-Vacant.is place.found in
-    new_blocks R h g.met.K.Ord.total same g.met.K.Key.rises k c.args.part m.entries (map_with_value c.in_ok-place.place w).entries _ c.self.inside.count c.in-Some.more c.self.invariant none (place.update.1 w ∙ ap (insert_entry R m.entries (h k)) (c.insert.ensures.value ∙ c.of_one.ensures)) (search rules) c.in-Some.ensures.1
+    new_blocks R h g.met.K.Ord.total same g.met.K.Key.rises k c.args.part m.entries (map_with_value c.in_ok-place.place w).entries _ c.self.inside.count c.in-Some.more c.self.invariant none (place.update.1 w ∙ ap (insert_entry R m.entries (h k)) (c.insert.ensures.value ∙ c.of_one.ensures)) (ap (λ m. m.entries) now) c.in-Some.ensures.1
 
 pub returns-in-Vacant-clause-inserted : goal.returns-in-Vacant-clause-inserted
 returns-in-Vacant-clause-inserted g c =
@@ -74,7 +82,8 @@ returns-in-Vacant-clause-inserted g c =
     let m = c.self.inside.blocks in
     let k = c.args.key in
     let w = c.insert.result.now in
+    let now = left_behind (λ e. (entry_map_ref e).ghost_name) (λ e. map_with_value e w) _ _ _ _ c.in_ok-place.ensures.same_map c.in-Vacant.is c.self-in-Vacant-2-1.given.1 in
     let place = rw (c.new.ensures, c.high.ensures) at c.in_ok-place.ensures in
     let none : lookup (is_at (R (h k))) m.entries ≡ None =
     subst (λ e. MatchEntry e (ContainsKey R m (h k) × (get_key R m (h k) ≡ Some (entry_key e))) (lookup (is_at (R (h k))) m.entries ≡ None)) c.in-Vacant.is place.found in
-    rw (← c.self.view_is) (new_put R h g.met.K.Ord.total same g.met.K.Key.rises k c.args.part m.entries (map_with_value c.in_ok-place.place w).entries c.self.inside.count c.self.invariant none (place.update.1 w ∙ ap (insert_entry R m.entries (h k)) (c.insert.ensures.value ∙ c.of_one.ensures)) _ (search rules))
+    rw (← c.self.view_is) (new_put R h g.met.K.Ord.total same g.met.K.Key.rises k c.args.part m.entries (map_with_value c.in_ok-place.place w).entries c.self.inside.count c.self.invariant none (place.update.1 w ∙ ap (insert_entry R m.entries (h k)) (c.insert.ensures.value ∙ c.of_one.ensures)) _ (ap (λ m. flat m.entries) now))

@@ -1,9 +1,12 @@
-use Rattle.std.proofs.Common.{rules, ◌≡◌, ◌∙◌, ◌∷◌, [], None, Some, refl, ap, sym, subst}
+-- What a borrow of the tree leaves is cited by its name in the prover (`given`): a search for it takes 8 seconds where it
+-- is found, and minutes where a wrong body makes it false.
+use Rattle.std.proofs.Common.{◌≡◌, ◌∙◌, ◌∷◌, [], None, Some, refl, ap, sym, subst}
 use Rattle.std.specs.Map.{lookup}
 use Rattle.std.specs.BTreeMap.{ContainsKey, get_key, is_at, insert_entry}
-use Rattle.std.specs.BTreeMap.Entry.{MatchEntry, entry_key, entry_value, map_with_value}
+use Rattle.std.specs.BTreeMap.Entry.{MatchEntry, entry_key, entry_map_ref, entry_value, map_with_value}
 use Rattle.lvish_lattice.specs.Ascending.{ties_are_same}
-use Rattle.lvish_compound.proofs.Parts.{made_for_none}
+use Rattle.lvish_compound.specs.Blocks.{flat}
+use Rattle.lvish_compound.proofs.Parts.{left_behind, made_for_none}
 use Rattle.lvish_compound.proofs.Trees.{held_rises, refused_flat, join_flat, join_blocks, new_joined, new_blocks}
 use Rattle.lvish_compound.proofs.tree.Tree.join_at.Goals as goal
 
@@ -28,7 +31,8 @@ invariant_of-self-in-Occupied g c =
     let place = rw (c.new.ensures, c.high.ensures) at c.in_ok-place.ensures in
     let held : lookup (is_at (R (h c.args.of))) bs ≡ Some es = sym place.value ∙ ap entry_value c.in-Occupied.is ∙ c.into_mut-block.ensures.value in
     let w = c.join_at-joined.new.self in
-    join_blocks R h g.met.K.Ord.total same g.met.K.Key.rises c.args.of bs (map_with_value c.in_ok-place.place w).entries _ es w c.self.inside.count c.self.invariant held (place.update.1 w) (search rules) place.ordered c.in-Some.more c.counted-self-inside.result c.len-before.result c.len.result c.in-Some.ensures.1 c.len-before.ensures c.len.ensures c.counted-self-inside.ensures.stays c.counted-self-inside.ensures.grows g.L.Lattice.least g.L.Lattice.joined g.met.L.Lattice.is_join c.args.part.now c.join_at-joined.result c.join_at-joined.ensures.added c.join_at-joined.ensures.refused
+    let now = left_behind (λ e. (entry_map_ref e).ghost_name) (λ e. map_with_value e w) _ _ _ _ c.in_ok-place.ensures.same_map c.in-Occupied.is c.self-in-Occupied-2-1.given.1 in
+    join_blocks R h g.met.K.Ord.total same g.met.K.Key.rises c.args.of bs (map_with_value c.in_ok-place.place w).entries _ es w c.self.inside.count c.self.invariant held (place.update.1 w) (ap (λ m. m.entries) now) place.ordered c.in-Some.more c.counted-self-inside.result c.len-before.result c.len.result c.in-Some.ensures.1 c.len-before.ensures c.len.ensures c.counted-self-inside.ensures.stays c.counted-self-inside.ensures.grows g.L.Lattice.least g.L.Lattice.joined g.met.L.Lattice.is_join c.args.part.now c.join_at-joined.result c.join_at-joined.ensures.added c.join_at-joined.ensures.refused
 
 pub returns-in-Occupied-clause-added : goal.returns-in-Occupied-clause-added
 returns-in-Occupied-clause-added g c =
@@ -40,7 +44,8 @@ returns-in-Occupied-clause-added g c =
     let place = rw (c.new.ensures, c.high.ensures) at c.in_ok-place.ensures in
     let held : lookup (is_at (R (h c.args.of))) bs ≡ Some es = sym place.value ∙ ap entry_value c.in-Occupied.is ∙ c.into_mut-block.ensures.value in
     let w = c.join_at-joined.new.self in
-    rw (← c.self.view_is) (join_flat R h g.met.K.Ord.total same g.met.K.Key.rises c.args.of bs (map_with_value c.in_ok-place.place w).entries es w c.self.inside.count c.self.invariant held (place.update.1 w) place.ordered _ (search rules) g.L.Lattice.least g.L.Lattice.joined c.args.part.now c.join_at-joined.result c.join_at-joined.ensures.added)
+    let now = left_behind (λ e. (entry_map_ref e).ghost_name) (λ e. map_with_value e w) _ _ _ _ c.in_ok-place.ensures.same_map c.in-Occupied.is c.self-in-Occupied-2-1.given.1 in
+    rw (← c.self.view_is) (join_flat R h g.met.K.Ord.total same g.met.K.Key.rises c.args.of bs (map_with_value c.in_ok-place.place w).entries es w c.self.inside.count c.self.invariant held (place.update.1 w) place.ordered _ (ap (λ m. flat m.entries) now) g.L.Lattice.least g.L.Lattice.joined c.args.part.now c.join_at-joined.result c.join_at-joined.ensures.added)
 
 pub returns-in-Occupied-clause-refused : goal.returns-in-Occupied-clause-refused
 returns-in-Occupied-clause-refused g c =
@@ -52,7 +57,8 @@ returns-in-Occupied-clause-refused g c =
     let place = rw (c.new.ensures, c.high.ensures) at c.in_ok-place.ensures in
     let held : lookup (is_at (R (h c.args.of))) bs ≡ Some es = sym place.value ∙ ap entry_value c.in-Occupied.is ∙ c.into_mut-block.ensures.value in
     let w = c.join_at-joined.new.self in
-    rw (← c.self.view_is) (refused_flat R h g.met.K.Ord.total same g.met.K.Key.rises c.args.of bs (map_with_value c.in_ok-place.place w).entries es w c.self.inside.count c.self.invariant held (place.update.1 w) place.ordered _ (search rules) c.join_at-joined.result c.join_at-joined.ensures.refused)
+    let now = left_behind (λ e. (entry_map_ref e).ghost_name) (λ e. map_with_value e w) _ _ _ _ c.in_ok-place.ensures.same_map c.in-Occupied.is c.self-in-Occupied-2-1.given.1 in
+    rw (← c.self.view_is) (refused_flat R h g.met.K.Ord.total same g.met.K.Key.rises c.args.of bs (map_with_value c.in_ok-place.place w).entries es w c.self.inside.count c.self.invariant held (place.update.1 w) place.ordered _ (ap (λ m. flat m.entries) now) c.join_at-joined.result c.join_at-joined.ensures.refused)
 
 pub invariant_of-self-2 : goal.invariant_of-self-2
 invariant_of-self-2 g c =
@@ -62,12 +68,13 @@ invariant_of-self-2 g c =
     let m = c.self.inside.blocks in
     let k = c.args.of in
     let w = c.in_ok-or_try_insert_with.field-0.now in
+    let now = left_behind (λ e. (entry_map_ref e).ghost_name) (λ e. map_with_value e w) _ _ _ _ c.in_ok-place.ensures.same_map c.in-Vacant.is c.self-in_ok-or_try_insert_with-2-1.given.1 in
     let place = rw (c.new.ensures, c.high.ensures) at c.in_ok-place.ensures in
     let none : lookup (is_at (R (h k))) m.entries ≡ None =
     subst (λ e. MatchEntry e (ContainsKey R m (h k) × (get_key R m (h k) ≡ Some (entry_key e))) (lookup (is_at (R (h k))) m.entries ≡ None)) c.in-Vacant.is place.found in
     let is = made_for_none _ _ w (sym (ap entry_value c.in-Vacant.is) ∙ place.value ∙ none) c.in_ok-or_try_insert_with.ensures.value in
-    let one : w ≡ (k, c.args.part.now) ∷ [] = search (rules, is) in
-    new_blocks R h g.met.K.Ord.total same g.met.K.Key.rises k c.args.part.now m.entries (map_with_value c.in_ok-place.place w).entries _ c.self.inside.count c.in-Some.more c.self.invariant none (place.update.1 w ∙ ap (insert_entry R m.entries (h k)) one) (search rules) c.in-Some.ensures.1
+    let one : w ≡ (k, c.args.part.now) ∷ [] = is in
+    new_blocks R h g.met.K.Ord.total same g.met.K.Key.rises k c.args.part.now m.entries (map_with_value c.in_ok-place.place w).entries _ c.self.inside.count c.in-Some.more c.self.invariant none (place.update.1 w ∙ ap (insert_entry R m.entries (h k)) one) (ap (λ m. m.entries) now) c.in-Some.ensures.1
 
 pub returns-clause-added : goal.returns-clause-added
 returns-clause-added g c =
@@ -77,9 +84,10 @@ returns-clause-added g c =
     let m = c.self.inside.blocks in
     let k = c.args.of in
     let w = c.in_ok-or_try_insert_with.field-0.now in
+    let now = left_behind (λ e. (entry_map_ref e).ghost_name) (λ e. map_with_value e w) _ _ _ _ c.in_ok-place.ensures.same_map c.in-Vacant.is c.self-in_ok-or_try_insert_with-2-1.given.1 in
     let place = rw (c.new.ensures, c.high.ensures) at c.in_ok-place.ensures in
     let none : lookup (is_at (R (h k))) m.entries ≡ None =
     subst (λ e. MatchEntry e (ContainsKey R m (h k) × (get_key R m (h k) ≡ Some (entry_key e))) (lookup (is_at (R (h k))) m.entries ≡ None)) c.in-Vacant.is place.found in
     let is = made_for_none _ _ w (sym (ap entry_value c.in-Vacant.is) ∙ place.value ∙ none) c.in_ok-or_try_insert_with.ensures.value in
-    let one : w ≡ (k, c.args.part.now) ∷ [] = search (rules, is) in
-    rw (← c.self.view_is) (new_joined R h g.met.K.Ord.total same g.met.K.Key.rises k c.args.part.now m.entries (map_with_value c.in_ok-place.place w).entries c.self.inside.count c.self.invariant none (place.update.1 w ∙ ap (insert_entry R m.entries (h k)) one) _ (search rules) g.L.Lattice.least g.L.Lattice.joined c.args.part.now refl)
+    let one : w ≡ (k, c.args.part.now) ∷ [] = is in
+    rw (← c.self.view_is) (new_joined R h g.met.K.Ord.total same g.met.K.Key.rises k c.args.part.now m.entries (map_with_value c.in_ok-place.place w).entries c.self.inside.count c.self.invariant none (place.update.1 w ∙ ap (insert_entry R m.entries (h k)) one) _ (ap (λ m. flat m.entries) now) g.L.Lattice.least g.L.Lattice.joined c.args.part.now refl)

@@ -1,9 +1,12 @@
-use Rattle.std.proofs.Common.{rules, ◌≡◌, ◌∙◌, ◌∷◌, [], None, Some, ap, sym, subst}
+-- What a borrow of the tree leaves is cited by its name in the prover (`given`): a search for it takes 8 seconds where it
+-- is found, and minutes where a wrong body makes it false.
+use Rattle.std.proofs.Common.{◌≡◌, ◌∙◌, ◌∷◌, [], None, Some, ap, sym, subst}
 use Rattle.std.specs.Map.{lookup}
 use Rattle.std.specs.BTreeMap.{ContainsKey, get_key, is_at, insert_entry}
-use Rattle.std.specs.BTreeMap.Entry.{MatchEntry, entry_key, entry_value, map_with_value}
+use Rattle.std.specs.BTreeMap.Entry.{MatchEntry, entry_key, entry_map_ref, entry_value, map_with_value}
 use Rattle.lvish_lattice.specs.Ascending.{ties_are_same}
-use Rattle.lvish_compound.proofs.Parts.{made_for_none}
+use Rattle.lvish_compound.specs.Blocks.{flat}
+use Rattle.lvish_compound.proofs.Parts.{left_behind, made_for_none}
 use Rattle.lvish_compound.proofs.Trees.{held_rises, refused_flat, outcome_flat, outcome_blocks, new_outcome, new_blocks}
 use Rattle.lvish_compound.proofs.tree.Tree.merge_one_at.Goals as goal
 
@@ -28,7 +31,8 @@ invariant_of-self-in-Occupied g c =
     let place = rw (c.new.ensures, c.high.ensures) at c.in_ok-place.ensures in
     let held : lookup (is_at (R (h c.args.of))) bs ≡ Some es = sym place.value ∙ ap entry_value c.in-Occupied.is ∙ c.into_mut-block.ensures.value in
     let w = c.merge_one_at-merged.new.self in
-    outcome_blocks R h g.met.K.Ord.total same g.met.K.Key.rises c.args.of bs (map_with_value c.in_ok-place.place w).entries _ es w c.self.inside.count c.self.invariant held (place.update.1 w) (search rules) place.ordered c.in-Some.more c.counted-self-inside.result c.len-before.result c.len.result c.in-Some.ensures.1 c.len-before.ensures c.len.ensures c.counted-self-inside.ensures.stays c.counted-self-inside.ensures.grows g.L.Lattice.least g.L.Lattice.joined g.met.L.Lattice.is_join c.args.part.now _ c.merge_one_at-merged.result c.merge_one_at-merged.ensures.merged c.merge_one_at-merged.ensures.refused
+    let now = left_behind (λ e. (entry_map_ref e).ghost_name) (λ e. map_with_value e w) _ _ _ _ c.in_ok-place.ensures.same_map c.in-Occupied.is c.self-in-Occupied-2-1.given.1 in
+    outcome_blocks R h g.met.K.Ord.total same g.met.K.Key.rises c.args.of bs (map_with_value c.in_ok-place.place w).entries _ es w c.self.inside.count c.self.invariant held (place.update.1 w) (ap (λ m. m.entries) now) place.ordered c.in-Some.more c.counted-self-inside.result c.len-before.result c.len.result c.in-Some.ensures.1 c.len-before.ensures c.len.ensures c.counted-self-inside.ensures.stays c.counted-self-inside.ensures.grows g.L.Lattice.least g.L.Lattice.joined g.met.L.Lattice.is_join c.args.part.now _ c.merge_one_at-merged.result c.merge_one_at-merged.ensures.merged c.merge_one_at-merged.ensures.refused
 
 pub returns-in-Occupied-clause-merged : goal.returns-in-Occupied-clause-merged
 returns-in-Occupied-clause-merged g c =
@@ -40,7 +44,8 @@ returns-in-Occupied-clause-merged g c =
     let place = rw (c.new.ensures, c.high.ensures) at c.in_ok-place.ensures in
     let held : lookup (is_at (R (h c.args.of))) bs ≡ Some es = sym place.value ∙ ap entry_value c.in-Occupied.is ∙ c.into_mut-block.ensures.value in
     let w = c.merge_one_at-merged.new.self in
-    rw (← c.self.view_is) (outcome_flat R h g.met.K.Ord.total same g.met.K.Key.rises c.args.of bs (map_with_value c.in_ok-place.place w).entries es w c.self.inside.count c.self.invariant held (place.update.1 w) place.ordered _ (search rules) g.L.Lattice.least g.L.Lattice.joined c.args.part.now g.L.Event.PartialEq.eq g.L.Lattice.events_of c.merge_one_at-merged.result c.merge_one_at-merged.ensures.merged)
+    let now = left_behind (λ e. (entry_map_ref e).ghost_name) (λ e. map_with_value e w) _ _ _ _ c.in_ok-place.ensures.same_map c.in-Occupied.is c.self-in-Occupied-2-1.given.1 in
+    rw (← c.self.view_is) (outcome_flat R h g.met.K.Ord.total same g.met.K.Key.rises c.args.of bs (map_with_value c.in_ok-place.place w).entries es w c.self.inside.count c.self.invariant held (place.update.1 w) place.ordered _ (ap (λ m. flat m.entries) now) g.L.Lattice.least g.L.Lattice.joined c.args.part.now g.L.Event.PartialEq.eq g.L.Lattice.events_of c.merge_one_at-merged.result c.merge_one_at-merged.ensures.merged)
 
 pub returns-in-Occupied-clause-refused : goal.returns-in-Occupied-clause-refused
 returns-in-Occupied-clause-refused g c =
@@ -52,7 +57,8 @@ returns-in-Occupied-clause-refused g c =
     let place = rw (c.new.ensures, c.high.ensures) at c.in_ok-place.ensures in
     let held : lookup (is_at (R (h c.args.of))) bs ≡ Some es = sym place.value ∙ ap entry_value c.in-Occupied.is ∙ c.into_mut-block.ensures.value in
     let w = c.merge_one_at-merged.new.self in
-    rw (← c.self.view_is) (refused_flat R h g.met.K.Ord.total same g.met.K.Key.rises c.args.of bs (map_with_value c.in_ok-place.place w).entries es w c.self.inside.count c.self.invariant held (place.update.1 w) place.ordered _ (search rules) c.merge_one_at-merged.result c.merge_one_at-merged.ensures.refused)
+    let now = left_behind (λ e. (entry_map_ref e).ghost_name) (λ e. map_with_value e w) _ _ _ _ c.in_ok-place.ensures.same_map c.in-Occupied.is c.self-in-Occupied-2-1.given.1 in
+    rw (← c.self.view_is) (refused_flat R h g.met.K.Ord.total same g.met.K.Key.rises c.args.of bs (map_with_value c.in_ok-place.place w).entries es w c.self.inside.count c.self.invariant held (place.update.1 w) place.ordered _ (ap (λ m. flat m.entries) now) c.merge_one_at-merged.result c.merge_one_at-merged.ensures.refused)
 
 pub invariant_of-self-2 : goal.invariant_of-self-2
 invariant_of-self-2 g c =
@@ -62,13 +68,14 @@ invariant_of-self-2 g c =
     let m = c.self.inside.blocks in
     let k = c.args.of in
     let w = c.in-Ok.field-0.now in
+    let now = left_behind (λ e. (entry_map_ref e).ghost_name) (λ e. map_with_value e w) _ _ _ _ c.in_ok-place.ensures.same_map c.in-Vacant.is c.self-in-Ok-4-1.given.1 in
     let place = rw (c.new.ensures, c.high.ensures) at c.in_ok-place.ensures in
     let none : lookup (is_at (R (h k))) m.entries ≡ None =
     subst (λ e. MatchEntry e (ContainsKey R m (h k) × (get_key R m (h k) ≡ Some (entry_key e))) (lookup (is_at (R (h k))) m.entries ≡ None)) c.in-Vacant.is place.found in
     let told = made_for_none _ _ w (sym (ap entry_value c.in-Vacant.is) ∙ place.value ∙ none) c.in-Ok.ensures.value in
     let first = c.first_part-first.result.0 in
-    let one : w ≡ (k, first) ∷ [] = search (rules, told) in
-    new_blocks R h g.met.K.Ord.total same g.met.K.Key.rises k first m.entries (map_with_value c.in_ok-place.place w).entries _ c.self.inside.count c.in-Some.more c.self.invariant none (place.update.1 w ∙ ap (insert_entry R m.entries (h k)) one) (search rules) c.in-Some.ensures.1
+    let one : w ≡ (k, first) ∷ [] = told.0 in
+    new_blocks R h g.met.K.Ord.total same g.met.K.Key.rises k first m.entries (map_with_value c.in_ok-place.place w).entries _ c.self.inside.count c.in-Some.more c.self.invariant none (place.update.1 w ∙ ap (insert_entry R m.entries (h k)) one) (ap (λ m. m.entries) now) c.in-Some.ensures.1
 
 pub returns-clause-merged : goal.returns-clause-merged
 returns-clause-merged g c =
@@ -78,10 +85,11 @@ returns-clause-merged g c =
     let m = c.self.inside.blocks in
     let k = c.args.of in
     let w = c.in-Ok.field-0.now in
+    let now = left_behind (λ e. (entry_map_ref e).ghost_name) (λ e. map_with_value e w) _ _ _ _ c.in_ok-place.ensures.same_map c.in-Vacant.is c.self-in-Ok-4-1.given.1 in
     let place = rw (c.new.ensures, c.high.ensures) at c.in_ok-place.ensures in
     let none : lookup (is_at (R (h k))) m.entries ≡ None =
     subst (λ e. MatchEntry e (ContainsKey R m (h k) × (get_key R m (h k) ≡ Some (entry_key e))) (lookup (is_at (R (h k))) m.entries ≡ None)) c.in-Vacant.is place.found in
     let told = made_for_none _ _ w (sym (ap entry_value c.in-Vacant.is) ∙ place.value ∙ none) c.in-Ok.ensures.value in
     let first = c.first_part-first.result.0 in
-    let one : w ≡ (k, first) ∷ [] = search (rules, told) in
-    rw (← c.self.view_is) (new_outcome R h g.met.K.Ord.total same g.met.K.Key.rises k first m.entries (map_with_value c.in_ok-place.place w).entries c.self.inside.count c.self.invariant none (place.update.1 w ∙ ap (insert_entry R m.entries (h k)) one) _ (search rules) g.L.Lattice.least g.L.Lattice.joined c.args.part.now g.L.Event.PartialEq.eq g.L.Lattice.events_of g.met.L.Lattice.is_join c.first_part-first.result.1 told.1 c.first_part-first.ensures)
+    let one : w ≡ (k, first) ∷ [] = told.0 in
+    rw (← c.self.view_is) (new_outcome R h g.met.K.Ord.total same g.met.K.Key.rises k first m.entries (map_with_value c.in_ok-place.place w).entries c.self.inside.count c.self.invariant none (place.update.1 w ∙ ap (insert_entry R m.entries (h k)) one) _ (ap (λ m. flat m.entries) now) g.L.Lattice.least g.L.Lattice.joined c.args.part.now g.L.Event.PartialEq.eq g.L.Lattice.events_of g.met.L.Lattice.is_join c.first_part-first.result.1 told.1 c.first_part-first.ensures)
