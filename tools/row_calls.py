@@ -1,0 +1,133 @@
+"""The calls of the program `lvish` that the questions of rows ask for, and what is answered to a question."""
+
+import subprocess
+import tempfile
+import typing
+from collections import Counter
+
+import kit
+
+# Where a run of `rt ci` leaves it.
+PROGRAM = f"{kit.ROOT}/crates/lvish/out/lvish"
+# The questions that it has no words for, which `lvish_rows` answers.
+OF_LIBRARY = ("canonical", "faults", "order", "parts", "replayed", "report")
+WORKERS = ("1", "2", "8")
+OFTEN, LISTS, PICKS = 100, 200, 40
+# The seconds that a call may take.
+SECONDS = 120
+
+
+class Call(typing.NamedTuple):
+    """The words of a call, and the bytes of its standard input and of its file."""
+
+    words: tuple
+    given: bytes
+    file: str
+    script: bytes
+
+
+class Ran(typing.NamedTuple):
+    """How a call ended, and what it printed. A status below 0 is a signal."""
+
+    status: int
+    text: str
+    said: str
+
+
+def is_of_library(question):
+    """Returns whether the program has no words for what is asked."""
+    return bool(question.words) and question.words[0] in OF_LIBRARY
+
+
+def picks_of(number):
+    """Returns the picks of the list with this number, by a linear congruence."""
+    picks = []
+    for _ in range(PICKS):
+        number = (number * 6364136223846793005 + 1442695040888963407) % 2**64
+        picks.append(str(number >> 45))
+    return picks
+
+
+def calls_of(question):
+    """Returns the calls that a question asks for."""
+    words, file, script = question.words, question.file, question.script
+    first = words[0] if words else ""
+    if first == "cuts":
+        return [Call(("check", file), b"", file, script[:it]) for it in range(len(script) + 1)]
+    if first == "lists":
+        asked = [("pick", file, "--all", *it) for it in ([], *map(picks_of, range(LISTS)))]
+    elif first == "often":
+        asked = [(*words[1:], "--workers", it) for it in WORKERS for _ in range(OFTEN)]
+    elif first == "run" and "--workers" not in words:
+        asked = [words, *([*words, "--workers", it] for it in WORKERS)]
+    else:
+        asked = [words]
+    return [Call(tuple(it), b"" if it else script, file, script) for it in asked]
+
+
+def answer_to(question, rans):
+    """Returns the status and the text that answer a question, by what its calls came to."""
+    first = question.words[0] if question.words else ""
+    if first == "cuts":
+        return 0, stretches([it.status for it in rans])
+    if first == "lists":
+        return 0, ends(rans)
+    usual = rans[0]
+    other = next((it for it in rans if it[:2] != usual[:2]), None)
+    text = usual.text
+    if usual.status == 2:
+        text += f"refused: {usual.said.split(' ')[0]}\n"
+    return usual.status, text if other is None else f"{text}or, of {len(rans)} runs, also {other.status} {other.text}"
+
+
+def stretches(statuses):
+    """Returns a line for each stretch of calls that end with one status."""
+    starts = [at for at in range(len(statuses)) if not at or statuses[at] != statuses[at - 1]]
+    lasts = [*(it - 1 for it in starts[1:]), len(statuses) - 1]
+    return "".join(f"{at} to {last}: status {statuses[at]}\n" for at, last in zip(starts, lasts))
+
+
+def parted(text):
+    """Returns the trace that is printed of a run by picks, and its report."""
+    lines = text.splitlines()
+    is_step = [it.startswith(("run ", "hand ")) and " = " not in it for it in lines]
+    count = is_step.index(False) if False in is_step else len(lines)
+    return lines[:count], lines[count:]
+
+
+def ends(rans):
+    """Returns how many lists of picks end like the run without any, and whether their traces differ."""
+    usual, *others = [(it.status, *parted(it.text)) for it in rans]
+    alike = sum(status == 0 == usual[0] and report == usual[2] for status, _, report in others)
+    traces = Counter(tuple(trace) for _, trace, _ in others)
+    return f"{alike} of {len(others)} lists end alike, by {'traces that differ' if len(traces) > 1 else 'one trace'}\n"
+
+
+def run(words, given, folder=None):
+    """Runs a program, its words first its path, with the given bytes as its standard input, and returns what came of it."""
+    try:
+        ran = subprocess.run(words, cwd=folder, input=given, capture_output=True, timeout=SECONDS)
+    except (OSError, subprocess.TimeoutExpired) as error:
+        return Ran(-1, "", str(error))
+    return Ran(ran.returncode, ran.stdout.decode(errors="replace"), ran.stderr.decode(errors="replace"))
+
+
+class Calls:
+    """Makes calls of the program, each in a folder of the room where its file lies."""
+
+    def __init__(self, program, room):
+        self.program, self.room, self.folders = program, room, {}
+
+    def folder_of(self, call):
+        """Returns the folder with a call's file."""
+        own = call.file, call.script
+        if own not in self.folders:
+            folder = tempfile.mkdtemp(dir=self.room)
+            with open(f"{folder}/{call.file}", "wb") as it:
+                it.write(call.script)
+            self.folders[own] = folder
+        return self.folders[own]
+
+    def make(self, call):
+        """Makes a call, and returns what came of it."""
+        return run([self.program, *call.words], call.given, self.folder_of(call))
