@@ -17,4 +17,5 @@ pub mod StateCalls
 pub mod StatesClash
 pub mod Tallies
 pub mod Trees
+pub mod Turns
 pub mod Values

@@ -17,7 +17,9 @@ use Rattle.lvish_lattice.specs.declared.brought.Brought.TheVariants.{Nothing, On
 use Rattle.lvish_compound.proofs.Outcomes.{outcome_as}
 use Rattle.lvish_lattice.specs.Ascending.{and_left, and_right}
 use Rattle.lvish_lattice.specs.Listed.{unless_some}
+use Rattle.std.proofs.lemmas.List.{nil_from_length}
 use Rattle.std.proofs.lemmas.Option.{same_Some}
+use Rattle.std.specs.Map.Iter.{TakesFirst}
 use Rattle.lvish_compound.specs.Keyed.{key, has_no, at, add, add_all}
 use Rattle.lvish_compound.specs.laws.KeyedLaws.{at_below, at_first, all_joins, all_there}
 use Rattle.lvish_compound.specs.laws.Embedded.{map_twice}
@@ -39,6 +41,11 @@ only_by shows es n None e one has first = absurd (true≢false (sym (has.1 (omeg
 only_by shows [] n (Some p) e one has first = absurd (omega arith)
 only_by shows (x ∷ []) n (Some p) e one has first = ap (λ z. z ∷ []) (same_Some _ _ first)
 only_by shows (x ∷ y ∷ es) n (Some p) e one has first = absurd (omega arith)
+
+-- the only entry, taken as the first
+pub only_taken : {A X : Type 0} (shows : A → X) (s t : List X) (r : Option A) → length s ≡ 1 → TakesFirst shows s r t → MatchOption r (length s ≡ 1 → ⊥) (λ x. s ≡ shows x ∷ [])
+only_taken shows s t None one taken = λ _. absurd (let none = ap length taken.0 in omega (arith, one))
+only_taken shows s t (Some x) one taken = taken ∙ ap (λ xs. shows x ∷ xs) (nil_from_length t (let all = ap length taken in omega (arith, one)))
 
 module _ {K L : Type 0} (R : K → K → Ordering) where
   abbrev S : List (K × L) → Type 0

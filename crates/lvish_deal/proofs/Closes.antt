@@ -73,6 +73,15 @@ module _ {T : Type 0} where
   joined_more rows row k m ws now new back long old more j d at =
       subst (λ (l : List (Vec (Reach T))). IsJoined (column j l) (get_or ws j d) (get_or new j d)) (sym back) (joined_twice (column j (drop m rows)) (column j (row ∷ [])) (get_or ws j d) (get_or now j d) (get_or new j d) (old j d at) (more j d (omega arith)))
 
+  -- owners that were joined may be joined again
+  pub open_again : (m : ℕ) (rows : List (Vec (Reach T))) (ws now : List (Own T)) → length now ≡ length ws → All IsOpen ws → JoinedBy m rows ws now → All IsOpen now
+  open_again m rows ws now long may joined k w at =
+      let inside : k < length ws = omega arith in
+      let j = joined k w inside in
+      let parts = ap (λ (v : Log T). v.parts) j.view in
+      let some = (may k w inside).1 in
+      (j.port ∙ (may k w inside).0, omega arith)
+
   pub drained_more : (k : ℕ) (ws now : List (Own T)) (left now' : List (Vec T)) (w w' : Own T) (l l' : Vec T) → k < length ws → length now ≡ length ws → length now' ≡ length ws → w ≡ get_or now k w → l ≡ get_or now' k l → DrainedTo k ws now left now'
       → Told (worker_view w) l'.items → DrainedTo (k + 1) ws (set now k w') left (set now' k l')
   drained_more k ws now left now' w w' l l' inside long long' own list old told j d e at =

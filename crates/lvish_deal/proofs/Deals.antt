@@ -1,5 +1,5 @@
 -- The steps in which a deal is made.
-use Rattle.std.proofs.Common.{◌≡◌, ◌≢◌, ℕ, ◌+◌, ◌<◌, ◌≤◌, List, [], ◌∷◌, ◌++◌, length, map, set, get_or, take, refl, ap, ◌∙◌, sym, subst, arith, length-set}
+use Rattle.std.proofs.Common.{◌≡◌, ◌≢◌, ℕ, ◌+◌, ◌-◌, ◌<◌, ◌≤◌, All, List, [], ◌∷◌, ◌++◌, length, map, set, get_or, take, refl, ap, ◌∙◌, sym, subst, arith, length-set}
 use Rattle.std.specs.Global.{Global, Vec}
 use Rattle.crossbeam_deque.specs.Handles.{worker_deque}
 use native.Mathlib.Decide.{ℕ_discrete}
@@ -8,7 +8,7 @@ use Rattle.std.proofs.Math.Seq.{map-set_same}
 use Rattle.std.proofs.lemmas.List.{get_or-set_same, get_or-set_other, get_or-map, get_or_append_left, length-map, length_push, map_push, take_more}
 use Rattle.lvish_deal.specs.declared.reach.Reach.{Reach}
 use Rattle.lvish_deal.specs.Reaches.{reach_deque, reach_parts, reach_got, HasParts}
-use Rattle.lvish_deal.specs.Deals.{IsNew, IsNewRow, AreNewRows, parts_after, Own, deques}
+use Rattle.lvish_deal.specs.Deals.{IsNew, IsNewRow, AreCut, AreNewRows, parts_after, Own, deques}
 use Rattle.lvish_deal.specs.Place.{SeatPlace, Deal, AreFreshFrom}
 use Rattle.lvish_deal.proofs.Lists.{get_or_last, peeled}
 
@@ -42,6 +42,21 @@ module _ {T : Type 0} where
       dite (ℕ_discrete j k)
       (λ (e : j ≡ k). rw (e, get_or_last row r k d long) this)
       (λ (ne : ¬ (j ≡ k)). let below : j < length row = omega (arith, length_push row r) in rw (get_or_append_left row (r ∷ []) d j below) (has j d below))
+
+  -- the owners before any seat has its passes
+  pub cut_none : (ws : List (Own T)) → All (IsNew 9) ws → AreCut 0 ws
+  cut_none ws all k w at = subst (λ (n : ℕ). IsNew n (get_or ws k w)) (omega arith) (all k w at)
+
+  -- the owners once all seats have theirs
+  pub cut_all : (ws : List (Own T)) (n : ℕ) → n ≡ length ws → n ≤ 8 → AreCut n ws → All (IsNew (10 - length ws)) ws
+  cut_all ws n e few cut k w at = subst (λ (m : ℕ). IsNew m (get_or ws k w)) (omega arith) (cut k w at)
+
+  -- one more row
+  pub rows_step : (deal : Deal) (rows : List (Vec (Reach T))) (row : Vec (Reach T)) (i : ℕ) → length rows ≡ i → AreNewRows deal rows → IsNewRow deal i row → AreNewRows deal (rows ++ row ∷ [])
+  rows_step deal rows row i long has this j d within =
+      dite (ℕ_discrete j i)
+      (λ (e : j ≡ i). rw (e, get_or_last rows row i d long) this)
+      (λ (ne : ¬ (j ≡ i)). let below : j < length rows = omega (arith, length_push rows row) in rw (get_or_append_left rows (row ∷ []) d j below) (has j d below))
 
   -- the last of these rows, and the others
   pub rows_apart : (deal : Deal) (rows new : List (Vec (Reach T))) (row : Vec (Reach T)) → rows ≡ new ++ row ∷ [] → AreNewRows deal rows → AreNewRows deal new × IsNewRow deal (length new) row

@@ -9,6 +9,7 @@ pub mod Accepted
 pub mod Blocks
 pub mod Reading
 pub mod Nesting
+pub mod Innermost
 pub mod Plain
 pub mod Reread
 pub mod Commands

@@ -74,11 +74,10 @@ impl OpenProcedure {
         ensures lines { OnOk result (opened_lines self.new ≡ opened_lines self.old ++ line.Else ∷ []) }
         ensures openers { OnOk result (openers (Some self.new) ≡ open_step (openers (Some self.old)) line.Else) }
     {
-        let Some(OpenBlock::If(test, first)) = self.blocks.pop() else {
+        let Some(block) = self.blocks.pop() else {
             unreachable!()
         };
-        self.blocks
-            .push(OpenBlock::Else(test, first, empty(alloc)))?;
+        self.blocks.push(block.turned(alloc))?;
         Ok(())
     }
 

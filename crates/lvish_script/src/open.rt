@@ -3,6 +3,7 @@ ghost use Rattle.lvish_script.specs.Spells.{statement_lines, body_lines};
 ghost use Rattle.lvish_syntax.specs.Nested.{statements};
 ghost use Rattle.lvish_script.specs.Nested.{block_lines, opener};
 ghost use Rattle.lvish_checks.specs.declared.line.Line.TheVariants as line;
+ghost use Rattle.lvish_script.specs.Vocabulary.{InIf, InElse};
 
 use lvish_checks::Boxed;
 use lvish_syntax::{Block, Procedure, Statement, Term};
@@ -30,7 +31,6 @@ pub fn add_statement(block: &mut Block, statement: Statement) -> Result<(), Allo
 }
 
 /// A block that is open, with the statements that were read of it.
-#[derive(Drop)]
 pub enum OpenBlock {
     /// An `if` before its `else`.
     If(Boxed<Term>, Block),
@@ -38,6 +38,17 @@ pub enum OpenBlock {
     Else(Boxed<Term>, Block, Block),
     /// A `while`.
     While(Boxed<Term>, Block),
+}
+
+// Written out, so that it is proved once, and not at each exit of a function that owns one.
+impl Drop for OpenBlock {
+    fn drop(self) {
+        match self {
+            OpenBlock::If(_, _) => {}
+            OpenBlock::Else(_, _, _) => {}
+            OpenBlock::While(_, _) => {}
+        }
+    }
 }
 
 impl OpenBlock {
@@ -50,6 +61,18 @@ impl OpenBlock {
             OpenBlock::If(_, block) => add_statement(block, statement),
             OpenBlock::Else(_, _, second) => add_statement(second, statement),
             OpenBlock::While(_, block) => add_statement(block, statement),
+        }
+    }
+
+    /// The second part of an `if`, where this is the first.
+    pub fn turned(self, alloc: Global) -> OpenBlock
+        requires { opener self ≡ InIf }
+        ensures lines { block_lines result ≡ block_lines self ++ line.Else ∷ [] }
+        ensures opener { opener result ≡ InElse }
+    {
+        match self {
+            OpenBlock::If(test, first) => OpenBlock::Else(test, first, empty(alloc)),
+            _ => unreachable!(),
         }
     }
 

@@ -6,7 +6,7 @@ use std::alloc::{AllocError, Global};
 
 /// Where a procedure is: its next instruction, its number, the values of its locals, and the
 /// procedure that an `each` calls, with the events on which it hasn't called it yet.
-#[derive(Debug, PartialEq, Eq)]
+#[derive(PartialEq, Eq)]
 pub struct Frame {
     pub place: usize,
     pub procedure: usize,

@@ -8,7 +8,6 @@ use std::sync::Arc;
 /// The frames below the innermost one, seen from there.
 ///
 /// Copies share them, until one of the two is changed.
-#[derive(Debug)]
 pub struct Frames {
     items: Option<Arc<Vec<Frame>>>,
 }

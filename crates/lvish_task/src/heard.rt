@@ -5,7 +5,7 @@ use lvish_calculus::Reply;
 use lvish_compound::Any;
 
 /// What a task is told by a reply, whose content stays where it stands.
-#[derive(Clone, Copy, Debug)]
+#[derive(Clone, Copy)]
 pub enum Heard<'s> {
     /// The action was made.
     Done,

@@ -9,7 +9,6 @@ use lvish_code::Instruction;
 use std::marker::Model;
 
 /// A few numbers in order, with no memory of their own.
-#[derive(Debug)]
 pub struct InPlace {
     count: usize,
     numbers: [i64; IN_PLACE],

@@ -11,7 +11,6 @@ use std::sync::Arc;
 /// The local state of a task: its frames, and how many local statements are left before a pause.
 ///
 /// Copies share it. `==` holds of identical local states alone.
-#[derive(Debug)]
 pub struct Local {
     stack: Arc<Stack>,
 }

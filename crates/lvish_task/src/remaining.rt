@@ -13,7 +13,6 @@ use std::sync::Arc;
 ///
 /// Those of a set, a cell or a counter differ in their numbers alone. Then only the numbers are kept,
 /// which take a third of the room and can be compared several at a time.
-#[derive(Debug)]
 pub enum Shared {
     /// Of this key and kind, with these numbers.
     Alike(i64, Kind, Vec<i64>),
@@ -78,7 +77,6 @@ impl Shared {
 /// The events on which an `each` hasn't called its procedure yet.
 ///
 /// Copies share them.
-#[derive(Debug)]
 pub struct Remaining {
     all: Option<Arc<Shared>>,
     next: usize,

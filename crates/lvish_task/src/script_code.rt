@@ -7,7 +7,6 @@ use lvish_syntax::Script;
 use std::alloc::{AllocError, Global};
 
 /// The flat code of a script, as a program of the calculus.
-#[derive(Debug)]
 pub struct ScriptCode {
     pub flat: FlatCode,
 }

@@ -17,14 +17,13 @@ use std::marker::Model;
 use std::sync::Arc;
 
 /// A local and the value that it has in place of the shared one.
-#[derive(Debug, Clone, Copy)]
+#[derive(Clone, Copy)]
 pub struct Change {
     pub local: usize,
     pub value: i64,
 }
 
 /// Many numbers in order: a list that copies share, and the few changes that are made to it here.
-#[derive(Debug)]
 pub struct SharedNumbers {
     base: Arc<Vec<i64>>,
     changes: Vec<Change>,

@@ -9,7 +9,7 @@ use std::alloc::{AllocError, Global};
 ///
 /// `==` holds of identical ones alone. It compares numbers before lists, so that it is quick where
 /// they differ.
-#[derive(Debug, PartialEq, Eq)]
+#[derive(PartialEq, Eq)]
 pub struct Stack {
     pub(crate) left: usize,
     pub(crate) top: Frame,

@@ -20,7 +20,6 @@ use std::marker::Model;
 
 /// Numbers in order: a few of them in place, many in memory of their own, or so many that copies
 /// share them.
-#[derive(Debug)]
 pub enum Numbers {
     Few(InPlace),
     Many(Vec<i64>),
@@ -40,7 +39,6 @@ impl Drop for Numbers {
 }
 
 /// The values of locals, by number.
-#[derive(Debug)]
 pub struct Values {
     numbers: Numbers,
 }

@@ -1,5 +1,6 @@
 -- What a put leaves: a log that grows by the fresh events has each event of the join once.
-use Rattle.std.proofs.Common.{◌≡◌, ◌≢◌, ◌↔◌, inl, inr, ℕ, zero, suc, Bool, true, not, ◌&&◌, List, [], ◌∷◌, ◌++◌, Option, Some, None, refl, sym, ap, ◌∙◌, subst, arith, AllPairs, Contains, filter, get_or}
+use Rattle.std.proofs.Common.{◌≡◌, ◌≢◌, ◌↔◌, inl, inr, ℕ, zero, suc, Bool, true, false, not, ◌&&◌, List, [], ◌∷◌, ◌++◌, Option, Some, None, refl, sym, ap, ◌∙◌, subst, arith, AllPairs, Contains, filter, get_or, take, length, ◌+◌, ◌<◌, ◌≤◌, append_assoc}
+use lib.Seq.{take-append_seam}
 use Rattle.std.specs.Bool.{Decides}
 use Rattle.std.specs.Set.{is_member, IsUnion}
 use Rattle.std.specs.List.Sorted.{IsStrictlySortedBy}
@@ -7,7 +8,7 @@ use Rattle.std.specs.Cmp.{IsEquivalence, IsTotalOrder}
 use Rattle.std.specs.declared.cmp.Ordering.{Ordering}
 use Rattle.std.specs.declared.cmp.Ordering.TheVariants.{Less}
 use Rattle.std.proofs.lemmas.Bool.{and_parts, cases_Bool, both_ways, not-true}
-use Rattle.std.proofs.lemmas.List.{map-append, append-nil}
+use Rattle.std.proofs.lemmas.List.{map-append, map_more, take_all, append-nil}
 use Rattle.std.proofs.lemmas.List.Elements.{Contains-append_left, Contains-append_right, Contains-append_cases, Contains-get_or}
 use Rattle.std.proofs.lemmas.List.Kept.{AllPairs-filter}
 use Rattle.std.proofs.lemmas.Map.Keys.{Less-from_sorted}
@@ -32,6 +33,10 @@ append_pairs R (x ∷ xs) ys a b h (suc i) (suc j) d lt ins =
     append_pairs R xs ys (λ i2 j2 d2 l w. a (suc i2) (suc j2) d2 (omega arith) (omega arith)) b
     (λ x2 y2 u w. h x2 y2 (suc u.0, omega (arith, u.1), u.2) w) i j d (omega arith) (omega arith)
 
+-- what was pushed is cut back
+pub cut_back : {X : Type 0} (before more grown cut : List X) (n : ℕ) → n ≡ length before → grown ≡ before ++ more → cut ≡ take n grown → cut ≡ before
+cut_back before more grown cut n count pushed is = is ∙ (λ i. take (count i) (pushed i)) ∙ take-append_seam before more
+
 -- ---- the log's events
 
 logged-entries : {E : Type 0} (task : Name E) (number : ℕ) (es : List E) → logged (entries task number es) ≡ es
@@ -40,6 +45,17 @@ logged-entries task number (e ∷ es) = ap (λ z. e ∷ z) (logged-entries task 
 
 pub logged-append : {E : Type 0} (log : List (Entry E)) (task : Name E) (number : ℕ) (es : List E) → logged (log ++ entries task number es) ≡ logged log ++ es
 logged-append log task number es = map-append _ log (entries task number es) ∙ ap (λ z. logged log ++ z) (logged-entries task number es)
+
+-- the entries of one event more
+pub noted_more : {E : Type 0} (task : Name E) (number : ℕ) (es : List E) (i : ℕ) (before items new : List (Entry E)) (d x : E) → items ≡ before ++ entries task number (take i es) → i < length es → x ≡ get_or es i d
+    → new ≡ items ++ entries task number (x ∷ []) → new ≡ before ++ entries task number (take (i + 1) es)
+noted_more task number es i before items new d x h lt is noted =
+    noted ∙ ap (λ z. z ++ entries task number (x ∷ [])) h ∙ append_assoc before (entries task number (take i es)) (entries task number (x ∷ []))
+    ∙ ap (λ y. before ++ (entries task number (take i es) ++ entries task number (y ∷ []))) is ∙ ap (λ z. before ++ z) (sym (map_more (λ e. record { event = e; task = task; number = number }) es i d lt))
+
+-- the entries of all events
+pub noted_all : {E : Type 0} (task : Name E) (number : ℕ) (es : List E) (i : ℕ) (before items : List (Entry E)) → items ≡ before ++ entries task number (take i es) → length es ≤ i → items ≡ before ++ entries task number es
+noted_all task number es i before items h le = h ∙ ap (λ z. before ++ entries task number z) (take_all i es le)
 
 -- ---- the fresh events
 
@@ -131,3 +147,23 @@ module _ {E : Type 0} {eq : E → E → Bool} (same : IsIdentity eq) (laws : IsE
 pub is_joined : {S : Type 0} (joined : Option S) (old new : S) → IsMerged joined old new true → joined ≡ Some new
 is_joined (Some s) old new h = ap Some (sym h.1)
 is_joined None old new h = absurd (cc h.0)
+
+-- what a put leaves of a variable that isn't frozen
+pub put_is : {S E : Type 0} (join : S → S → Option S) (eq : E → E → Bool) (events : S → List E) (task : Name E) (number : ℕ) (put state new : S) (frozen : Bool) (log all : List (Entry E)) (old : VariableView S E)
+    → ◌≡◌ {A = VariableView S E} (record { state = state; frozen = frozen; log = log }) old → join state put ≡ Some new → all ≡ log ++ entries task number (fresh_of join eq events state put) → frozen ≡ false
+    → IsPut join eq events task number put old (record { state = new; frozen = frozen; log = all })
+put_is join eq events task number put state new frozen log all old shown joined logs unfrozen =
+    subst (λ v. IsPut join eq events task number put v (record { state = new; frozen = frozen; log = all })) shown (record { joined = joined; mark = refl; allowed = λ t. absurd (cc (sym unfrozen ∙ t)); log = logs })
+
+-- a variable whose state and log are as they were is as it was
+module _ {S E : Type 0} (s t : S) (log all : List (Entry E)) (state : s ≡ t) (logs : log ≡ all) where
+  pub stays : (frozen : Bool) (old : VariableView S E) → ◌≡◌ {A = VariableView S E} (record { state = t; frozen = frozen; log = all }) old → ◌≡◌ {A = VariableView S E} (record { state = s; frozen = frozen; log = log }) old
+  stays frozen old shown = (λ i. record { state = state i; frozen = frozen; log = logs i }) ∙ shown
+
+  pub log_stays : (events : S → List E) → IsLogOf events t all → IsLogOf events s log
+  log_stays events kept = subst (λ x. IsLogOf events x log) (sym state) (subst (IsLogOf events t) (sym logs) kept)
+
+-- where it says that the join is top, the state is as it was
+pub is_top : {S : Type 0} (joined : Option S) (old new : S) → IsMerged joined old new false → (joined ≡ None) × (new ≡ old)
+is_top (Some s) old new h = absurd (cc h.0)
+is_top None old new h = (refl, h.1)

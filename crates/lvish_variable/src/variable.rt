@@ -100,7 +100,7 @@ impl<L: Lattice> Variable<L> {
         number: u64,
         put: &L,
     ) -> Result<(), PutFault>
-        requires { self.old.frozen ≡ false }
+        requires unfrozen { self.old.frozen ≡ false }
         ensures ok { IfOk result (λ _. IsPut L.joined L.Event.eq L.events_of task.now number put.now self.old self.new) }
         ensures why { IfErr result (λ f. IsPutRefused L.joined put.now self.old f) }
         ensures refused { IfErr result (λ _. self.new ≡ self.old) }
@@ -118,7 +118,7 @@ impl<L: Lattice> Variable<L> {
 
     /// Whether a frozen variable takes the put, which leaves it as it is.
     fn allow(&self, alloc: Global, put: &L) -> Result<(), PutFault>
-        requires { IsTrue self.now.frozen }
+        requires frozen { IsTrue self.now.frozen }
         ensures ok { IfOk result (λ _. L.joined self.now.state put.now ≡ Some self.now.state) }
         ensures why { IfErr result (λ f. IsPutRefused L.joined put.now self.now f) }
     {

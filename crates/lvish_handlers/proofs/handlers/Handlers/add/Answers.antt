@@ -1,4 +1,4 @@
-use Rattle.std.proofs.Common.{◌≤◌, All, length, refl, sym, subst}
+use Rattle.std.proofs.Common.{◌≤◌, ◌∙◌, All, length, take, drop, take-append-drop, refl, ap, sym, subst}
 use Rattle.lvish_handlers.specs.Handlers.{HandlersView, IsHeld}
 use Rattle.lvish_handlers.proofs.Places.{is_held}
 use Rattle.lvish_handlers.proofs.Changes.{counted_insert, within_insert}
@@ -24,3 +24,9 @@ pub returns-clause-within : goal.returns-clause-within
 returns-clause-within g c within =
     let n = length c.args.variable.now.log in
     rw c.in_ok-insert-in-Err.ensures.items (within_insert n _ _ _ refl (subst (λ (v : HandlersView _). All (λ h. h.handed ≤ n) v.held) (sym c.self.view_is) within))
+
+pub returns-clause-ok : goal.returns-clause-ok
+returns-clause-ok g c =
+    let held = c.self.inside.held.items in
+    let gap = c.in-Err.gap in
+    record { before = take gap held; after = drop gap held; was = sym (ap (λ (v : HandlersView _). v.held) c.self.view_is) ∙ sym (take-append-drop gap held); is = c.in_ok-insert-in-Err.ensures.items; pools = ap (λ (v : HandlersView _). v.running) c.self.view_is }
