@@ -3,6 +3,7 @@ pub mod Seen
 pub mod Tabled
 pub mod Scans
 pub mod Loops
+pub mod Tested
 pub mod Lines
 pub mod Versions
 pub mod Forms

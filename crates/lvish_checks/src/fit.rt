@@ -5,7 +5,7 @@ ghost use Rattle.std.specs.List.{list_all};
 ghost use Rattle.std.specs.Ordering.{int_eq};
 ghost use Rattle.lvish_syntax.specs.Sound.{kind_at, side_kind, is_level, are_of_kind, are_one, is_of_kind, is_apart, is_total_threshold, is_whole_read, is_read_of};
 
-use lvish_lattice::HIGHEST_LEVEL;
+use lvish_base::HIGHEST_LEVEL;
 use lvish_syntax::{SimpleKind, Term, Threshold, VariableKind};
 
 /// The kind of a variable, where it is a cell, a set or a counter.

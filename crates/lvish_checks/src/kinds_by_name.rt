@@ -105,7 +105,12 @@ impl<'a> KindsByName<'a> {
     pub fn are_pools_of(&self, variable: &Identifier, pools: &[Identifier]) -> bool
         ensures { (ds : List Declaration) → AreOfPools self.now.pools ds → result ≡ list_all (is_pool_of ds variable.now) pools.now }
     {
-        pools.iter().all(|pool| self.is_pool_of(variable, pool))
+        for pool in pools {
+            if !self.is_pool_of(variable, pool) {
+                return false;
+            }
+        }
+        true
     }
 }
 

@@ -11,7 +11,6 @@
 //! `lvish_script` nests the lines that pass into a script.
 #![tactic(auto)]
 
-mod boxed;
 mod check;
 mod declared;
 mod fault;
@@ -29,12 +28,12 @@ mod verdict;
 mod version;
 mod word;
 
-pub use boxed::Boxed;
 pub use check::first_bad_number;
 pub use fault::Fault;
 pub use form::line_of;
 pub use laws::a_form_has_its_words_alone;
 pub use line::Line;
+pub use lvish_base::Boxed;
 pub use script_fault::ScriptFault;
 pub use text::{lines_of, put_words, words_of};
 pub use verdict::first_fault;

@@ -1,8 +1,8 @@
-use crate::boxed::Boxed;
+use lvish_base::Boxed;
 use lvish_syntax::{Command, Declaration, Identifier, Identifiers, Term};
 
 /// What a line says, in scripts of any version. It is small, since each line of a text has one.
-#[derive(Debug, Drop)]
+#[derive(Drop)]
 pub enum Line {
     /// It has no words.
     Blank,

@@ -6,6 +6,7 @@ ghost use Rattle.lvish_syntax.specs.Version.{is_later, is_name_in, is_kind_in, i
 ghost use Rattle.lvish_checks.specs.Checks.{is_told, is_line_in, version_of};
 
 use crate::line::Line;
+use crate::word::is;
 use lvish_syntax::{
     Command, Declaration, Identifier, LetValue, Term, Threshold, VariableKind, Version,
 };
@@ -42,8 +43,8 @@ pub fn version_of(lines: &[Line]) -> Version
 fn is_later(name: &Identifier) -> bool
     ensures { result ≡ is_later name.now }
 {
-    let text = name.as_str();
-    text == "lvish" || text == "tally" || text == "total"
+    let text = name.as_str().as_bytes();
+    is(text, b"lvish") || is(text, b"tally") || is(text, b"total")
 }
 
 fn is_name_in(version: Version, name: &Identifier) -> bool
@@ -58,7 +59,12 @@ fn is_name_in(version: Version, name: &Identifier) -> bool
 fn are_names_in(version: Version, names: &[Identifier]) -> bool
     ensures { result ≡ list_all (is_name_in version) names.now }
 {
-    names.iter().all(|name| is_name_in(version, name))
+    for name in names {
+        if !is_name_in(version, name) {
+            return false;
+        }
+    }
+    true
 }
 
 fn is_kind_in(version: Version, kind: VariableKind) -> bool
@@ -82,7 +88,12 @@ fn is_term_in(version: Version, term: &Term) -> bool
 fn are_terms_in(version: Version, terms: &[Term]) -> bool
     ensures { result ≡ list_all (is_term_in version) terms.now }
 {
-    terms.iter().all(|term| is_term_in(version, term))
+    for term in terms {
+        if !is_term_in(version, term) {
+            return false;
+        }
+    }
+    true
 }
 
 fn is_value_in(version: Version, value: &LetValue) -> bool

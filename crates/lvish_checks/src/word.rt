@@ -43,7 +43,12 @@ fn begins_name(word: &[u8]) -> bool
 fn has_name_bytes(word: &[u8]) -> bool
     ensures { result ≡ list_all is_name_byte word.now }
 {
-    word.iter().all(|b| is_name_byte(*b))
+    for b in word {
+        if !is_name_byte(*b) {
+            return false;
+        }
+    }
+    true
 }
 
 fn is_reserved_of_2(word: &[u8]) -> bool

@@ -1,4 +1,5 @@
 mod Kept
+mod Loops
 mod Patch
 mod Landing
 mod CodeSound

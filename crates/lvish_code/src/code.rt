@@ -13,7 +13,6 @@ use std::marker::Model;
 ///
 /// Variables, pools and procedures are numbers, from 0, each in the order of their lines. All that an
 /// instruction names is there, and each jump stays within its routine, by this type: `IsCodeSound`.
-#[derive(Debug)]
 pub struct Code {
     kinds: Kinds,
     pools: Indices,
@@ -51,11 +50,14 @@ impl Code {
         ensures { IfOk result (λ c. IsCodeOf script.now c) }
     {
         let tables = Tables::new(alloc, script.declarations(), script.procedures())?;
+        let pools = pool_variables(alloc, &tables.variables, script.declarations())?;
+        let routines = routines_of(alloc, &tables, script.procedures())?;
+        let main = tables.procedures.number_of("main");
         Ok(Code {
-            pools: pool_variables(alloc, &tables.variables, script.declarations())?,
-            main: tables.procedures.number_of("main"),
-            routines: routines_of(alloc, &tables, script.procedures())?,
-            kinds: tables.kinds,
+            kinds: tables.into_kinds(),
+            pools,
+            main,
+            routines,
         })
     }
 

@@ -2,7 +2,7 @@ use crate::expression::Expression;
 use crate::operand::{Operand, Operands};
 use crate::target::Target;
 use crate::wanted::Wanted;
-use lvish_lattice::Items;
+use lvish_base::Items;
 
 /// Numbers of variables or of pools, in order.
 pub type Indices = Items<usize>;

@@ -1,4 +1,4 @@
-use lvish_lattice::Items;
+use lvish_base::Items;
 
 /// What stands for a number in an instruction.
 #[derive(Clone, Copy, Debug, PartialEq, Eq)]

@@ -1,5 +1,5 @@
 use crate::instruction::Instructions;
-use lvish_lattice::Items;
+use lvish_base::Items;
 
 /// The flat code of a procedure. Its parameters are the first of its locals.
 #[derive(Debug)]

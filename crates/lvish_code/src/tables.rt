@@ -5,7 +5,7 @@ ghost use Rattle.lvish_code.specs.Compile.{variable_kinds, pool_variables};
 
 use crate::instruction::Indices;
 use crate::numbering::Numbering;
-use lvish_lattice::Items;
+use lvish_base::Items;
 use lvish_syntax::{Declaration, Procedure, VariableKind};
 use std::alloc::{AllocError, Global};
 
@@ -13,12 +13,23 @@ use std::alloc::{AllocError, Global};
 pub type Kinds = Items<VariableKind>;
 
 /// The numbers of all that a script declares, and the kinds of its variables.
-#[derive(Drop)]
 pub struct Tables<'s> {
     pub variables: Numbering<'s>,
     pub kinds: Kinds,
     pub pools: Numbering<'s>,
     pub procedures: Numbering<'s>,
+}
+
+// Written out, so that it is proved once, and not at each exit of a function that owns one.
+impl<'s> Drop for Tables<'s> {
+    fn drop(self) {
+        let Tables {
+            variables: _,
+            kinds: _,
+            pools: _,
+            procedures: _,
+        } = self;
+    }
 }
 
 impl<'s> Tables<'s> {
@@ -39,6 +50,19 @@ impl<'s> Tables<'s> {
             pools: pools_of(alloc, declarations)?,
             procedures: procedures_of(alloc, procedures)?,
         })
+    }
+
+    /// The kinds of the variables.
+    pub fn into_kinds(self) -> Kinds
+        ensures { result ≡ self.entry.kinds }
+    {
+        let Tables {
+            variables: _,
+            kinds,
+            pools: _,
+            procedures: _,
+        } = self;
+        kinds
     }
 }
 

@@ -9,7 +9,7 @@ pub use Rattle.lvish_lattice.specs.declared.lattice.Lattice.{Ghosts as LatticeGh
 pub use Rattle.lvish_lattice.specs.declared.flat.Flat.{Flat}
 pub use Rattle.lvish_lattice.specs.declared.flat.Flat.TheVariants.{Bottom, Value}
 pub use Rattle.lvish_lattice.specs.declared.max_counter.MaxCounter.{MaxCounter}
-pub use Rattle.lvish_lattice.specs.declared.limits.TheConstants.{HIGHEST_LEVEL}
+pub use Rattle.lvish_base.specs.declared.limits.TheConstants.{HIGHEST_LEVEL}
 pub use Rattle.lvish_compound.specs.declared.limits.TheConstants.{HIGHEST_TOTAL}
 pub use Rattle.lvish_compound.specs.declared.key.Key.{Ghosts as KeyGhosts}
 pub use Rattle.lvish_compound.specs.declared.above.Above.{Above}

@@ -1,7 +1,7 @@
 -- Numbers that only grow.
 use Rattle.std.proofs.Common.{◌≡◌, ◌≤◌, ℕ, ℤ, pos, Bool, cond, List, Option, Some, Contains, find, map, option_map, nat_le, lit≤}
 use Rattle.std.specs.List.{range_with_len}
-use Rattle.lvish_lattice.specs.declared.limits.TheConstants.{HIGHEST_LEVEL}
+use Rattle.lvish_base.specs.declared.limits.TheConstants.{HIGHEST_LEVEL}
 use Rattle.lvish_lattice.specs.declared.max_counter.MaxCounter.{MaxCounter}
 use Rattle.lvish_lattice.specs.declared.max_counter.Levels.{Levels}
 use Rattle.lvish_lattice.specs.declared.max_counter.Levels.TheVariants.{In}

@@ -2,8 +2,8 @@ ghost use Rattle.std.specs.Prelude.{◌≡◌};
 ghost use Rattle.std.specs.List.{list_any};
 
 use crate::brought::Brought;
-use crate::items::Items;
 use crate::lattice::{Lattice, Plain, Reads};
+use lvish_base::Items;
 use std::alloc::{AllocError, Global};
 use std::hash::Hash;
 

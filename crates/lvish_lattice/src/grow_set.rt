@@ -4,10 +4,10 @@ ghost use Rattle.std.specs.List.Sorted.{IsStrictlySortedBy, IsStrictlySortedBy-p
 
 use crate::brought::Brought;
 use crate::elements::Elements;
-use crate::items::Items;
 use crate::lattice::{Lattice, Plain, Reads};
 use crate::reads::{has_one_value, one_of};
 use crate::set_iter::SetIter;
+use lvish_base::Items;
 use std::alloc::{AllocError, Global};
 use std::hash::Hash;
 

@@ -1,12 +1,11 @@
 ghost use Rattle.std.specs.Prelude.{◌≡◌, ◌↔◌, ◌≤◌, ◌-◌, ◌+◌, IfOk, IsOk, pos, ◌≤ℤ◌, map};
 ghost use Rattle.std.specs.List.{range_with_len};
-ghost use Rattle.lvish_lattice.specs.declared.limits.TheConstants.{HIGHEST_LEVEL};
+ghost use Rattle.lvish_base.specs.declared.limits.TheConstants.{HIGHEST_LEVEL};
 
 use crate::brought::Brought;
-use crate::items::Items;
 use crate::lattice::{Lattice, Plain, Reads};
-use crate::limits::HIGHEST_LEVEL;
 use crate::reads::{has_one_value, one_of};
+use lvish_base::{HIGHEST_LEVEL, Items};
 use std::alloc::{AllocError, Global};
 use thiserror::Error;
 

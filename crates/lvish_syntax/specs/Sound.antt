@@ -5,7 +5,7 @@ use Rattle.std.specs.Ordering.{int_eq}
 use Rattle.std.specs.List.{list_any, list_all, flat_map}
 use Rattle.std.specs.Str.{bytes_eq}
 use Rattle.lvish_syntax.specs.Syntax.{Word, Version, SimpleKind, Cell, Set, Max, VariableKind, Simple, Map, Pair, Tally, Term, Local, Number, LetValue, Same, Combined, Threshold, Any, In, Has, Least, Total, Declaration, Variable, Pool, Statement, Block, Command, Let, Put, PutAt, Get, GetAt, Fork, Call, Handle, Freeze, FreezeEach, Procedure}
-use Rattle.lvish_lattice.specs.declared.limits.TheConstants.{HIGHEST_LEVEL}
+use Rattle.lvish_base.specs.declared.limits.TheConstants.{HIGHEST_LEVEL}
 use Rattle.lvish_syntax.specs.declared.limits.TheConstants.{MOST}
 use Rattle.lvish_syntax.specs.Name.{has_name, has_repeat, is_known}
 use Rattle.lvish_syntax.specs.Written.{is_declaration_written, is_procedure_written}

@@ -2,7 +2,7 @@ ghost use Rattle.std.specs.Prelude.{◌≡◌};
 
 use crate::identifier::Identifier;
 use crate::kind::VariableKind;
-use lvish_lattice::Items;
+use lvish_base::Items;
 
 /// A line at the head of a script.
 #[derive(Debug)]

@@ -3,7 +3,7 @@ ghost use Rattle.lvish_syntax.specs.Words.{is_name};
 
 use crate::limits::MOST_IN_NAME;
 use arrayvec::ArrayString;
-use lvish_lattice::Items;
+use lvish_base::Items;
 use std::alloc::{AllocError, Global};
 use std::marker::Model;
 

@@ -1,6 +1,6 @@
 use crate::identifier::{Identifier, Identifiers};
 use crate::statement::Block;
-use lvish_lattice::Items;
+use lvish_base::Items;
 
 /// A procedure: its name, its parameters in order and its statements.
 #[derive(Debug, Drop)]

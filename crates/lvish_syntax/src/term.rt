@@ -1,7 +1,7 @@
 ghost use Rattle.std.specs.Prelude.{◌≡◌, IfOk};
 
 use crate::identifier::Identifier;
-use lvish_lattice::Items;
+use lvish_base::Items;
 use std::alloc::{AllocError, Global};
 
 /// What stands for a number in a statement: a local or a number.

@@ -1,7 +1,7 @@
 ghost use Rattle.std.specs.Prelude.{◌≡◌, IfOk};
 
 use crate::term::Term;
-use lvish_lattice::Items;
+use lvish_base::Items;
 use std::alloc::{AllocError, Global};
 
 /// Numbers in order.

@@ -8,7 +8,12 @@ use crate::word::is_bad_number;
 fn has_bad_number(words: &[&[u8]]) -> bool
     ensures { result ≡ list_any is_bad_number (map (λ w. w.now) words.now) }
 {
-    words.iter().any(|word| is_bad_number(word))
+    for word in words {
+        if is_bad_number(word) {
+            return true;
+        }
+    }
+    false
 }
 
 /// The line that was found before, or else this one, where its words have a number word that is no

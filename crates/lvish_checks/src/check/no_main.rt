@@ -3,13 +3,14 @@ ghost use Rattle.std.specs.List.{list_any};
 ghost use Rattle.lvish_checks.specs.Checks.{is_main, on_whole, IsFirstOn};
 
 use crate::line::Line;
+use crate::word::is;
 
 fn is_main(line: &Line) -> bool
     ensures { result ≡ is_main line.now }
 {
     match line {
         Line::Proc(name, parameters) => {
-            name.get().as_str() == "main" && parameters.get().as_slice().is_empty()
+            is(name.get().as_str().as_bytes(), b"main") && parameters.get().as_slice().is_empty()
         }
         _ => false,
     }
@@ -19,7 +20,7 @@ fn is_main(line: &Line) -> bool
 fn has_main(lines: &[Line]) -> bool
     ensures { result ≡ list_any is_main lines.now }
 {
-    lines.iter().any(|line| is_main(line))
+    lines.iter().any(is_main)
 }
 
 /// Line 0, where no procedure `main` without parameters is declared.

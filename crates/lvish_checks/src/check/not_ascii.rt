@@ -12,7 +12,12 @@ fn is_foreign(b: u8) -> bool
 fn has_foreign(line: &[u8]) -> bool
     ensures { result ≡ list_any is_foreign line.now }
 {
-    line.iter().any(|b| is_foreign(*b))
+    for b in line {
+        if is_foreign(*b) {
+            return true;
+        }
+    }
+    false
 }
 
 /// The first line with a byte that no script has.

@@ -74,7 +74,12 @@ fn is_known(locals: &NameSet, term: &Term) -> bool
 fn are_known(locals: &NameSet, terms: &[Term]) -> bool
     ensures { (names : List Word) → HaveSameNames locals.now names → result ≡ list_all (is_known names) terms.now }
 {
-    terms.iter().all(|term| is_known(locals, term))
+    for term in terms {
+        if !is_known(locals, term) {
+            return false;
+        }
+    }
+    true
 }
 
 fn is_value_known(locals: &NameSet, value: &LetValue) -> bool
@@ -100,7 +105,12 @@ fn is_threshold_known(locals: &NameSet, threshold: &Threshold) -> bool
 fn are_pools(declared: &Declared, names: &[Identifier]) -> bool
     ensures { (lines : List Line) → ArePools declared.now.pools lines → result ≡ list_all (λ p. has_pool p lines) names.now }
 {
-    names.iter().all(|name| declared.pools.contains(name))
+    for name in names {
+        if !declared.pools.contains(name) {
+            return false;
+        }
+    }
+    true
 }
 
 /// Whether a statement names what isn't declared, or a term that is none of the locals.

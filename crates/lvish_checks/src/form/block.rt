@@ -3,10 +3,10 @@ ghost use Rattle.lvish_checks.specs.declared.line.Line.{Line};
 ghost use Rattle.lvish_checks.specs.Form.{bare_line, block_line, block_form};
 ghost use Rattle.lvish_checks.specs.declared.line.Line.TheVariants.{If, While};
 
-use crate::boxed::Boxed;
 use crate::form::term::only_term;
 use crate::line::Line;
 use crate::word::is;
+use lvish_base::Boxed;
 use std::alloc::{AllocError, Global};
 
 #[tactic(auto, unfolding(crate::specs::Form::block_line))]

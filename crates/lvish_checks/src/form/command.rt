@@ -7,12 +7,12 @@ ghost use Rattle.lvish_syntax.specs.declared.command.Command.TheVariants.{Fork, 
 ghost use Rattle.lvish_checks.specs.declared.line.Line.TheVariants.{Do};
 ghost use Rattle.lvish_checks.specs.Form.{or_bad, value_of, let_line, put_of, put_line, get_at, get_of, get_line, run_line, handle_line, freeze_line, command_form};
 
-use crate::boxed::Boxed;
 use crate::form::freeze::freeze_of;
 use crate::form::term::{operator_of, term_of, terms_of};
 use crate::form::threshold::threshold_of;
 use crate::line::Line;
 use crate::word::{is, is_name};
+use lvish_base::Boxed;
 use lvish_syntax::{Command, Identifier, LetValue, Terms};
 use std::alloc::{AllocError, Global};
 

@@ -3,17 +3,22 @@ ghost use Rattle.std.specs.List.{list_all};
 ghost use Rattle.lvish_syntax.specs.Words.{is_name};
 ghost use Rattle.lvish_checks.specs.Form.{variable_line, pair_kind, pair_line, pool_line, proc_line, declaration_form};
 
-use crate::boxed::Boxed;
 use crate::form::term::simple_kind;
 use crate::line::Line;
 use crate::word::{is, is_name};
+use lvish_base::Boxed;
 use lvish_syntax::{Declaration, Identifier, Identifiers, SimpleKind, VariableKind};
 use std::alloc::{AllocError, Global};
 
 fn are_names(words: &[&[u8]]) -> bool
     ensures { result ≡ list_all is_name (map (λ w. w.now) words.now) }
 {
-    words.iter().all(|word| is_name(word))
+    for word in words {
+        if !is_name(word) {
+            return false;
+        }
+    }
+    true
 }
 
 /// The names that words write.

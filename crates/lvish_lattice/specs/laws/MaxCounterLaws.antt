@@ -17,7 +17,7 @@ use Rattle.lvish_lattice.specs.declared.max_counter.Levels.{Levels}
 use Rattle.lvish_lattice.specs.Lattice.{IsIdentity, IsJoin, IsAtOrBelow, HasEvents, fresh_of, IsChecked, IsAnswered, IsWatched}
 use Rattle.lvish_lattice.specs.Listed.{found, found_one, mapped, unmapped, some_is_not_none, one_of, one_is_each, missed}
 use Rattle.lvish_lattice.specs.MaxCounter.{level, number_of, zero as none, joined, events_of, listed, Member, answer_of, spot_of, watched}
-use Rattle.lvish_lattice.specs.declared.limits.TheConstants.{HIGHEST_LEVEL}
+use Rattle.lvish_base.specs.declared.limits.TheConstants.{HIGHEST_LEVEL}
 
 -- two counters of the same number are the same
 pub same_counter : (a b : MaxCounter) → level a ≡ level b → a ≡ b

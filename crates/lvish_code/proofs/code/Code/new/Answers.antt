@@ -31,10 +31,10 @@ pub invariant_of-result : goal.invariant_of-result
 invariant_of-result c =
     let tables = c.in_ok-tables.ensures in
     let e = parts c.args.script.now c.in_ok-tables.tables _ _ _ _ c.declarations.ensures.value c.declarations-2.ensures.value c.procedures.ensures.value c.procedures-2.ensures.value tables.variables tables.kinds tables.pools tables.procedures in
-    (code_sound_by c.args.script.now _ _ _ _ e.0 (c.in_ok-pool_variables.ensures ∙ e.1) (c.number_of.ensures ∙ e.2) (c.in_ok-routines_of.ensures ∙ e.3), tt)
+    (code_sound_by c.args.script.now _ _ _ _ (c.into_kinds.ensures ∙ e.0) (c.in_ok-pools.ensures ∙ e.1) (c.number_of-main.ensures ∙ e.2) (c.in_ok-routines.ensures ∙ e.3), tt)
 
 pub returns : goal.returns
 returns c =
     let tables = c.in_ok-tables.ensures in
     let e = parts c.args.script.now c.in_ok-tables.tables _ _ _ _ c.declarations.ensures.value c.declarations-2.ensures.value c.procedures.ensures.value c.procedures-2.ensures.value tables.variables tables.kinds tables.pools tables.procedures in
-    record { kinds = e.0; pools = c.in_ok-pool_variables.ensures ∙ e.1; main = c.number_of.ensures ∙ e.2; routines = c.in_ok-routines_of.ensures ∙ e.3 }
+    record { kinds = c.into_kinds.ensures ∙ e.0; pools = c.in_ok-pools.ensures ∙ e.1; main = c.number_of-main.ensures ∙ e.2; routines = c.in_ok-routines.ensures ∙ e.3 }
