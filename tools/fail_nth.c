@@ -1,10 +1,8 @@
 /* A heap that stands before the C library's, and refuses one growth: for tools/refused_growths, which
    builds it with the kit's compiler and has it loaded before a program. So no header is read.
 
-   A growth is a call of malloc, calloc or realloc. To open the file "fail-nth/N" has the N-th growth
-   from then on refused; to open "fail-nth" succeeds where that growth is still to come, which is then
-   not refused any more. No such file has to be there. The counts stand in the file that the
-   environment's FAIL_NTH names, so that they are there however the program ends. */
+   A growth is a call of malloc, calloc or realloc. Which one is refused, and the counts, stand in the
+   file that the environment's FAIL_NTH names, so that they are there however the program ends. */
 
 typedef unsigned long size;
 
@@ -12,12 +10,12 @@ void *__libc_malloc(size bytes);
 void *__libc_calloc(size count, size bytes);
 void *__libc_realloc(void *block, size bytes);
 void __libc_free(void *block);
-int __open(const char *path, int flags, ...);
+int open(const char *path, int flags, ...);
 int *__errno_location(void);
 char *getenv(const char *name);
 void *mmap(void *at, size bytes, int rights, int how, int file, long offset);
 
-enum { NO_FILE = 2, NO_MEMORY = 12, READ_WRITE = 2, SHARED = 1 };
+enum { NO_MEMORY = 12, READ_WRITE = 2, SHARED = 1 };
 
 struct counts {
   long growths; /* asked for */
@@ -31,7 +29,7 @@ static struct counts *counts = &own;
 
 __attribute__((constructor)) static void begin(void) {
   const char *path = getenv("FAIL_NTH");
-  int file = path ? __open(path, READ_WRITE) : -1;
+  int file = path ? open(path, READ_WRITE) : -1;
   if (file < 0)
     return;
   void *at = mmap(0, sizeof own, 1 | 2, SHARED, file, 0);
@@ -82,35 +80,4 @@ void free(void *block) {
   if (block)
     __atomic_sub_fetch(&counts->held, 1, __ATOMIC_SEQ_CST);
   __libc_free(block);
-}
-
-/* The number behind "fail-nth/", 0 for "fail-nth" alone, and -1 of any other path. */
-static long asked(const char *path) {
-  const char *name = "fail-nth";
-  for (; *name; name++, path++)
-    if (*path != *name)
-      return -1;
-  if (!*path)
-    return 0;
-  if (*path++ != '/')
-    return -1;
-  long number = 0;
-  for (; *path >= '0' && *path <= '9'; path++)
-    number = number * 10 + (*path - '0');
-  return *path ? -1 : number;
-}
-
-int open(const char *path, int flags, ...) {
-  __builtin_va_list rest;
-  __builtin_va_start(rest, flags);
-  int mode = __builtin_va_arg(rest, int);
-  __builtin_va_end(rest);
-  long number = asked(path);
-  if (number < 0)
-    return __open(path, flags, mode);
-  if (__atomic_exchange_n(&counts->to_come, number, __ATOMIC_SEQ_CST) == 0 && number == 0) {
-    *__errno_location() = NO_FILE;
-    return -1;
-  }
-  return __open("/dev/null", 0);
 }

@@ -1,4 +1,7 @@
-"""The calls of the program `lvish` that the questions of rows ask for, and what is answered to a question."""
+"""The calls of programs that the questions of rows ask for, and what is answered to a question.
+
+A question is about `lvish`, but for those that a probe answers: `lvish_probe` or, about boards, `lvish_board_probe`.
+"""
 
 import subprocess
 import tempfile
@@ -7,10 +10,11 @@ from collections import Counter
 
 import kit
 
-# Where a run of `rt ci` leaves it.
-PROGRAM = f"{kit.ROOT}/crates/lvish/out/lvish"
-# The questions that it has no words for, which `lvish_rows` answers.
-OF_LIBRARY = ("canonical", "faults", "order", "parts", "replayed", "report")
+LVISH, PROBE, BOARD_PROBE = "lvish", "lvish_probe", "lvish_board_probe"
+# Where a run of `rt ci` leaves them.
+PATHS = {it: f"{kit.ROOT}/crates/{it}/out/{it}" for it in (LVISH, PROBE, BOARD_PROBE)}
+# The questions of the first probe.
+OF_PROBE = ("canonical", "faults", "order", "parts", "replayed", "report")
 WORKERS = ("1", "2", "8")
 OFTEN, LISTS, PICKS = 100, 200, 40
 # The seconds that a call may take.
@@ -18,8 +22,9 @@ SECONDS = 120
 
 
 class Call(typing.NamedTuple):
-    """The words of a call, and the bytes of its standard input and of its file."""
+    """A program's name, its words, and the bytes of its standard input and of its file."""
 
+    program: str
     words: tuple
     given: bytes
     file: str
@@ -34,9 +39,10 @@ class Ran(typing.NamedTuple):
     said: str
 
 
-def is_of_library(question):
-    """Returns whether the program has no words for what is asked."""
-    return bool(question.words) and question.words[0] in OF_LIBRARY
+def program_of(question):
+    """Returns the name of the program that is asked."""
+    first = question.words[0] if question.words else ""
+    return BOARD_PROBE if first == "board" else PROBE if first in OF_PROBE else LVISH
 
 
 def picks_of(number):
@@ -48,12 +54,22 @@ def picks_of(number):
     return picks
 
 
+def board_input(question):
+    """Returns the input of a board: the script, and the calls that the expected lines name."""
+    calls = [it.split(" -> ")[0] for it in question.text.splitlines()]
+    return question.script + "".join(f"{it}\n" for it in ("-- calls", *calls)).encode()
+
+
 def calls_of(question):
     """Returns the calls that a question asks for."""
     words, file, script = question.words, question.file, question.script
-    first = words[0] if words else ""
+    first, program = words[0] if words else "", program_of(question)
+    if program == BOARD_PROBE:
+        return [Call(program, tuple(words[1:]), board_input(question), file, script)]
+    if program == PROBE:
+        return [Call(program, tuple(words), script, file, script)]
     if first == "cuts":
-        return [Call(("check", file), b"", file, script[:it]) for it in range(len(script) + 1)]
+        return [Call(program, ("check", file), b"", file, script[:it]) for it in range(len(script) + 1)]
     if first == "lists":
         asked = [("pick", file, "--all", *it) for it in ([], *map(picks_of, range(LISTS)))]
     elif first == "often":
@@ -62,7 +78,7 @@ def calls_of(question):
         asked = [words, *([*words, "--workers", it] for it in WORKERS)]
     else:
         asked = [words]
-    return [Call(tuple(it), b"" if it else script, file, script) for it in asked]
+    return [Call(program, tuple(it), b"" if it else script, file, script) for it in asked]
 
 
 def answer_to(question, rans):
@@ -75,7 +91,7 @@ def answer_to(question, rans):
     usual = rans[0]
     other = next((it for it in rans if it[:2] != usual[:2]), None)
     text = usual.text
-    if usual.status == 2:
+    if usual.status == 2 and program_of(question) == LVISH:
         text += f"refused: {usual.said.split(' ')[0]}\n"
     return usual.status, text if other is None else f"{text}or, of {len(rans)} runs, also {other.status} {other.text}"
 
@@ -113,10 +129,10 @@ def run(words, given, folder=None):
 
 
 class Calls:
-    """Makes calls of the program, each in a folder of the room where its file lies."""
+    """Makes calls of the programs with these paths, each in a folder of the room where its file lies."""
 
-    def __init__(self, program, room):
-        self.program, self.room, self.folders = program, room, {}
+    def __init__(self, paths, room):
+        self.paths, self.room, self.folders = paths, room, {}
 
     def folder_of(self, call):
         """Returns the folder with a call's file."""
@@ -128,6 +144,10 @@ class Calls:
             self.folders[own] = folder
         return self.folders[own]
 
+    def words_of(self, call):
+        """Returns the words of a call, its program's path first."""
+        return [self.paths[call.program], *call.words]
+
     def make(self, call):
         """Makes a call, and returns what came of it."""
-        return run([self.program, *call.words], call.given, self.folder_of(call))
+        return run(self.words_of(call), call.given, self.folder_of(call))

@@ -7,7 +7,7 @@ use Rattle.lvish_names.specs.Names.{Handler}
 use Rattle.lvish_core.specs.Tasks.{task_names}
 use Rattle.lvish_board.specs.Acts.{ComesOfAct, ComesOfNoAct, IsDone, ComesOfHand, ComesOfNoHanding, entry_of, with_work}
 use Rattle.lvish_board.specs.Listed.{IsListed, works_of}
-use Rattle.lvish_board.specs.Noted.{label_at}
+use Rattle.lvish_trace.specs.Noted.{label_at}
 use Rattle.lvish_board.specs.Place.{TaskPlace}
 use Rattle.lvish_board.specs.Standing.{Standing}
 use Rattle.lvish_board.specs.Woken.{IsParkedBeside}

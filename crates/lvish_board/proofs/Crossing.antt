@@ -25,6 +25,9 @@ use Rattle.lvish_names.specs.contracts.handler_name.HandlerName as HandlerName
 use Rattle.lvish_names.specs.contracts.task_name.TaskName as TaskName
 use Rattle.lvish_calculus.proofs.request.Request.TheSendSync as of_request
 use Rattle.lvish_calculus.specs.declared.program.Program as program
+use Rattle.lvish_trace.proofs.Crossing.{noted_send, over_send as outcome_send}
+use Rattle.lvish_trace.specs.contracts.noted.Noted as Noted
+use Rattle.lvish_trace.specs.contracts.outcome.Outcome as Outcome
 use Rattle.lvish_history.proofs.Crossing.{history_send, stamp_send}
 use Rattle.lvish_history.specs.contracts.stamp.Stamp as Stamp
 use Rattle.lvish_history.specs.declared.origin.Origin as origin
@@ -36,8 +39,6 @@ use Rattle.lvish_board.specs.contracts.board.Board as Board
 use Rattle.lvish_board.specs.contracts.board.Board.TheInside as inside_board
 use Rattle.lvish_board.specs.contracts.by_index.ByIndex as ByIndex
 use Rattle.lvish_board.specs.contracts.newest.Newest as Newest
-use Rattle.lvish_board.specs.contracts.noted.Noted as Noted
-use Rattle.lvish_board.specs.contracts.outcome.Outcome as Outcome
 use Rattle.lvish_board.specs.contracts.parked.Parked as Parked
 use Rattle.lvish_board.specs.contracts.parked.Parked.TheInside as inside_parked
 use Rattle.lvish_board.specs.contracts.place.Place as Place
@@ -55,7 +56,7 @@ index_send : IsSend (as_row u32-field)
 index_send = search sendable depth 20
 
 trace_send : IsSend (Vec.the_row Noted.the_row Global.the_row ghosts)
-trace_send = search (crosses, sendable) depth 24
+trace_send = search (noted_send, crosses, sendable) depth 24
 
 spots_send : (K : RattleType) → IsSend K → (g : same.Ghosts K.Denot) (h : hash.Ghosts K.Denot) → IsSend (BySpot.the_row K g h)
 spots_send K k g h = search (crosses, maps.crosses, sendable) depth 30
@@ -71,7 +72,7 @@ module _ (E : RattleType) (s : IsSend E) (y : IsSync E) where
   handler = handler_send E s y
 
   over_send : IsSend (Option.the_row (Outcome.the_row E))
-  over_send = search (name, sendable) depth 24
+  over_send = outcome_send E s y
 
   -- the ghosts of the events, of the states, of the program and of the run's name are those of any impl
   module _ (P J S L R A W : RattleType) (sJ : IsSend J) (sS : IsSend S) (sL : IsSend L) (sR : IsSend R)

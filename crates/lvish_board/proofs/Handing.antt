@@ -15,7 +15,8 @@ use Rattle.lvish_core.specs.laws.Runs.{at_state}
 use Rattle.lvish_board.specs.Listed.{Concerns, by_handing, by_adding, by_putting, made_place, tickets, option_list}
 use Rattle.lvish_board.specs.Left.{IsLeft, IsLogged, candidates, fresh_in, made_ticket}
 use Rattle.lvish_board.specs.Place.{TaskPlace}
-use Rattle.lvish_board.specs.Standing.{Standing, IsBoardSound, labels_of}
+use Rattle.lvish_trace.specs.Traced.{labels_of}
+use Rattle.lvish_board.specs.Standing.{Standing, IsBoardSound}
 use Rattle.lvish_board.proofs.Blocked.{IsMade}
 use Rattle.lvish_board.proofs.Concerned.{IsNoPut, none_fresh}
 use Rattle.lvish_board.proofs.Steps.{begins_well, no_fault, stepped_from}

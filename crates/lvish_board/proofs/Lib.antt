@@ -9,7 +9,6 @@ pub mod Knowing
 pub mod Listing
 pub mod Lists
 pub mod Seating
-pub mod Noting
 pub mod Parking
 pub mod Shelving
 pub mod Sorting

@@ -6,7 +6,8 @@ use Rattle.lvish_calculus.specs.Handing.{IsAmong, NoRepeats}
 use Rattle.lvish_board.specs.Vocabulary.{RunError, MOST_STEPS, TraceEntry}
 use Rattle.lvish_core.specs.Core.{CoreView, IsBegun, IsRunTo, at_fault, state}
 use Rattle.lvish_board.specs.Place.{TaskPlace}
-use Rattle.lvish_board.specs.Standing.{IsBlocked, IsBoardSound, labels_of, tasks_of}
+use Rattle.lvish_trace.specs.Traced.{labels_of}
+use Rattle.lvish_board.specs.Standing.{IsBlocked, IsBoardSound, tasks_of}
 
 unfailed : {S E L : Type 0} (s r : State S E L) (o : Option (RunError E)) → at_fault s o ≡ Running r → o ≡ None
 unfailed s r None e = refl

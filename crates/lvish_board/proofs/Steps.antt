@@ -20,7 +20,8 @@ use Rattle.lvish_core.specs.laws.Runs.{at_state, no_error_before, running_same}
 use Rattle.lvish_board.specs.Acts.{entry_of}
 use Rattle.lvish_board.specs.Place.{TaskPlace}
 use Rattle.lvish_board.specs.Woken.{IsParkedBeside}
-use Rattle.lvish_board.specs.Standing.{Standing, labels_of, tasks_of, IsBlocked, IsCurrent, IsBoardSound, OverIs}
+use Rattle.lvish_trace.specs.Traced.{labels_of}
+use Rattle.lvish_board.specs.Standing.{Standing, tasks_of, IsBlocked, IsCurrent, IsBoardSound, OverIs}
 use Rattle.lvish_board.proofs.Among.{of_map}
 
 -- a task of places is that of one of them

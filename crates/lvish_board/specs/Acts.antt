@@ -7,7 +7,7 @@ use Rattle.lvish_names.specs.Names.{Name, Handler}
 use Rattle.lvish_core.specs.Core.{CoreView, state}
 use Rattle.lvish_core.specs.Changes.{local_of}
 use Rattle.lvish_core.specs.Tasks.{task_names}
-use Rattle.lvish_board.specs.Noted.{label_at}
+use Rattle.lvish_trace.specs.Noted.{label_at}
 use Rattle.lvish_board.specs.Place.{TaskPlace}
 use Rattle.lvish_board.specs.Standing.{Standing}
 use Rattle.lvish_board.specs.Woken.{IsParkedBeside}

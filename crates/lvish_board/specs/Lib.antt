@@ -2,13 +2,10 @@ pub mod Vocabulary
 pub mod Acts
 pub mod Left
 pub mod Listed
-pub mod Noted
-pub mod NotedView
 pub mod Place
 pub mod Newest
 pub mod Seated
 pub mod Shelved
 pub mod Standing
-pub mod Traced
 pub mod Waking
 pub mod Woken

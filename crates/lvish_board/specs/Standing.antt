@@ -7,6 +7,7 @@ use Rattle.lvish_names.specs.Names.{Name}
 use Rattle.lvish_calculus.specs.Handing.{IsAmong, NoRepeats}
 use Rattle.lvish_core.specs.Core.{CoreView, IsRunTo, IsBegun, CanTake, picture, state}
 use Rattle.lvish_core.specs.Changes.{local_of}
+use Rattle.lvish_trace.specs.Traced.{labels_of}
 use Rattle.lvish_board.specs.Place.{TaskPlace}
 
 -- what contracts see of a board: the trace of its steps, its core, how it is over, and the tasks that are parked
@@ -15,10 +16,6 @@ pub record Standing (P S E L : Type 0) : Type 0 where
   pub core : CoreView P S E L
   pub over : Option (Outcome E)
   pub parked : List (TaskPlace E L)
-
--- the labels of a trace
-abbrev pub labels_of : {E : Type 0} → List (TraceEntry E) → List (Label E)
-labels_of trace = map (λ e. e.label) trace
 
 -- the tasks of places
 abbrev pub tasks_of : {E L : Type 0} → List (TaskPlace E L) → List (Name E)

@@ -17,14 +17,14 @@ pub use Rattle.lvish_core.specs.declared.touched.Touched.{Touched}
 pub use Rattle.lvish_core.specs.declared.touched.Touched.TheVariants.{Put as PutOn, Handed, Ended as EndedIn, Other}
 pub use Rattle.lvish_core.specs.declared.moved.Made.{Made}
 pub use Rattle.lvish_core.specs.declared.moved.Moved.{Moved}
-pub use Rattle.lvish_board.specs.declared.trace_entry.TraceEntry.{TraceEntry}
-pub use Rattle.lvish_board.specs.declared.noted.Noted.{Noted}
-pub use Rattle.lvish_board.specs.declared.noted.Step.{Step}
-pub use Rattle.lvish_board.specs.declared.noted.Step.TheVariants.{Act as ActStep, Hand as HandStep}
-pub use Rattle.lvish_board.specs.declared.trace.TracedStep.{TracedStep}
-pub use Rattle.lvish_board.specs.declared.trace.TracedStep.TheVariants.{Run as RunOf, Hand as HandOf}
-pub use Rattle.lvish_board.specs.declared.outcome.Outcome.{Outcome}
-pub use Rattle.lvish_board.specs.declared.outcome.Outcome.TheVariants.{Ended as EndedOver, Error as ErrorOver, Budget}
+pub use Rattle.lvish_trace.specs.declared.trace_entry.TraceEntry.{TraceEntry}
+pub use Rattle.lvish_trace.specs.declared.noted.Noted.{Noted}
+pub use Rattle.lvish_trace.specs.declared.noted.Step.{Step}
+pub use Rattle.lvish_trace.specs.declared.noted.Step.TheVariants.{Act as ActStep, Hand as HandStep}
+pub use Rattle.lvish_trace.specs.declared.trace.TracedStep.{TracedStep}
+pub use Rattle.lvish_trace.specs.declared.trace.TracedStep.TheVariants.{Run as RunOf, Hand as HandOf}
+pub use Rattle.lvish_trace.specs.declared.outcome.Outcome.{Outcome}
+pub use Rattle.lvish_trace.specs.declared.outcome.Outcome.TheVariants.{Ended as EndedOver, Error as ErrorOver, Budget}
 pub use Rattle.lvish_board.specs.declared.work.Work.{Work}
 pub use Rattle.lvish_board.specs.declared.work.Work.TheVariants.{Stretch, Act as ActOn, Hand as HandTo}
 pub use Rattle.lvish_board.specs.declared.works.Works.{Works}

@@ -3,7 +3,7 @@ ghost use Rattle.lvish_names.specs.Names.{main};
 ghost use Rattle.lvish_board.specs.declared.work.Work.TheVariants.{Stretch};
 ghost use Rattle.std.specs.List.{AllByRecursion};
 ghost use Rattle.lvish_core.specs.Tasks.{task_names};
-ghost use Rattle.lvish_board.specs.Noted.{IsNoted, entries_of};
+ghost use Rattle.lvish_trace.specs.Noted.{IsNoted, entries_of};
 ghost use Rattle.lvish_board.specs.Standing.{IsBoardSound, IsOpened};
 
 mod act;
@@ -13,19 +13,17 @@ mod settle;
 
 use crate::named::Named;
 use crate::newest::Newest;
-use crate::noted::Noted;
-use crate::outcome::Outcome;
 use crate::parked::Parked;
 use crate::place::Place;
 use crate::room::Room;
 use crate::ticket::Ticket;
-use crate::trace_entry::{TraceEntry, entry_by};
 use crate::work::Work;
 use lvish_calculus::{Meaning, Program};
 use lvish_core::{Core, CoreMeaning, MOST_STEPS};
 use lvish_history::{Opened, Stamp};
 use lvish_lattice::Lattice;
 use lvish_names::TaskName;
+use lvish_trace::{Noted, Outcome, TraceEntry, entry_by};
 use std::alloc::{AllocError, Global};
 use std::marker::Model;
 
@@ -61,7 +59,7 @@ impl<'p, P: Program, J: Named<P>> Model for Board<'p, P, J> {
     ghost use Rattle.lvish_calculus.specs.Program.{machine_of};
     ghost use Rattle.std.specs.List.{AllByRecursion};
     ghost use Rattle.lvish_core.specs.Tasks.{task_names};
-    ghost use Rattle.lvish_board.specs.Noted.{IsNoted, entries_of};
+    ghost use Rattle.lvish_trace.specs.Noted.{IsNoted, entries_of};
     ghost use Rattle.lvish_board.specs.Newest.{AreKnown};
     ghost use Rattle.lvish_board.specs.Seated.{AreIndexed, places_of};
     ghost use Rattle.lvish_board.specs.Standing.{Standing, IsBoardSound};

@@ -7,7 +7,7 @@ ghost use Rattle.std.specs.Prelude.{◌≡◌, ◌≤◌, ◌+◌, List, Option,
 ghost use Rattle.lvish_calculus.specs.Handing.{IsAmong, NoRepeats};
 ghost use Rattle.lvish_board.specs.Place.{TaskPlace};
 ghost use Rattle.lvish_board.specs.Newest.{IsSetAt, IsSetIf};
-ghost use Rattle.lvish_board.specs.NotedView.{index_of};
+ghost use Rattle.lvish_trace.specs.NotedView.{index_of};
 ghost use Rattle.lvish_board.specs.Seated.{AreWithin, places_of};
 ghost use Rattle.lvish_board.specs.Standing.{tasks_of};
 ghost use Rattle.lvish_board.specs.Listed.{HasNext, works_of, option_list};
@@ -16,7 +16,6 @@ ghost use Rattle.lvish_board.specs.Left.{AreThose, IsLeft, IsLogged, candidates,
 use crate::asked::Asked;
 use crate::named::Named;
 use crate::newest::Newest;
-use crate::noted::Step;
 use crate::parked::Parked;
 use crate::room::{Room, give};
 use crate::ticket::Ticket;
@@ -25,6 +24,7 @@ use lvish_calculus::{Meaning, Program};
 use lvish_core::{Core, CoreMeaning, Made, Moved, Touched};
 use lvish_lattice::Lattice;
 use lvish_names::HandlerName;
+use lvish_trace::Step;
 use lvish_variable::Entry;
 
 /// What a step leaves by itself: the tickets of its tasks, and a handler that it added.

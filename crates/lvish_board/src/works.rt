@@ -3,12 +3,12 @@ ghost use Rattle.lvish_board.specs.Listed.{works_of, stretches, acts, handings, 
 
 use crate::asked::Asked;
 use crate::named::Named;
-use crate::noted::Step;
 use crate::ticket::Ticket;
 use crate::work::Work;
 use lvish_calculus::Program;
 use lvish_lattice::Lattice;
 use lvish_names::HandlerName;
+use lvish_trace::Step;
 use std::alloc::{AllocError, Global};
 
 /// The work that a step leaves, in this order. All of it is to be done, by whomever and in any order.

@@ -3,8 +3,8 @@ use Rattle.std.proofs.Common.{◌≡◌, ◌⊎◌, ◌==◌, inl, inr, ℕ, Boo
 use Rattle.std.specs.Io.KnownBytes.{Appends, Keeps}
 use Rattle.lvish_compound.specs.declared.event.Event.{Event}
 use Rattle.lvish_syntax.specs.declared.script.Script.{Script}
-use Rattle.lvish_board.specs.declared.outcome.Outcome.{Outcome}
-use Rattle.lvish_board.specs.declared.outcome.Outcome.TheVariants as outcome
+use Rattle.lvish_trace.specs.declared.outcome.Outcome.{Outcome}
+use Rattle.lvish_trace.specs.declared.outcome.Outcome.TheVariants as outcome
 use Rattle.lvish_run.specs.declared.fault.RunFault.{RunFault}
 use Rattle.lvish_run.specs.declared.fault.RunFault.TheVariants as run
 use Rattle.lvish_run.specs.declared.scripts.RunMeaning as runs

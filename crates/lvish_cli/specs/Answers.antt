@@ -7,15 +7,15 @@ use Rattle.lvish_checks.specs.Fault.{fault_number, fault_name}
 use Rattle.lvish_checks.specs.declared.script_fault.ScriptFault.{ScriptFault}
 use Rattle.lvish_checks.specs.declared.fault.Fault.TheVariants as fault
 use Rattle.lvish_script.specs.Spells.{Spells, IsTextRefused}
-use Rattle.lvish_board.specs.declared.outcome.Outcome.{Outcome}
-use Rattle.lvish_board.specs.declared.outcome.Outcome.TheVariants as outcome
+use Rattle.lvish_trace.specs.declared.outcome.Outcome.{Outcome}
+use Rattle.lvish_trace.specs.declared.outcome.Outcome.TheVariants as outcome
 use Rattle.lvish_run.specs.declared.fault.RunFault.{RunFault}
 use Rattle.lvish_run.specs.declared.fault.RunFault.TheVariants as run
-use Rattle.lvish_run.specs.declared.report.Report.{Report}
+use Rattle.lvish_report.specs.declared.report.Report.{Report}
 use Rattle.lvish_run.specs.declared.scripts.RunMeaning as runs
-use Rattle.lvish_board.specs.Standing.{labels_of}
-use Rattle.lvish_run.specs.Text.{variables_of, report_text}
-use Rattle.lvish_run.specs.TraceText.{trace_lines}
+use Rattle.lvish_trace.specs.Traced.{labels_of}
+use Rattle.lvish_report.specs.Text.{variables_of, report_text}
+use Rattle.lvish_report.specs.TraceText.{trace_lines}
 use Rattle.lvish_cli.specs.declared.order.Order.{Order}
 use Rattle.lvish_cli.specs.declared.order.Order.TheVariants.{Check, Run, Pick}
 use Rattle.lvish_cli.specs.declared.status.Status.{Status}

@@ -15,7 +15,7 @@ use std::sync::Wait;
 use std::thread::Threads;
 
 /// What goes to standard output, and the status that goes with it.
-#[derive(Debug, Drop)]
+#[derive(Drop)]
 pub struct Output {
     pub status: Status,
     pub text: String,

@@ -53,22 +53,12 @@ Statuses:
 
 /// The words of a check.
 fn check<'a>(alloc: Global) -> Result<Command<'a>, AllocError> {
-    let ends = Arg::new(alloc, "ends")
-        .long("ends")
-        .help("Say as well whether all runs of the script end")
-        .action(ArgAction::SetTrue);
-    let steps = Arg::new(alloc, "steps")
-        .long("steps")
-        .value_name("N")
-        .help("Try so many steps for --ends, 0 to 1000000")
-        .value_parser(value_parser!(u64).range(0..=MOST_STEPS as i64))
-        .default_value("100000");
     Command::new(alloc, "check")
         .about("Says whether a text is a script")
         .after_help(CHECK_HELP)
         .arg(file(alloc))?
-        .arg(ends)?
-        .arg(steps)
+        .arg(ends(alloc))?
+        .arg(tries(alloc))
 }
 
 const CHECK_HELP: &str = "\
@@ -87,17 +77,11 @@ Statuses: 0 a script, 3 unreadable, 4 refused, 7 memory, 8 another fault";
 
 /// The words of a run.
 fn run<'a>(alloc: Global) -> Result<Command<'a>, AllocError> {
-    let workers = Arg::new(alloc, "workers")
-        .long("workers")
-        .value_name("N")
-        .help("How many workers run the script, 1 to 8")
-        .value_parser(value_parser!(u64).range(1..=MOST_WORKERS as i64))
-        .default_value("2");
     Command::new(alloc, "run")
         .about("Runs a script and prints its report")
         .after_help(RUN_HELP)
         .arg(file(alloc))?
-        .arg(workers)?
+        .arg(workers(alloc))?
         .arg(steps(alloc))?
         .arg(all(alloc))
 }
@@ -114,17 +98,11 @@ Statuses: 0 ended, 1 ended with blocked tasks, 3 unreadable, 4 script refused,
 
 /// The words of a run by picks.
 fn pick<'a>(alloc: Global) -> Result<Command<'a>, AllocError> {
-    let picks = Arg::new(alloc, "picks")
-        .value_name("N")
-        .help("Which of the enabled steps is made, in turn, 0 to 1000000")
-        .value_parser(value_parser!(u64).range(0..=MOST_PICK))
-        .num_args(0..)
-        .action(ArgAction::Append);
     Command::new(alloc, "pick")
         .about("Runs a script by picks and prints its trace and its report")
         .after_help(PICK_HELP)
         .arg(file(alloc))?
-        .arg(picks)?
+        .arg(picks(alloc))?
         .arg(steps(alloc))?
         .arg(all(alloc))
 }
@@ -142,6 +120,8 @@ Example:
 
 Statuses: 0 ended, 1 ended with blocked tasks, 3 unreadable, 4 script refused,
 5 run in error, 6 stopped by its budget, 7 memory, 8 another fault";
+
+// Each argument has a function of its own, so that a command that is refused drops no other.
 
 fn file<'a>(alloc: Global) -> Arg<'a> {
     Arg::new(alloc, "file")
@@ -165,4 +145,38 @@ fn all<'a>(alloc: Global) -> Arg<'a> {
         .long("all")
         .help("Report every variable, not frozen ones alone")
         .action(ArgAction::SetTrue)
+}
+
+fn ends<'a>(alloc: Global) -> Arg<'a> {
+    Arg::new(alloc, "ends")
+        .long("ends")
+        .help("Say as well whether all runs of the script end")
+        .action(ArgAction::SetTrue)
+}
+
+fn tries<'a>(alloc: Global) -> Arg<'a> {
+    Arg::new(alloc, "steps")
+        .long("steps")
+        .value_name("N")
+        .help("Try so many steps for --ends, 0 to 1000000")
+        .value_parser(value_parser!(u64).range(0..=MOST_STEPS as i64))
+        .default_value("100000")
+}
+
+fn workers<'a>(alloc: Global) -> Arg<'a> {
+    Arg::new(alloc, "workers")
+        .long("workers")
+        .value_name("N")
+        .help("How many workers run the script, 1 to 8")
+        .value_parser(value_parser!(u64).range(1..=MOST_WORKERS as i64))
+        .default_value("2")
+}
+
+fn picks<'a>(alloc: Global) -> Arg<'a> {
+    Arg::new(alloc, "picks")
+        .value_name("N")
+        .help("Which of the enabled steps is made, in turn, 0 to 1000000")
+        .value_parser(value_parser!(u64).range(0..=MOST_PICK))
+        .num_args(0..)
+        .action(ArgAction::Append)
 }

@@ -1,6 +1,6 @@
 ghost use Rattle.std.specs.Prelude.{◌<◌, ◌≤◌, ◌≡◌, ◌≢◌, Err, IfOk, length, string_bytes};
-ghost use Rattle.lvish_board.specs.declared.outcome.Outcome.TheVariants.{Ended};
-ghost use Rattle.lvish_run.specs.Text.{variables_of};
+ghost use Rattle.lvish_trace.specs.declared.outcome.Outcome.TheVariants.{Ended};
+ghost use Rattle.lvish_report.specs.Text.{variables_of};
 ghost use Rattle.lvish_cli.specs.Answers.{outcome_status, IsReportAnswer, IsRunAnswer, IsPickAnswer};
 
 use crate::answering::Output;

@@ -2,7 +2,6 @@
 
 mod endings;
 mod fakes;
-mod memory;
 mod streams;
 
 use fakes::{Refusal, ShortWriter};

@@ -1,4 +1,4 @@
-//! Tests of `lvish_core`, proved over the built crate: cores of small programs.
+//! Tests of `lvish_core`, proved over the built crate: cores of small scripts.
 #![tactic(auto)]
 
 #[cfg(test)]

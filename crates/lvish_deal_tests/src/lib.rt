@@ -1,5 +1,5 @@
-//! Tests of `lvish_deal`, proved over the built crate: worked examples on one thread, and seats on
-//! threads of their own.
+//! Tests of `lvish_deal` and `lvish_history`, proved over the built crates: worked examples on one
+//! thread, seats on threads of their own, and stamps.
 #![tactic(auto)]
 
 #[cfg(test)]

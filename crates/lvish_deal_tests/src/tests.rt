@@ -1,3 +1,4 @@
 mod examples;
 mod seats;
+mod stamps;
 mod threads;

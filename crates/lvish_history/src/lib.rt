@@ -22,6 +22,3 @@ mod stamp;
 pub use history::{History, Opened};
 pub use origin::Origin;
 pub use stamp::Stamp;
-
-#[cfg(test)]
-mod tests;

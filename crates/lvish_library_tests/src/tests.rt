@@ -1,9 +1,11 @@
 //! Calls that are made again where a growth was refused (`rt try --test --fail-alloc N` refuses the
 //! N-th): what they were made on is as it was, and then they do what they do without a refusal.
 
+mod lattices;
 mod merges;
 mod outcomes;
 mod puts;
+mod reads;
 
 use crate::calls::events_of;
 use lvish_lattice::Flat;

@@ -8,9 +8,9 @@ use Rattle.lvish_calculus.specs.Live.{HasLive}
 use Rattle.lvish_variable.specs.Variable.{VariableView as Variable}
 use Rattle.lvish_core.specs.Core.{CoreView, state}
 use Rattle.lvish_core.specs.Reads.{AreStates}
-use Rattle.lvish_board.specs.declared.outcome.Outcome.{Outcome}
-use Rattle.lvish_board.specs.declared.outcome.Outcome.TheVariants.{Ended, Budget}
-use Rattle.lvish_run.specs.declared.report.FinalState.{FinalState}
+use Rattle.lvish_trace.specs.declared.outcome.Outcome.{Outcome}
+use Rattle.lvish_trace.specs.declared.outcome.Outcome.TheVariants.{Ended, Budget}
+use Rattle.lvish_report.specs.declared.report.FinalState.{FinalState}
 use Rattle.lvish_run.specs.Honest.{AreFinalStates}
 use Rattle.lvish_run.specs.Walk.{IsAccount, AreStatesOf, final_state}
 

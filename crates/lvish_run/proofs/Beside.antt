@@ -15,11 +15,12 @@ use Rattle.lvish_picture.specs.Laws.{HandsBelowTheEnd, HandsTheHeld}
 use Rattle.lvish_core.specs.Core.{CoreView, IsRunTo, CanTake, state, picture, at_fault}
 use Rattle.lvish_core.specs.CoreLaws.{HandsWhatComes}
 use Rattle.lvish_core.specs.Changes.{local_of, moved_by, moved_in}
-use Rattle.lvish_board.specs.declared.trace_entry.TraceEntry.{TraceEntry}
+use Rattle.lvish_trace.specs.declared.trace_entry.TraceEntry.{TraceEntry}
 use Rattle.lvish_board.specs.declared.work.Work.{Work}
 use Rattle.lvish_board.specs.declared.work.Work.TheVariants.{Stretch}
 use Rattle.lvish_board.specs.Place.{TaskPlace}
-use Rattle.lvish_board.specs.Standing.{Standing, tasks_of, labels_of, IsCurrent, IsBoardSound, IsOpened}
+use Rattle.lvish_trace.specs.Traced.{labels_of}
+use Rattle.lvish_board.specs.Standing.{Standing, tasks_of, IsCurrent, IsBoardSound, IsOpened}
 use Rattle.lvish_board.specs.Listed.{IsListed, Concerns, by_handing, HasNext, tickets}
 use Rattle.lvish_board.specs.Woken.{IsParkedBeside}
 use Rattle.lvish_run.specs.Agenda.{Open, Adds, IsTaskOf, IsBeside, IsEmpty}

@@ -7,9 +7,9 @@ use Rattle.std.proofs.lemmas.List.Folds.{fold-map}
 use Rattle.std.proofs.lemmas.List.Sums.{sum_by-append}
 use Rattle.std.proofs.lemmas.Option.{slice_get-get_or}
 use Rattle.lvish_names.specs.Names.{Name}
-use Rattle.lvish_board.specs.declared.noted.Noted.{Noted}
-use Rattle.lvish_board.specs.declared.trace_entry.TraceEntry.{TraceEntry}
-use Rattle.lvish_board.specs.Noted.{entry_at, entries_of}
+use Rattle.lvish_trace.specs.declared.noted.Noted.{Noted}
+use Rattle.lvish_trace.specs.declared.trace_entry.TraceEntry.{TraceEntry}
+use Rattle.lvish_trace.specs.Noted.{entry_at, entries_of}
 use Rattle.lvish_run.specs.Crew.{AreCounts}
 use Rattle.lvish_run.specs.Honest.{IsCountByWorker}
 

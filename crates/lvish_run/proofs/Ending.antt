@@ -17,12 +17,12 @@ use Rattle.lvish_compound.specs.declared.any.Any.{Any}
 use Rattle.lvish_compound.specs.declared.event.Event.{Event}
 use Rattle.lvish_syntax.specs.declared.script.Script.{Script}
 use Rattle.lvish_task.specs.Freezing.{AsksNoFreeze, has_freeze}
-use Rattle.lvish_board.specs.declared.trace_entry.TraceEntry.{TraceEntry}
-use Rattle.lvish_board.specs.declared.outcome.Outcome.{Outcome}
-use Rattle.lvish_board.specs.declared.outcome.Outcome.TheVariants.{Ended, Error as ErrorOutcome, Budget}
-use Rattle.lvish_run.specs.declared.report.Report.{Report}
+use Rattle.lvish_trace.specs.declared.trace_entry.TraceEntry.{TraceEntry}
+use Rattle.lvish_trace.specs.declared.outcome.Outcome.{Outcome}
+use Rattle.lvish_trace.specs.declared.outcome.Outcome.TheVariants.{Ended, Error as ErrorOutcome, Budget}
+use Rattle.lvish_report.specs.declared.report.Report.{Report}
 use Rattle.lvish_run.specs.Honest.{Comes, IsOutcome, IsHonest}
-use Rattle.lvish_board.specs.Standing.{labels_of}
+use Rattle.lvish_trace.specs.Traced.{labels_of}
 use Rattle.lvish_run.specs.Picked.{IsPicked}
 use Rattle.lvish_compound.specs.contracts.event.EventOrd.TheImpl.{ghosts as event_order}
 use Rattle.lvish_run.specs.Scripts.{script_machine, IsPickedRun}

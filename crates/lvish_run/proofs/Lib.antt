@@ -9,12 +9,9 @@ mod Turns
 mod Walks
 mod Reports
 mod Accounts
-mod Texts
-mod Digits
-pub mod Braces
 mod Counted
+mod VariableKinds
 mod Parts
-mod TraceLines
 pub mod OfScript
 pub mod Once
 pub mod Ending

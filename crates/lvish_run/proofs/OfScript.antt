@@ -10,12 +10,12 @@ use Rattle.lvish_calculus.specs.Laws.{Reaches, IsCrossed, FreezesAllBy, NeverErr
 use Rattle.lvish_calculus.specs.Handing.{IsHandedWell}
 use Rattle.lvish_calculus.specs.SameRuns.{SameState, SameConfiguration, HaveSameRuns}
 use Rattle.lvish_calculus.proofs.SameThere.{Base, over, Both, both_start, both_step, flip_state, flip_configuration, flip_runs, reached, never_there, end_there, can_there, enabled_there, live_count, all_by_there, crossed_there, core_there, handed_there}
-use Rattle.lvish_run.specs.declared.report.FinalState.{FinalState}
-use Rattle.lvish_run.specs.declared.report.Report.{Report}
-use Rattle.lvish_board.specs.declared.outcome.Outcome.{Outcome}
-use Rattle.lvish_board.specs.declared.outcome.Outcome.TheVariants.{Ended, Error as ErrorOutcome, Budget}
+use Rattle.lvish_report.specs.declared.report.FinalState.{FinalState}
+use Rattle.lvish_report.specs.declared.report.Report.{Report}
+use Rattle.lvish_trace.specs.declared.outcome.Outcome.{Outcome}
+use Rattle.lvish_trace.specs.declared.outcome.Outcome.TheVariants.{Ended, Error as ErrorOutcome, Budget}
 use Rattle.lvish_run.specs.Honest.{AreFinalStates, Comes, IsOutcome, IsHonest}
-use Rattle.lvish_board.specs.Standing.{labels_of}
+use Rattle.lvish_trace.specs.Traced.{labels_of}
 use Rattle.lvish_run.specs.Picked.{ComesNext, IsNamed, IsPicked}
 use Rattle.lvish_run.specs.Alike.{EndsAlikeIf, IsAlike}
 

@@ -3,8 +3,8 @@ use Rattle.std.proofs.Common.{◌≡◌, ◌≤◌, ◌↔◌, ◌+◌, ◌==◌
 use Rattle.std.proofs.Math.Seq.{drop-length}
 use Rattle.std.proofs.lemmas.List.{drop_more}
 use Rattle.std.proofs.lemmas.Option.{slice_get_within, get_or_from_slice_get}
-use Rattle.lvish_board.specs.declared.noted.Noted.{Noted}
-use Rattle.lvish_board.specs.declared.noted.Step.{Step}
+use Rattle.lvish_trace.specs.declared.noted.Noted.{Noted}
+use Rattle.lvish_trace.specs.declared.noted.Step.{Step}
 use Rattle.lvish_run.specs.Crew.{steps_of}
 
 -- what is left from an element on

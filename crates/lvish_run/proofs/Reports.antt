@@ -9,22 +9,23 @@ use Rattle.lvish_calculus.specs.Calculus.{Running, CanStep, IsRun, IsEnd, IsEnde
 use Rattle.lvish_names.specs.Names.{Name}
 use Rattle.lvish_calculus.specs.Laws.{IsCrossed, FreezesAllBy, NeverErrs, SameEndIf}
 use Rattle.lvish_core.specs.declared.fault.RunError.{RunError}
-use Rattle.lvish_calculus.specs.Handing.{HandsOldestFirst}
+use Rattle.lvish_calculus.specs.Handing.{HandsOldestFirst, IsHandedWell}
 use Rattle.lvish_core.specs.Core.{CoreView, picture, state, at_fault, CanTake, IsRunTo}
 use Rattle.lvish_core.specs.CoreLaws.{TakesSomething}
 use Rattle.lvish_core.specs.Labels.{AreLabels}
 use Rattle.lvish_core.specs.laws.Runs.{no_error_before}
-use Rattle.lvish_run.specs.declared.report.FinalState.{FinalState}
-use Rattle.lvish_board.specs.declared.trace_entry.TraceEntry.{TraceEntry}
-use Rattle.lvish_board.specs.declared.noted.Noted.{Noted}
-use Rattle.lvish_board.specs.Noted.{IsNoted, entry_at, entries_of}
-use Rattle.lvish_run.specs.declared.report.Report.{Report}
-use Rattle.lvish_board.specs.declared.outcome.Outcome.{Outcome}
-use Rattle.lvish_board.specs.declared.outcome.Outcome.TheVariants.{Ended, Error as ErrorOutcome, Budget}
+use Rattle.lvish_report.specs.declared.report.FinalState.{FinalState}
+use Rattle.lvish_trace.specs.declared.trace_entry.TraceEntry.{TraceEntry}
+use Rattle.lvish_trace.specs.declared.noted.Noted.{Noted}
+use Rattle.lvish_trace.specs.Noted.{IsNoted, entry_at, entries_of}
+use Rattle.lvish_report.specs.declared.report.Report.{Report}
+use Rattle.lvish_trace.specs.declared.outcome.Outcome.{Outcome}
+use Rattle.lvish_trace.specs.declared.outcome.Outcome.TheVariants.{Ended, Error as ErrorOutcome, Budget}
 use Rattle.lvish_run.specs.Honest.{AreFinalStates, Comes, IsOutcome, IsCountByWorker, IsHonest}
-use Rattle.lvish_board.specs.Standing.{labels_of, Standing, OverIs, IsBoardSound}
+use Rattle.lvish_trace.specs.Traced.{labels_of}
+use Rattle.lvish_board.specs.Standing.{Standing, OverIs, IsBoardSound}
 use Rattle.lvish_calculus.specs.Live.{HasLive}
-use Rattle.lvish_run.specs.Alike.{EndsAlikeIf, IsAlike}
+use Rattle.lvish_run.specs.Alike.{EndsAlikeIf, IsAlike, IsTold}
 use Rattle.lvish_run.specs.Walk.{IsStuck, IsWalked, IsAccount, IsHow}
 use Rattle.lvish_picture.proofs.Slots.{among}
 
@@ -103,8 +104,8 @@ module _ {P S E R A L : Type 0} (cmp : E → E → Ordering) (machine : P → Ma
       by (ErrorOutcome kind v t) h = h
 
   -- its one worker made all its steps
-  pub walked_counts : (core : CoreView P S E L) (counts : List ℕ) → core ≡ s.core → counts ≡ core.steps ∷ [] → IsCountByWorker 1 s.trace counts
-  walked_counts core counts same is = subst (λ ns. IsCountByWorker 1 s.trace ns) (sym is) (counted_of_one core.steps s.trace (ap (λ c. c.steps) same ∙ walked.walk.steps) walked.walk.workers)
+  pub walked_counts : (core : CoreView P S E L) (counts : List ℕ) → core ≡ s.core → counts ≡ core.steps ∷ [] → IsCountByWorker (length counts) s.trace counts
+  walked_counts core counts same is = subst (λ ns. IsCountByWorker (length ns) s.trace ns) (sym is) (counted_of_one core.steps s.trace (ap (λ c. c.steps) same ∙ walked.walk.steps) walked.walk.workers)
 
 -- ---- the report of a board
 
@@ -174,6 +175,16 @@ module _ {P S E R A L : Type 0} (machine : P → Machine S E R A L) (variables :
     one_asks = alike_if _ one_asks ended;
     no_error = alike_if _ no_error ended;
   }
+
+-- a report by n workers is one by as many
+pub by_workers : {S E R A L : Type 0} (M : Machine S E R A L) (variables n workers budget : ℕ) (r : Report S E) → n ≡ workers → IsHonest M variables n budget r → IsHonest M variables workers budget r
+by_workers M variables n workers budget r same h = subst (λ k. IsHonest M variables k budget r) same h
+
+-- what three clauses say of a report
+pub is_told : {S E R A L X : Type 0} (M : Machine S E R A L) (variables workers budget : ℕ) (r : Result (Report S E) X) → IfOk r (λ x. IsHonest M variables workers budget x)
+    → IfOk r (λ x. IsHandedWell M (labels_of x.trace)) → IfOk r (λ x. IsAlike M variables x) → IfOk r (λ x. IsTold M variables workers budget x)
+is_told M variables workers budget (Ok x) h k a = record { honest = h; handed = k; alike = a }
+is_told M variables workers budget (Err e) h k a = tt
 
 -- what two clauses say of a good answer
 pub both_ok : {T X : Type 0} (P Q : T → Type 0) (r : Result T X) → IfOk r P → IfOk r Q → IfOk r (λ x. P x × Q x)

@@ -10,7 +10,8 @@ use Rattle.lvish_core.specs.Core.{CoreView, CanTake, IsNext}
 use Rattle.lvish_core.specs.CoreLaws.{HandsOneEvent, HandsWhatComes}
 use Rattle.lvish_core.specs.Labels.{AreLabels}
 use Rattle.lvish_board.specs.Acts.{entry_of}
-use Rattle.lvish_board.specs.Standing.{Standing, IsBoardSound, IsBlocked, labels_of}
+use Rattle.lvish_trace.specs.Traced.{labels_of}
+use Rattle.lvish_board.specs.Standing.{Standing, IsBoardSound, IsBlocked}
 use Rattle.lvish_board.specs.Place.{TaskPlace}
 use Rattle.lvish_run.specs.Agenda.{Agenda, open_in, NoTask, IsTaskGone, IsHandlerGone, IsBeside}
 use Rattle.lvish_run.specs.Walk.{IsStuck, IsDrawn, IsFirstEnabled, IsIdle, IsActed, IsHandTurn, IsFirstHandler, IsTurn}
@@ -52,6 +53,11 @@ module _ {P S E R A L : Type 0} (cmp : E → E → Ordering) (M : Machine S E R 
   drawn_hand s r n h e d false z = (z.0, inl z.1)
 
   -- ---- the first labels
+
+  -- the first handler's turn
+  pub first_handed : (s r : Standing P S E L) (h : Handler E) (a : Agenda E L) (first : IsFirstHandler cmp M s h a) → (made : Bool) → IsHandTurn s (Hand h first.event) made r → IsTurn cmp M None s made r
+  first_handed s r h a first true z = (Hand h first.event, first.lowest, z)
+  first_handed s r h a first false z = (z.0, inl z.1)
 
   -- a turn after tasks were parked
   pub turn_after : (s q r : Standing P S E L) → IsIdle s q → (made : Bool) → IsTurn cmp M None q made r → IsTurn cmp M None s made r

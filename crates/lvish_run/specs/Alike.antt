@@ -5,11 +5,12 @@ use Rattle.lvish_calculus.specs.Machine.{Machine}
 use Rattle.lvish_calculus.specs.Calculus.{State, Running, IsEnd, start}
 use Rattle.lvish_names.specs.Names.{Name}
 use Rattle.lvish_calculus.specs.Laws.{Reaches, IsCrossed, FreezesAllBy, NeverErrs}
+use Rattle.lvish_calculus.specs.Handing.{IsHandedWell}
 use Rattle.lvish_calculus.specs.Live.{HasLive}
-use Rattle.lvish_run.specs.declared.report.Report.{Report}
-use Rattle.lvish_board.specs.declared.outcome.Outcome.TheVariants.{Ended}
-use Rattle.lvish_run.specs.Honest.{AreFinalStates}
-use Rattle.lvish_board.specs.Standing.{labels_of}
+use Rattle.lvish_report.specs.declared.report.Report.{Report}
+use Rattle.lvish_trace.specs.declared.outcome.Outcome.TheVariants.{Ended}
+use Rattle.lvish_run.specs.Honest.{AreFinalStates, IsHonest}
+use Rattle.lvish_trace.specs.Traced.{labels_of}
 
 -- each run that ends without an error has the report's states, steps and blocked tasks, if this holds of the report's trace and that run
 abbrev pub EndsAlikeIf : {S E R A L : Type 0} → Machine S E R A L → ℕ → Report S E → (List (Label E) → List (Label E) → Type 0) → Type 0
@@ -27,3 +28,11 @@ pub record EndsAlike {S E R A L : Type 0} (M : Machine S E R A L) (variables : �
 -- what a report of an end says of all other ends
 abbrev pub IsAlike : {S E R A L : Type 0} → Machine S E R A L → ℕ → Report S E → Type 0
 IsAlike M variables r = r.outcome ≡ Ended → EndsAlike M variables r
+
+-- what is said of every report of a run by this many workers, within the budget
+pub record IsTold {S E R A L : Type 0} (M : Machine S E R A L) (variables workers budget : ℕ) (r : Report S E) : Type 0 where
+  pub honest : IsHonest M variables workers budget r
+  -- what handlers are handed in it
+  pub handed : IsHandedWell M (labels_of r.trace)
+  -- what it says of all other ends
+  pub alike : IsAlike M variables r

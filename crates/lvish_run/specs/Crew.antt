@@ -1,8 +1,8 @@
 -- What the workers' own lists say of the steps that a board noted, how many of these each worker made, and why there is no report of them.
 use Rattle.std.specs.Prelude.{◌≡◌, ◌<◌, ◌==◌, ℕ, Bool, true, false, List, map, length, sum, count_by, Option, None, Some, slice_get, All}
 use Rattle.std.specs.List.{filter, list_any}
-use Rattle.lvish_board.specs.declared.noted.Noted.{Noted}
-use Rattle.lvish_board.specs.declared.noted.Step.{Step}
+use Rattle.lvish_trace.specs.declared.noted.Noted.{Noted}
+use Rattle.lvish_trace.specs.declared.noted.Step.{Step}
 use Rattle.lvish_run.specs.declared.fault.RunFault.{RunFault}
 use Rattle.lvish_run.specs.declared.fault.RunFault.TheVariants.{NoThread, Memory, Stopped, Mixed}
 use Rattle.lvish_run.specs.declared.own_steps.OwnSteps.{OwnSteps}

@@ -6,12 +6,12 @@ use Rattle.lvish_calculus.specs.Calculus.{State, Running, Error, IsEnabled, IsRu
 use Rattle.lvish_calculus.specs.Laws.{Reaches}
 use Rattle.lvish_calculus.specs.Handing.{HandsOldestFirst}
 use Rattle.lvish_calculus.specs.Live.{HasLive}
-use Rattle.lvish_board.specs.Standing.{labels_of}
-use Rattle.lvish_board.specs.declared.trace_entry.TraceEntry.{TraceEntry}
-use Rattle.lvish_run.specs.declared.report.FinalState.{FinalState}
-use Rattle.lvish_run.specs.declared.report.Report.{Report}
-use Rattle.lvish_board.specs.declared.outcome.Outcome.{Outcome}
-use Rattle.lvish_board.specs.declared.outcome.Outcome.TheVariants.{Ended, Error as ErrorOutcome, Budget}
+use Rattle.lvish_trace.specs.Traced.{labels_of}
+use Rattle.lvish_trace.specs.declared.trace_entry.TraceEntry.{TraceEntry}
+use Rattle.lvish_report.specs.declared.report.FinalState.{FinalState}
+use Rattle.lvish_report.specs.declared.report.Report.{Report}
+use Rattle.lvish_trace.specs.declared.outcome.Outcome.{Outcome}
+use Rattle.lvish_trace.specs.declared.outcome.Outcome.TheVariants.{Ended, Error as ErrorOutcome, Budget}
 
 -- the contents and frozen marks of all variables, in their order
 pub record AreFinalStates {S E L : Type 0} (variables : ℕ) (c : State S E L) (states : List (FinalState S)) : Type 0 where

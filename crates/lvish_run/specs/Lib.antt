@@ -1,11 +1,8 @@
 pub mod Honest
+pub mod Alike
 pub mod Picked
 pub mod Agenda
 pub mod Walk
-pub mod Text
 pub mod Scripts
-pub mod StateText
-pub mod Alike
-pub mod TraceText
 pub mod Crew
 pub mod Ends

@@ -10,12 +10,12 @@ use Rattle.lvish_syntax.specs.declared.script.Script.{Script}
 use Rattle.lvish_task.specs.Meaning.{LocalState}
 use Rattle.lvish_task.specs.contracts.meaning.ScriptScriptMeaning.TheImpl.{ghosts as meaning}
 use Rattle.lvish_compound.specs.contracts.event.EventOrd.TheImpl.{ghosts as event_order}
-use Rattle.lvish_run.specs.declared.report.Report.{Report}
+use Rattle.lvish_report.specs.declared.report.Report.{Report}
 use Rattle.lvish_run.specs.Alike.{IsAlike}
 use Rattle.lvish_run.specs.Honest.{IsHonest}
-use Rattle.lvish_board.specs.Standing.{labels_of}
+use Rattle.lvish_trace.specs.Traced.{labels_of}
 use Rattle.lvish_run.specs.Picked.{IsPicked}
-use Rattle.lvish_run.specs.Text.{variables_of}
+use Rattle.lvish_report.specs.Text.{variables_of}
 
 -- a script's machine, in which a task is what is left of its nested statements
 abbrev pub script_machine : Script → Machine Any Event AnyRead ℤ LocalState

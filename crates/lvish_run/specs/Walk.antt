@@ -12,17 +12,18 @@ use Rattle.lvish_calculus.specs.Live.{HasLive}
 use Rattle.lvish_variable.specs.Variable.{VariableView as Variable}
 use Rattle.lvish_core.specs.Core.{CoreView, state, CanTake, IsNext, IsRunTo}
 use Rattle.lvish_core.specs.Labels.{label_cmp, AreLabels}
-use Rattle.lvish_board.specs.declared.trace_entry.TraceEntry.{TraceEntry}
+use Rattle.lvish_trace.specs.declared.trace_entry.TraceEntry.{TraceEntry}
 use Rattle.lvish_board.specs.Acts.{entry_of}
 use Rattle.lvish_board.specs.declared.work.Work.{Work}
 use Rattle.lvish_board.specs.declared.works.Works.{Works}
 use Rattle.lvish_board.specs.Listed.{IsListed, works_of}
 use Rattle.lvish_board.specs.Place.{TaskPlace}
-use Rattle.lvish_board.specs.Standing.{Standing, labels_of}
+use Rattle.lvish_trace.specs.Traced.{labels_of}
+use Rattle.lvish_board.specs.Standing.{Standing}
 use Rattle.lvish_board.specs.Woken.{IsParkedBeside}
-use Rattle.lvish_run.specs.declared.report.FinalState.{FinalState}
-use Rattle.lvish_board.specs.declared.outcome.Outcome.{Outcome}
-use Rattle.lvish_board.specs.declared.outcome.Outcome.TheVariants.{Ended, Error as ErrorOutcome, Budget}
+use Rattle.lvish_report.specs.declared.report.FinalState.{FinalState}
+use Rattle.lvish_trace.specs.declared.outcome.Outcome.{Outcome}
+use Rattle.lvish_trace.specs.declared.outcome.Outcome.TheVariants.{Ended, Error as ErrorOutcome, Budget}
 use Rattle.lvish_run.specs.Honest.{AreFinalStates}
 use Rattle.lvish_run.specs.Picked.{IsPicked}
 use Rattle.lvish_run.specs.Agenda.{Agenda, open_in, IsBeside}

@@ -1,15 +1,15 @@
-ghost use Rattle.std.specs.Prelude.{◌≡◌, IfOk};
+ghost use Rattle.std.specs.Prelude.{◌≡◌, ◌++◌, ◌∷◌, [], IfOk, OnOk};
 ghost use Rattle.std.specs.List.{AllByRecursion};
 ghost use Rattle.lvish_core.specs.Tasks.{task_names};
-ghost use Rattle.lvish_board.specs.Noted.{IsNoted, entries_of};
-ghost use Rattle.lvish_run.specs.Walk.{IsHow, IsAccount, AreStatesOf};
+ghost use Rattle.lvish_trace.specs.Noted.{IsNoted, entries_of};
+ghost use Rattle.lvish_run.specs.Walk.{IsHow, IsAccount, AreStatesOf, final_state};
 
-use crate::report::{Counts, FinalState, Report, States};
 use lvish_board::{Noted, Outcome, Trace};
 use lvish_calculus::{Meaning, Program};
 use lvish_core::{Core, RunError};
 use lvish_lattice::{Lattice, Plain};
 use lvish_names::TaskName;
+use lvish_report::{Counts, FinalState, Report, States};
 use lvish_variable::{Entry, Variable};
 use std::alloc::{AllocError, Global};
 
@@ -71,11 +71,23 @@ fn final_states<S: Lattice>(
     let mut states = Vec::new(alloc);
     let mut logs = Vec::new(alloc);
     for variable in variables {
-        let (content, frozen, log) = variable.into_parts();
-        states.push(FinalState { content, frozen })?;
-        logs.push(log)?;
+        add_state(&mut states, &mut logs, variable)?;
     }
     Ok((States::from(states), logs))
+}
+
+/// Adds the variable's state and mark, and its log.
+fn add_state<S: Lattice>(
+    states: &mut Vec<FinalState<S>>,
+    logs: &mut Vec<Vec<Entry<S::Event>>>,
+    variable: Variable<S>,
+) -> Result<(), AllocError>
+    ensures { OnOk result (states.new.items ≡ states.old.items ++ final_state variable ∷ []) }
+{
+    let (content, frozen, log) = variable.into_parts();
+    states.push(FinalState { content, frozen })?;
+    logs.push(log)?;
+    Ok(())
 }
 
 /// The outcome of steps of which the last gave this error.

@@ -1,19 +1,20 @@
 //! The report of a board that is over.
 
-ghost use Rattle.std.specs.Prelude.{◌≡◌, ◌≢◌, ℕ, IfOk, Some};
+ghost use Rattle.std.specs.Prelude.{◌≡◌, ◌≢◌, IfOk, Some, length};
 ghost use Rattle.lvish_calculus.specs.Handing.{IsHandedWell};
 ghost use Rattle.lvish_run.specs.Honest.{IsCountByWorker, IsHonest};
-ghost use Rattle.lvish_board.specs.Standing.{labels_of, OverIs};
-ghost use Rattle.lvish_run.specs.Alike.{IsAlike};
+ghost use Rattle.lvish_trace.specs.Traced.{labels_of};
+ghost use Rattle.lvish_board.specs.Standing.{OverIs};
+ghost use Rattle.lvish_run.specs.Alike.{IsAlike, IsTold};
 
 use crate::account::account_of;
 use crate::count_by_worker::count_by_worker;
 use crate::fault::RunFault;
-use crate::report::{Counts, Report};
 use lvish_board::{Board, Named, Outcome};
 use lvish_calculus::laws::{handing_kept, same_end};
 use lvish_calculus::{Meaning, Program};
 use lvish_lattice::{Lattice, Plain};
+use lvish_report::{Counts, Report};
 use std::alloc::{AllocError, Global};
 
 /// An equal outcome.
@@ -35,8 +36,7 @@ fn copy_of<E: Plain>(outcome: &Outcome<E>) -> Result<Outcome<E>, AllocError>
     }
 }
 
-/// The report of a board whose steps came out like this, by any number of workers whose counts these
-/// are.
+/// The report of a board whose steps came out like this, by as many workers as there are counts.
 pub(crate) fn told<P: Program, J: Named<P>>(
     alloc: Global,
     board: Board<'_, P, J>,
@@ -44,9 +44,8 @@ pub(crate) fn told<P: Program, J: Named<P>>(
     by_worker: Counts,
 ) -> Result<Report<P::Lat, <P::Lat as Lattice>::Event>, AllocError>
     requires over { OverIs (⟦<P as Meaning>⟧.machine J.program) J.budget board (Some outcome) }
-    ensures honest { IfOk result (λ r. (workers : ℕ) → IsCountByWorker workers board.entry.trace by_worker → IsHonest (⟦<P as Meaning>⟧.machine J.program) (P.functions J.program).variables workers J.budget r) }
-    ensures handed { IfOk result (λ r. IsHandedWell (⟦<P as Meaning>⟧.machine J.program) (labels_of r.trace)) }
-    ensures alike { IfOk result (λ r. IsAlike (⟦<P as Meaning>⟧.machine J.program) (P.functions J.program).variables r) }
+    requires counts { IsCountByWorker (length by_worker) board.trace by_worker }
+    ensures told { IfOk result (λ r. IsTold (⟦<P as Meaning>⟧.machine J.program) (P.functions J.program).variables (length by_worker) J.budget r) }
     ensures trace { IfOk result (λ r. r.trace ≡ board.entry.trace) }
 {
     handing_kept::<P>();
@@ -75,10 +74,27 @@ pub fn report_of<P: Program, J: Named<P>>(
     ensures not_stopped { result ≢ Err RunFault.Stopped }
     ensures all_there { result ≢ Err RunFault.NoThread }
 {
+    let (outcome, by_worker) = looked_at(alloc, &board, workers)?;
+    Ok(told(alloc, board, outcome, by_worker)?)
+}
+
+/// How the board is over, and how many steps each of this many workers made. It borrows the board, so
+/// that no way out drops one.
+fn looked_at<P: Program, J: Named<P>>(
+    alloc: Global,
+    board: &Board<'_, P, J>,
+    workers: usize,
+) -> Result<(Outcome<<P::Lat as Lattice>::Event>, Counts), RunFault>
+    ensures over { IfOk result (λ r. OverIs (⟦<P as Meaning>⟧.machine J.program) J.budget board.now (Some r.0)) }
+    ensures workers { IfOk result (λ r. length r.1 ≡ workers) }
+    ensures counts { IfOk result (λ r. IsCountByWorker (length r.1) board.now.trace r.1) }
+    ensures not_stopped { result ≢ Err RunFault.Stopped }
+    ensures all_there { result ≢ Err RunFault.NoThread }
+{
     let Some(over) = board.over() else {
         return Err(RunFault::Mixed);
     };
     let outcome = copy_of(over)?;
     let by_worker = count_by_worker(alloc, board.noted(), workers)?;
-    Ok(told(alloc, board, outcome, by_worker)?)
+    Ok((outcome, by_worker))
 }

@@ -2,8 +2,8 @@ ghost use Rattle.std.specs.Prelude.{◌≡◌, ◌≢◌, ◌==◌, IfOk, count_
 ghost use Rattle.lvish_run.specs.Crew.{AreCounts};
 
 use crate::fault::RunFault;
-use crate::report::Counts;
 use lvish_board::Noted;
+use lvish_report::Counts;
 use std::alloc::Global;
 
 /// How many of the noted steps the worker made.

@@ -3,7 +3,8 @@
 ghost use Rattle.std.specs.Prelude.{◌≡◌, ◌≤◌, ◌%◌, IfOk, MatchOption, length, [], slice_get, true, None, Some};
 ghost use Rattle.lvish_calculus.specs.Calculus.{Running, start};
 ghost use Rattle.lvish_calculus.specs.Handing.{IsHandedWell};
-ghost use Rattle.lvish_board.specs.Standing.{IsOpened, labels_of};
+ghost use Rattle.lvish_trace.specs.Traced.{labels_of};
+ghost use Rattle.lvish_board.specs.Standing.{IsOpened};
 ghost use Rattle.lvish_run.specs.Agenda.{open_in, NoTask, IsBeside, IsFor};
 ghost use Rattle.lvish_run.specs.Honest.{IsHonest};
 ghost use Rattle.lvish_run.specs.Picked.{IsPicked};
@@ -16,7 +17,6 @@ use crate::closing::told;
 use crate::limits::MOST_STEPS;
 use crate::opening::open_one;
 use crate::picks::pick_at;
-use crate::report::{Counts, Report};
 use crate::turn::{act, hand, is_sound};
 use lvish_board::{Board, Named, Place};
 use lvish_calculus::laws::lawful;
@@ -25,6 +25,7 @@ use lvish_core::laws::{hands_one_event, takes_core_runs, takes_something};
 use lvish_history::Opened;
 use lvish_lattice::Lattice;
 use lvish_names::HandlerName;
+use lvish_report::{Counts, Report};
 use std::alloc::{AllocError, Global};
 
 /// The label whose number is the pick modulo their count, `None` where there are no labels.

@@ -1,19 +1,17 @@
 ghost use Rattle.std.specs.Prelude.{◌≡◌, ◌≤◌, [], IfOk};
 ghost use Rattle.lvish_calculus.specs.Calculus.{Running, start};
-ghost use Rattle.lvish_calculus.specs.Handing.{IsHandedWell};
-ghost use Rattle.lvish_run.specs.Alike.{IsAlike};
-ghost use Rattle.lvish_run.specs.Honest.{IsHonest};
-ghost use Rattle.lvish_board.specs.Standing.{labels_of};
+ghost use Rattle.lvish_run.specs.Alike.{IsTold};
+ghost use Rattle.lvish_trace.specs.Traced.{labels_of};
 ghost use Rattle.lvish_run.specs.Picked.{IsPicked};
 
 use crate::limits::MOST_STEPS;
 use crate::naming::{Naming, Of};
-use crate::report::Report;
 use crate::runner::run_program;
 use lvish_board::Place;
 use lvish_calculus::{Meaning, Program};
 use lvish_compound::{Any, Event};
 use lvish_history::Opened;
+use lvish_report::Report;
 use lvish_syntax::Script;
 use lvish_task::ScriptCode;
 use lvish_task::laws::same_runs;
@@ -25,7 +23,7 @@ pub trait RunMeaning {
     ghost use Rattle.std.specs.Prelude.{ℕ, List, Option};
     ghost use Rattle.lvish_compound.specs.declared.any.Any.{Any};
     ghost use Rattle.lvish_compound.specs.declared.event.Event.{Event};
-    ghost use Rattle.lvish_run.specs.declared.report.Report.{Report};
+    ghost use Rattle.lvish_report.specs.declared.report.Report.{Report};
 
     /// An honest report of a run of the script's nested statements by this many workers, within the
     /// budget; of an end, that all ends that don't cross it are alike.
@@ -84,10 +82,8 @@ fn run_named<N: Naming>(
     requires code { code.now ≡ N.code }
     requires budget { budget ≡ N.budget }
     requires history { history.seen.book ≡ N.book }
-    ensures honest { IfOk result (λ r. IsHonest (⟦<ScriptCode as Meaning>⟧.machine N.code) (⟦<ScriptCode as Program>⟧.functions N.code).variables 1 N.budget r) }
+    ensures told { IfOk result (λ r. IsTold (⟦<ScriptCode as Meaning>⟧.machine N.code) (⟦<ScriptCode as Program>⟧.functions N.code).variables 1 N.budget r) }
     ensures picked { IfOk result (λ r. IsPicked ⟦<Event as Ord>⟧.cmp (⟦<ScriptCode as Meaning>⟧.machine N.code) picks.now [] (Running (start (⟦<ScriptCode as Meaning>⟧.machine N.code))) (labels_of r.trace)) }
-    ensures handed { IfOk result (λ r. IsHandedWell (⟦<ScriptCode as Meaning>⟧.machine N.code) (labels_of r.trace)) }
-    ensures alike { IfOk result (λ r. IsAlike (⟦<ScriptCode as Meaning>⟧.machine N.code) (⟦<ScriptCode as Program>⟧.functions N.code).variables r) }
 {
     run_program::<ScriptCode, Of<N>>(alloc, code, picks, budget, history)
 }

@@ -1,8 +1,5 @@
 ghost use Rattle.std.specs.Prelude.{◌≡◌, ◌≢◌, ◌≤◌, ◌<◌, IfOk, All, true, false};
-ghost use Rattle.lvish_calculus.specs.Handing.{IsHandedWell};
-ghost use Rattle.lvish_run.specs.Honest.{IsHonest};
-ghost use Rattle.lvish_board.specs.Standing.{labels_of};
-ghost use Rattle.lvish_run.specs.Alike.{IsAlike};
+ghost use Rattle.lvish_run.specs.Alike.{IsTold};
 ghost use Rattle.lvish_run.specs.declared.own_steps.Why.TheVariants.{Memory as LackedMemory, Stopped};
 
 use crate::alone::work_alone;
@@ -14,13 +11,13 @@ use crate::limits::{MOST_STEPS, MOST_WORKERS};
 use crate::naming::{Naming, Of};
 use crate::own_steps::Why;
 use crate::piece::Piece;
-use crate::report::Report;
 use crate::scripts::RunMeaning;
 use lvish_board::{Board, Named, Place};
 use lvish_calculus::{Meaning, Program};
 use lvish_compound::{Any, Event};
-use lvish_deal::deal;
+use lvish_deal::{Seat, deal};
 use lvish_history::Opened;
+use lvish_report::Report;
 use lvish_syntax::Script;
 use lvish_task::ScriptCode;
 use lvish_task::laws::same_runs;
@@ -74,9 +71,7 @@ fn run_named<N: Naming + Send + Sync, R: Threads + Wait + Sync, G: Gate>(
     requires code { code.now ≡ N.code }
     requires budget { budget ≡ N.budget }
     requires history { history.seen.book ≡ N.book }
-    ensures honest { IfOk result (λ r. IsHonest (⟦<ScriptCode as Meaning>⟧.machine N.code) (⟦<ScriptCode as Program>⟧.functions N.code).variables workers N.budget r) }
-    ensures handed { IfOk result (λ r. IsHandedWell (⟦<ScriptCode as Meaning>⟧.machine N.code) (labels_of r.trace)) }
-    ensures alike { IfOk result (λ r. IsAlike (⟦<ScriptCode as Meaning>⟧.machine N.code) (⟦<ScriptCode as Program>⟧.functions N.code).variables r) }
+    ensures told { IfOk result (λ r. IsTold (⟦<ScriptCode as Meaning>⟧.machine N.code) (⟦<ScriptCode as Program>⟧.functions N.code).variables workers N.budget r) }
     ensures patient { G.patient ≡ true → result ≢ Err RunFault.Stopped }
     ensures alone { workers ≡ 1 → result ≢ Err RunFault.NoThread }
 {
@@ -100,9 +95,7 @@ fn run_alone<J: Named<ScriptCode>, R: Wait, G: Gate>(
     gate: &G,
 ) -> Result<Report<Any, Event>, RunFault>
     requires code { code.now ≡ J.program }
-    ensures honest { IfOk result (λ r. IsHonest (⟦<ScriptCode as Meaning>⟧.machine J.program) (⟦<ScriptCode as Program>⟧.functions J.program).variables 1 J.budget r) }
-    ensures handed { IfOk result (λ r. IsHandedWell (⟦<ScriptCode as Meaning>⟧.machine J.program) (labels_of r.trace)) }
-    ensures alike { IfOk result (λ r. IsAlike (⟦<ScriptCode as Meaning>⟧.machine J.program) (⟦<ScriptCode as Program>⟧.functions J.program).variables r) }
+    ensures told { IfOk result (λ r. IsTold (⟦<ScriptCode as Meaning>⟧.machine J.program) (⟦<ScriptCode as Program>⟧.functions J.program).variables 1 J.budget r) }
     ensures patient { G.patient ≡ true → result ≢ Err RunFault.Stopped }
     ensures alone { result ≢ Err RunFault.NoThread }
 {
@@ -117,9 +110,7 @@ fn settle_alone<J: Named<ScriptCode>>(
     board: Board<'_, ScriptCode, J>,
     why: Why,
 ) -> Result<Report<Any, Event>, RunFault>
-    ensures honest { IfOk result (λ r. IsHonest (⟦<ScriptCode as Meaning>⟧.machine J.program) (⟦<ScriptCode as Program>⟧.functions J.program).variables 1 J.budget r) }
-    ensures handed { IfOk result (λ r. IsHandedWell (⟦<ScriptCode as Meaning>⟧.machine J.program) (labels_of r.trace)) }
-    ensures alike { IfOk result (λ r. IsAlike (⟦<ScriptCode as Meaning>⟧.machine J.program) (⟦<ScriptCode as Program>⟧.functions J.program).variables r) }
+    ensures told { IfOk result (λ r. IsTold (⟦<ScriptCode as Meaning>⟧.machine J.program) (⟦<ScriptCode as Program>⟧.functions J.program).variables 1 J.budget r) }
     ensures memory { why ≡ LackedMemory → result ≡ Err RunFault.Memory }
     ensures stopped { why ≡ Stopped → result ≡ Err RunFault.Stopped }
     ensures patient { why ≢ Stopped → result ≢ Err RunFault.Stopped }
@@ -128,7 +119,7 @@ fn settle_alone<J: Named<ScriptCode>>(
     match why {
         Why::Memory => Err(RunFault::Memory),
         Why::Stopped => Err(RunFault::Stopped),
-        Why::Over | Why::Others => report_of(alloc, board, 1),
+        Why::Over | Why::Others => reported(alloc, board, 1),
     }
 }
 
@@ -145,20 +136,32 @@ fn run_together<J: Named<ScriptCode> + Send + Sync, R: Threads + Wait + Sync, G:
     requires some { 0 < workers }
     requires few { workers ≤ MOST_WORKERS }
     requires code { code.now ≡ J.program }
-    ensures honest { IfOk result (λ r. IsHonest (⟦<ScriptCode as Meaning>⟧.machine J.program) (⟦<ScriptCode as Program>⟧.functions J.program).variables workers J.budget r) }
-    ensures handed { IfOk result (λ r. IsHandedWell (⟦<ScriptCode as Meaning>⟧.machine J.program) (labels_of r.trace)) }
-    ensures alike { IfOk result (λ r. IsAlike (⟦<ScriptCode as Meaning>⟧.machine J.program) (⟦<ScriptCode as Program>⟧.functions J.program).variables r) }
+    ensures told { IfOk result (λ r. IsTold (⟦<ScriptCode as Meaning>⟧.machine J.program) (⟦<ScriptCode as Program>⟧.functions J.program).variables workers J.budget r) }
     ensures patient { G.patient ≡ true → result ≢ Err RunFault.Stopped }
 {
-    let mut others = deal(alloc, workers)?;
-    let mut mine = others.remove(0);
-    if mine.push(first).is_err() {
-        return Err(RunFault::Memory);
-    }
+    let (mine, others) = dealt(alloc, first, workers)?;
     let board = Mutex::new(board);
     let left = AtomicBool::new(false);
     let crew = together(rt, alloc, mine, others, code, &board, &left, gate)?;
     settle(alloc, board.into_inner(), crew, workers)
+}
+
+/// The seats of the workers, the first apart from the others and with the first piece of work.
+fn dealt<T: Drop>(
+    alloc: Global,
+    first: T,
+    workers: usize,
+) -> Result<(Seat<T>, Vec<Seat<T>>), RunFault>
+    requires some { 0 < workers }
+    requires few { workers ≤ MOST_WORKERS }
+    ensures { result ≢ Err RunFault.Stopped }
+{
+    let mut others = deal(alloc, workers)?;
+    let mut mine = others.remove(0);
+    match mine.push(first) {
+        Ok(()) => Ok((mine, others)),
+        Err(_first) => Err(RunFault::Memory),
+    }
 }
 
 /// The report of a board that is over, or why there is none.
@@ -168,14 +171,25 @@ fn settle<J: Named<ScriptCode>>(
     crew: Crew,
     workers: usize,
 ) -> Result<Report<Any, Event>, RunFault>
-    ensures honest { IfOk result (λ r. IsHonest (⟦<ScriptCode as Meaning>⟧.machine J.program) (⟦<ScriptCode as Program>⟧.functions J.program).variables workers J.budget r) }
-    ensures handed { IfOk result (λ r. IsHandedWell (⟦<ScriptCode as Meaning>⟧.machine J.program) (labels_of r.trace)) }
-    ensures alike { IfOk result (λ r. IsAlike (⟦<ScriptCode as Meaning>⟧.machine J.program) (⟦<ScriptCode as Program>⟧.functions J.program).variables r) }
+    ensures told { IfOk result (λ r. IsTold (⟦<ScriptCode as Meaning>⟧.machine J.program) (⟦<ScriptCode as Program>⟧.functions J.program).variables workers J.budget r) }
     ensures patient { All (λ own. own.why ≢ Stopped) crew.owns.items → result ≢ Err RunFault.Stopped }
     ensures all_there { crew.missing ≡ false → result ≢ Err RunFault.NoThread }
 {
     match crew.fault(board.noted()) {
         Some(fault) => Err(fault),
-        None => report_of(alloc, board, workers),
+        None => reported(alloc, board, workers),
     }
+}
+
+/// The report of a board that is over, with what it says in one clause.
+fn reported<J: Named<ScriptCode>>(
+    alloc: Global,
+    board: Board<'_, ScriptCode, J>,
+    workers: usize,
+) -> Result<Report<Any, Event>, RunFault>
+    ensures told { IfOk result (λ r. IsTold (⟦<ScriptCode as Meaning>⟧.machine J.program) (⟦<ScriptCode as Program>⟧.functions J.program).variables workers J.budget r) }
+    ensures not_stopped { result ≢ Err RunFault.Stopped }
+    ensures all_there { result ≢ Err RunFault.NoThread }
+{
+    report_of(alloc, board, workers)
 }

@@ -93,83 +93,17 @@ fn alike<R: Threads + Wait + Sync>(
 #[test]
 fn runs_end_alike(rt: HostRuntime) -> Result<(), Fail> {
     let alloc = rt.alloc();
-    assert_eq!(rt;
-        alike(&rt, alloc, scripts::READ, 10)?.as_str(),
-        "ended, steps 6, blocked 0"
-    );
-    assert_eq!(rt;
-        alike(&rt, alloc, scripts::NOTHING, 10)?.as_str(),
-        "ended, steps 1, blocked 0"
-    );
-    assert_eq!(rt;
-        alike(&rt, alloc, scripts::BLOCKED, 10)?.as_str(),
-        "ended, steps 0, blocked 1"
-    );
-    assert_eq!(rt;
-        alike(&rt, alloc, scripts::TWICE, 10)?.as_str(),
-        "ended, steps 7, blocked 0"
-    );
-    assert_eq!(rt;
-        alike(&rt, alloc, scripts::HANDLED, 10)?.as_str(),
-        "ended, steps 11, blocked 0"
-    );
-    assert_eq!(rt;
-        alike(&rt, alloc, scripts::CASCADE, 20)?.as_str(),
-        "ended, steps 18, blocked 0"
-    );
-    assert_eq!(rt;
-        alike(&rt, alloc, scripts::WAITS, 10)?.as_str(),
-        "ended, steps 4, blocked 1"
-    );
-    assert_eq!(rt;
-        alike(&rt, alloc, scripts::TREE, 10)?.as_str(),
-        "ended, steps 190, blocked 0"
-    );
-    Ok(())
-}
-
-/// The outcome of a run by this many workers within a budget.
-fn outcome_of<R: Threads + Wait + Sync>(
-    rt: &R,
-    alloc: Global,
-    text: &str,
-    workers: usize,
-    budget: u64,
-) -> Result<String, Fail>
-    requires some { 0 < workers }
-    requires few { workers ≤ 8 }
-    requires bounded { budget ≤ MOST_STEPS }
-{
-    let script = read_script(alloc, text.as_bytes())?;
-    let report = run_at_last(rt, alloc, &script, workers, budget)?;
-    Ok(line_of(alloc, &report)?)
-}
-
-#[test]
-fn budgets_stop_runs(rt: HostRuntime) -> Result<(), Fail> {
-    let alloc = rt.alloc();
-    for workers in 1..9 {
-        assert_eq!(rt;
-            outcome_of(&rt, alloc, scripts::ENDLESS, workers, 10)?.as_str(),
-            "budget, steps 10, blocked 1"
-        );
-        assert_eq!(rt;
-            outcome_of(&rt, alloc, scripts::READ, workers, 6)?.as_str(),
-            "ended, steps 6, blocked 0"
-        );
-        assert_eq!(rt;
-            outcome_of(&rt, alloc, scripts::NOTHING, workers, 0)?.as_str(),
-            "budget, steps 0, blocked 1"
-        );
-        assert_eq!(rt;
-            outcome_of(&rt, alloc, scripts::BLOCKED, workers, 0)?.as_str(),
-            "ended, steps 0, blocked 1"
-        );
-        let script = read_script(alloc, scripts::TREE.as_bytes())?;
-        let report = run_at_last(&rt, alloc, &script, workers, 7)?;
-        assert_eq!(rt; word(&report.outcome), "budget");
-        assert_eq!(rt; report.steps, 7);
-        assert_eq!(rt; report.trace.len(), 7);
+    for (script, line) in [
+        (scripts::READ, "ended, steps 6, blocked 0"),
+        (scripts::NOTHING, "ended, steps 1, blocked 0"),
+        (scripts::BLOCKED, "ended, steps 0, blocked 1"),
+        (scripts::TWICE, "ended, steps 7, blocked 0"),
+        (scripts::HANDLED, "ended, steps 11, blocked 0"),
+        (scripts::CASCADE, "ended, steps 18, blocked 0"),
+        (scripts::WAITS, "ended, steps 4, blocked 1"),
+        (scripts::TREE, "ended, steps 190, blocked 0"),
+    ] {
+        assert_eq!(rt; alike(&rt, alloc, script, 20)?.as_str(), line);
     }
     Ok(())
 }

@@ -13,12 +13,11 @@ use crate::acted::Acted;
 use crate::asked::Asked;
 use crate::came::Came;
 use crate::named::Named;
-use crate::noted::Step;
-use crate::outcome::Outcome;
 use crate::work::Work;
 use crate::works::Works;
 use lvish_calculus::{Meaning, Program};
 use lvish_core::{CoreMeaning, TaskNumbers};
+use lvish_trace::{Outcome, Step};
 use std::alloc::Global;
 
 impl<'p, P: Program, J: Named<P>> Board<'p, P, J> {

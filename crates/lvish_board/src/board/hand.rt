@@ -15,8 +15,6 @@ use crate::came::Came;
 use crate::list::{OwnWork, leave, ticket_of};
 use crate::named::Named;
 use crate::newest::Newest;
-use crate::noted::{Noted, Step};
-use crate::outcome::Outcome;
 use crate::room::Room;
 use crate::work::Work;
 use crate::works::Works;
@@ -25,6 +23,7 @@ use lvish_core::laws::{hands_one_event, passes_at_its_spot, tasks_after, waiting
 use lvish_core::{Core, CoreMeaning, Moved, StepFault};
 use lvish_lattice::Lattice;
 use lvish_names::HandlerName;
+use lvish_trace::{Noted, Outcome, Step};
 use std::alloc::Global;
 
 impl<'p, P: Program, J: Named<P>> Board<'p, P, J> {

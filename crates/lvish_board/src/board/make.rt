@@ -13,8 +13,6 @@ use crate::came::Came;
 use crate::list::{leave, left_by};
 use crate::named::Named;
 use crate::newest::Newest;
-use crate::noted::{Noted, Step};
-use crate::outcome::Outcome;
 use crate::room::Room;
 use crate::works::Works;
 use lvish_calculus::laws::lawful;
@@ -22,6 +20,7 @@ use lvish_calculus::{ErrorKind, Meaning, Program};
 use lvish_core::laws::{passes_at_its_spot, tasks_after, waiting_tasks};
 use lvish_core::{Core, CoreMeaning, Moved, StepFault, Stepped, TaskNumbers};
 use lvish_lattice::Lattice;
+use lvish_trace::{Noted, Outcome, Step};
 use std::alloc::Global;
 
 impl<'p, P: Program, J: Named<P>> Board<'p, P, J> {

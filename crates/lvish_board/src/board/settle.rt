@@ -4,9 +4,9 @@ ghost use Rattle.std.specs.Prelude.{◌≡◌, None};
 
 use super::Board;
 use crate::named::Named;
-use crate::outcome::Outcome;
 use lvish_calculus::Program;
 use lvish_core::laws::waiting_tasks;
+use lvish_trace::Outcome;
 
 impl<'p, P: Program, J: Named<P>> Board<'p, P, J> {
     /// Ends the board where every task that hasn't ended is parked and every handler drained.

@@ -1,156 +1,52 @@
-//! A core beside its program. A run by given calls is written as text, a line for each call: what it
-//! answers, and what is seen of the core after it.
+//! A core beside its code. Each call is made once more where a growth was refused, after it was seen
+//! that the core is as it was.
 
 ghost use Rattle.std.specs.Prelude.{◌≡◌};
 
-use lvish_calculus::{Label, Program, Request};
-use lvish_core::{Core, Moved, RunError, StepFault, Stepped};
-use lvish_handlers::Held;
-use lvish_lattice::{Lattice, Numbered};
+use lvish_calculus::{Label, Program};
+use lvish_compound::Event;
+use lvish_core::{Core, StepFault, Stepped};
 use lvish_names::{HandlerName, TaskName};
-use lvish_variable::Variable;
+use lvish_task::ScriptCode;
 use std::alloc::{AllocError, Global};
 use std::fmt::Write;
 use std::process::Abort;
 
 /// A call that makes a step.
 #[derive(Drop)]
-pub enum Call<E> {
-    Step(Label<E>),
+pub enum Call {
+    Step(Label<Event>),
     /// The task's step, with its request already computed.
-    Asked(TaskName<E>),
+    Asked(TaskName<Event>),
     /// The handing of what comes next.
-    Hand(HandlerName<E>),
+    Hand(HandlerName<Event>),
 }
 
-/// What a call answers: what the step led to, and what it moved where it says so.
-type StepAnswer<E, L> = Result<(Stepped, Option<Moved<E, L>>), StepFault>;
-
-/// A program's core.
-pub struct Bench<'p, P: Program> {
-    program: &'p P,
-    core: Core<'p, P>,
-    ghost same: { core.program ≡ program.now },
+/// A script's core.
+struct Bench<'p> {
+    code: &'p ScriptCode,
+    core: Core<'p, ScriptCode>,
+    ghost same: { core.program ≡ code.now },
 }
 
 // Written out, so that it is proved once, and not at each exit of a function that owns one.
-impl<'p, P: Program> Drop for Bench<'p, P> {
+impl<'p> Drop for Bench<'p> {
     fn drop(self) {
-        let Bench {
-            program: _,
-            core: _,
-        } = self;
+        let Bench { code: _, core: _ } = self;
     }
 }
 
-/// The names of the tasks, and of the handlers with their events.
-fn write_labels<E: Numbered>(text: &mut String, labels: &[Label<E>]) -> Result<(), AllocError> {
-    for label in labels {
-        match label {
-            Label::Act(name) => write!(text, " {name}")?,
-            Label::Hand(name, event) => write!(text, " {name} with {}", event.number())?,
-        }
-    }
-    Ok(())
-}
-
-/// The numbers of the events of each variable's state, and whether it is frozen.
-fn write_states<L: Lattice>(
-    text: &mut String,
-    alloc: Global,
-    variables: &[Variable<L>],
-) -> Result<(), AllocError>
-where
-    L::Event: Numbered,
-{
-    for variable in variables {
-        write!(text, " {{")?;
-        for event in variable.state().events(alloc)?.iter() {
-            write!(text, " {}", event.number())?;
-        }
-        write!(text, " }}")?;
-        if variable.is_frozen() {
-            write!(text, " frozen")?;
-        }
-    }
-    Ok(())
-}
-
-/// The names of the handlers, and how many events each was handed.
-fn write_handlers<E: Numbered>(text: &mut String, held: &[Held<E>]) -> Result<(), AllocError> {
-    for handler in held {
-        write!(text, " {} handed {}", handler.name, handler.handed)?;
-    }
-    Ok(())
-}
-
-fn write_fault<E: Numbered>(text: &mut String, fault: &RunError<E>) -> Result<(), AllocError> {
-    write!(text, " | {:?} by {}", fault.kind, fault.task)?;
-    if let Some(variable) = fault.variable {
-        write!(text, " at {variable}")?;
-    }
-    Ok(())
-}
-
-/// The request, without its state, its read and the local state that it starts.
-fn write_request<S, R, L>(text: &mut String, request: &Request<S, R, L>) -> Result<(), AllocError> {
-    match request {
-        Request::Put(variable, _) => write!(text, " put {variable}"),
-        Request::Get(variable, _) => write!(text, " get {variable}"),
-        Request::Fork(_) => write!(text, " fork"),
-        Request::Add(pool, procedure) => write!(text, " add {pool} {procedure}"),
-        Request::Freeze(variable, pools) => {
-            write!(text, " freeze {variable} {:?}", pools.as_slice())
-        }
-        Request::Pause => write!(text, " pause"),
-        Request::End => write!(text, " end"),
-        Request::Fault(kind) => write!(text, " {kind:?}"),
-    }
-}
-
-fn write_answer<E: Numbered, L>(
-    text: &mut String,
-    answer: &StepAnswer<E, L>,
-) -> Result<(), AllocError> {
-    match answer {
-        Ok((stepped, moved)) => {
-            write!(text, "{stepped:?}")?;
-            if let Some(moved) = moved {
-                write_moved(text, moved)?;
-            }
-        }
-        Err(fault) => write!(text, "{fault:?}")?,
-    }
-    Ok(())
-}
-
-fn write_moved<E: Numbered, L>(text: &mut String, moved: &Moved<E, L>) -> Result<(), AllocError> {
-    if moved.own.is_some() {
-        write!(text, ", goes on")?;
-    }
-    if let Some(made) = &moved.made {
-        write!(text, ", made {}", made.name)?;
-    }
-    if let Some(added) = &moved.added {
-        write!(text, ", added {added}")?;
-    }
-    Ok(())
-}
-
-impl<'p, P: Program> Bench<'p, P>
-where
-    <P::Lat as Lattice>::Event: Numbered,
-{
-    fn new(alloc: Global, program: &'p P) -> Result<Self, AllocError> {
-        let core = Core::new(alloc, program)?;
-        Ok(Bench { program, core })
+impl<'p> Bench<'p> {
+    fn new(alloc: Global, code: &'p ScriptCode) -> Result<Self, AllocError> {
+        let core = Core::new(alloc, code)?;
+        Ok(Bench { code, core })
     }
 
     /// A bench; asked for again where a growth was refused.
-    fn new_at_last(alloc: Global, program: &'p P) -> Result<Self, AllocError> {
-        match Bench::new(alloc, program) {
+    fn new_at_last(alloc: Global, code: &'p ScriptCode) -> Result<Self, AllocError> {
+        match Bench::new(alloc, code) {
             Ok(bench) => Ok(bench),
-            Err(_) => Bench::new(alloc, program),
+            Err(_) => Bench::new(alloc, code),
         }
     }
 
@@ -162,61 +58,56 @@ where
         }
     }
 
-    /// The labels that the core can take, its variables, the handlers on the first variable, what
-    /// main asks for, the number of tasks that haven't ended, what the last step concerned, and the
-    /// error if there is one.
+    /// The labels that the core can take, its variables, the handlers on the first one, what main asks
+    /// for, and the rest that is seen.
     fn seen(&self, alloc: Global) -> Result<String, AllocError> {
         let mut text = String::new(alloc);
-        write_labels(&mut text, &self.core.labels(alloc)?)?;
-        write!(text, " |")?;
-        write_states(&mut text, alloc, self.core.states())?;
-        if self.program.variables() > 0 {
-            write_handlers(&mut text, self.core.handlers(0))?;
+        write!(text, "{:?}", self.core.labels(alloc)?.as_slice())?;
+        write!(text, "{:?}", self.core.states())?;
+        if self.code.variables() > 0 {
+            write!(text, "{:?}", self.core.handlers(0))?;
         }
-        write!(text, " | {} running", self.core.running())?;
-        if let Some(request) = self.core.request_of(alloc, &TaskName::main())? {
-            write!(text, ", main asks")?;
-            write_request(&mut text, &request)?;
-        }
-        if self.core.is_ended(alloc)? {
-            write!(text, ", ended")?;
-        }
-        if let Some(touched) = self.core.last_touched() {
-            write!(text, ", {touched:?}")?;
-        }
-        if let Some(fault) = self.core.fault() {
-            write_fault(&mut text, fault)?;
-        }
+        write!(
+            text,
+            "{:?}",
+            self.core.request_of(alloc, &TaskName::main())?
+        )?;
+        self.write_rest(alloc, &mut text)?;
         Ok(text)
     }
 
+    /// Writes the numbers of steps and of tasks that haven't ended, whether all have, what the last step
+    /// concerned, and the error if there is one.
+    fn write_rest(&self, alloc: Global, text: &mut String) -> Result<(), AllocError> {
+        write!(text, "{} {}", self.core.steps(), self.core.running())?;
+        write!(text, "{}", self.core.is_ended(alloc)?)?;
+        write!(
+            text,
+            "{:?} {:?}",
+            self.core.last_touched(),
+            self.core.fault()
+        )
+    }
+
     /// What the call answers.
-    fn called(
-        &mut self,
-        alloc: Global,
-        call: &Call<<P::Lat as Lattice>::Event>,
-    ) -> StepAnswer<<P::Lat as Lattice>::Event, P::Local> {
+    fn called(&mut self, alloc: Global, call: &Call) -> Result<Stepped, StepFault> {
         match call {
-            Call::Step(label) => Ok((self.core.step(alloc, label)?, None)),
+            Call::Step(label) => self.core.step(alloc, label),
             Call::Asked(name) => self.asked(alloc, name),
             Call::Hand(name) => {
-                let (stepped, moved) = self.core.step_hand(alloc, name)?;
-                Ok((stepped, Some(moved)))
+                let (stepped, _moved) = self.core.step_hand(alloc, name)?;
+                Ok(stepped)
             }
         }
     }
 
-    fn asked(
-        &mut self,
-        alloc: Global,
-        name: &TaskName<<P::Lat as Lattice>::Event>,
-    ) -> StepAnswer<<P::Lat as Lattice>::Event, P::Local> {
+    fn asked(&mut self, alloc: Global, name: &TaskName<Event>) -> Result<Stepped, StepFault> {
         let Some(local) = self.core.local_of(name) else {
             return Err(StepFault::NotEnabled);
         };
-        let asks = self.program.ask(alloc, local)?;
-        let (stepped, moved) = self.core.step_asked(alloc, name, &asks)?;
-        Ok((stepped, Some(moved)))
+        let asks = self.code.ask(alloc, local)?;
+        let (stepped, _moved) = self.core.step_asked(alloc, name, &asks)?;
+        Ok(stepped)
     }
 
     /// What the call answers, and again where a growth was refused: the core is as it was.
@@ -224,14 +115,12 @@ where
         &mut self,
         rt: &impl Abort,
         alloc: Global,
-        call: &Call<<P::Lat as Lattice>::Event>,
-    ) -> Result<StepAnswer<<P::Lat as Lattice>::Event, P::Local>, AllocError> {
+        call: &Call,
+    ) -> Result<Result<Stepped, StepFault>, AllocError> {
         let before = self.seen_at_last(alloc)?;
-        let steps = self.core.steps();
         match self.called(alloc, call) {
             Err(StepFault::Memory) => {
                 assert_eq!(rt; self.seen(alloc)?.as_str(), before.as_str());
-                assert_eq!(rt; self.core.steps(), steps);
                 Ok(self.called(alloc, call))
             }
             answer => Ok(answer),
@@ -240,11 +129,7 @@ where
 
     /// Whether the call makes a step: the label is enabled, the request can be made, or an event
     /// comes next.
-    fn is_open(
-        &self,
-        alloc: Global,
-        call: &Call<<P::Lat as Lattice>::Event>,
-    ) -> Result<bool, AllocError> {
+    fn is_open(&self, alloc: Global, call: &Call) -> Result<bool, AllocError> {
         match call {
             Call::Step(label) => self.core.enabled(alloc, label),
             Call::Asked(name) => match self.core.request_of(alloc, name)? {
@@ -255,45 +140,41 @@ where
         }
     }
 
-    fn is_open_at_last(
-        &self,
-        alloc: Global,
-        call: &Call<<P::Lat as Lattice>::Event>,
-    ) -> Result<bool, AllocError> {
+    fn is_open_at_last(&self, alloc: Global, call: &Call) -> Result<bool, AllocError> {
         match self.is_open(alloc, call) {
             Ok(open) => Ok(open),
             Err(_) => self.is_open(alloc, call),
         }
     }
 
-    /// The line of a call.
-    fn line(
+    /// What the call answers, as it was seen to be open or not.
+    fn told(
         &mut self,
         rt: &impl Abort,
         alloc: Global,
-        call: &Call<<P::Lat as Lattice>::Event>,
-    ) -> Result<String, AllocError> {
+        call: &Call,
+    ) -> Result<Result<Stepped, StepFault>, AllocError> {
         let open = self.is_open_at_last(alloc, call)?;
         let answer = self.answer(rt, alloc, call)?;
-        assert_eq!(rt; open, !matches!(&answer, Err(StepFault::NotEnabled)));
-        let mut text = String::new(alloc);
-        write_answer(&mut text, &answer)?;
-        writeln!(text, " |{}", self.seen_at_last(alloc)?)?;
-        Ok(text)
+        assert_eq!(rt; open, answer != Err(StepFault::NotEnabled));
+        Ok(answer)
     }
 
     /// The step with the label in the middle of those that the core can take.
-    fn middle(
-        &self,
-        alloc: Global,
-        asked: bool,
-    ) -> Result<Option<Call<<P::Lat as Lattice>::Event>>, AllocError> {
+    fn middle(&self, alloc: Global, asked: bool) -> Result<Option<Call>, AllocError> {
         let labels = self.core.labels(alloc)?;
         match labels.get(labels.len() / 2) {
             Some(Label::Act(name)) if asked => Ok(Some(Call::Asked(name.copy()?))),
             Some(Label::Act(name)) => Ok(Some(Call::Step(Label::Act(name.copy()?)))),
             Some(Label::Hand(name, _)) => Ok(Some(Call::Hand(name.copy()?))),
             None => Ok(None),
+        }
+    }
+
+    fn middle_at_last(&self, alloc: Global, asked: bool) -> Result<Option<Call>, AllocError> {
+        match self.middle(alloc, asked) {
+            Ok(call) => Ok(call),
+            Err(_) => self.middle(alloc, asked),
         }
     }
 
@@ -316,23 +197,18 @@ where
 
 /// A run to its end, of at most so many steps: how many tasks there are then. After each step each task
 /// is found by its name: the one that the step made behind those in the index, the others in it.
-pub fn run_to_the_end<P: Program>(
+pub fn tasks_at_the_end(
     rt: &impl Abort,
     alloc: Global,
-    program: &P,
+    code: &ScriptCode,
     most: u64,
-) -> Result<usize, AllocError>
-where
-    <P::Lat as Lattice>::Event: Numbered,
-{
-    let mut bench = Bench::new_at_last(alloc, program)?;
+) -> Result<usize, AllocError> {
+    let mut bench = Bench::new_at_last(alloc, code)?;
     for step in 0..most {
-        let call = match bench.middle(alloc, step % 2 == 0) {
-            Ok(call) => call,
-            Err(_) => bench.middle(alloc, step % 2 == 0)?,
+        let Some(call) = bench.middle_at_last(alloc, step % 2 == 0)? else {
+            break;
         };
-        let Some(call) = call else { break };
-        let _line = bench.line(rt, alloc, &call)?;
+        let _answer = bench.told(rt, alloc, &call)?;
         bench.finds_each(rt);
     }
     bench.core.index_names();
@@ -340,57 +216,55 @@ where
     Ok(bench.core.tasks())
 }
 
-/// The run by these calls, from a new core.
-pub fn run<P: Program>(
+/// What these calls of a core answer.
+pub fn answers(
     rt: &impl Abort,
     alloc: Global,
-    program: &P,
-    calls: &[Call<<P::Lat as Lattice>::Event>],
-) -> Result<String, AllocError>
-where
-    <P::Lat as Lattice>::Event: Numbered,
-{
-    let mut bench = Bench::new_at_last(alloc, program)?;
+    code: &ScriptCode,
+    calls: &[Call],
+) -> Result<String, AllocError> {
+    let mut bench = Bench::new_at_last(alloc, code)?;
     let mut text = String::new(alloc);
-    writeln!(text, "new |{}", bench.seen_at_last(alloc)?)?;
     for call in calls {
-        let line = bench.line(rt, alloc, call)?;
-        text.push_str(line.as_str())?;
+        match bench.told(rt, alloc, call)? {
+            Ok(stepped) => write!(text, "{stepped:?} ")?,
+            Err(fault) => write!(text, "{fault:?} ")?,
+        }
     }
     Ok(text)
 }
 
-/// What the step answers, and again where a growth was refused: no step was made.
-fn stepped<P: Program>(
+/// What main's step answers, and again where a growth was refused: no step was made.
+fn stepped(
     rt: &impl Abort,
     alloc: Global,
-    core: &mut Core<'_, P>,
-    label: &Label<<P::Lat as Lattice>::Event>,
+    core: &mut Core<'_, ScriptCode>,
+    main: &Label<Event>,
 ) -> Result<Stepped, StepFault> {
     let steps = core.steps();
-    match core.step(alloc, label) {
+    match core.step(alloc, main) {
         Err(StepFault::Memory) => {
             assert_eq!(rt; core.steps(), steps);
-            core.step(alloc, label)
+            core.step(alloc, main)
         }
         answer => answer,
     }
 }
 
-/// How many of this many steps with the label are made, and what one more answers.
-pub fn many<P: Program>(
+/// How many of this many steps of main are made, and what one more answers.
+pub fn many(
     rt: &impl Abort,
     alloc: Global,
-    program: &P,
-    label: &Label<<P::Lat as Lattice>::Event>,
+    code: &ScriptCode,
     count: u64,
 ) -> Result<(u64, Result<Stepped, StepFault>), StepFault> {
-    let mut core = Core::new(alloc, program)?;
+    let mut core = Core::new(alloc, code)?;
+    let main = Label::Act(TaskName::main());
     let mut made = 0u64;
     for _ in 0..count {
-        if stepped(rt, alloc, &mut core, label)? == Stepped::Done {
+        if stepped(rt, alloc, &mut core, &main)? == Stepped::Done {
             made = made.saturating_add(1);
         }
     }
-    Ok((made, stepped(rt, alloc, &mut core, label)))
+    Ok((made, stepped(rt, alloc, &mut core, &main)))
 }

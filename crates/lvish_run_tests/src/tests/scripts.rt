@@ -24,9 +24,6 @@ pub const HANDLED: &str =
 pub const CASCADE: &str =
     "set s\npool p s\nproc h k n\nlet c n < 5\nif c\nlet m n + 1\nput s m\nend\nend\nproc main\nhandle p h\nput s 1\nfreeze x s after p\nend\n";
 
-/// A task that pauses for ever.
-pub const ENDLESS: &str = "proc main\nwhile 1\nend\nend\n";
-
 /// A tree of forks.
 pub const TREE: &str =
     "set s\nproc t n\nput s n\nlet c n < 32\nif c\nlet l n * 2\nlet r l + 1\nfork t l\nfork t r\nend\nend\nproc main\nfork t 1\nend\n";

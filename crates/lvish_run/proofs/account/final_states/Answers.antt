@@ -21,7 +21,7 @@ loop-variable-preserved g c =
     let short = ap length steps in
     let was = c.loop-variable.invariant.long in
     let long : into_iter_len c.next.new.self ≡ length (into_iter_items c.next.new.self) = omega arith in
-    let pushed : c.push.new.self.items ≡ c.loop-variable.states.items ++ final_state c.in-Some.variable ∷ [] = rw (c.into_parts-content.ensures.state, c.into_parts-content.ensures.frozen) at c.in_ok-push.ensures.items in
+    let pushed = c.in_ok-add_state.ensures in
     record {
       can = tt;
       finite = tt;

@@ -6,23 +6,19 @@ use Rattle.lvish_run.proofs.closing.told.Goals as goal
 pub report-requires : goal.report-requires
 report-requires g c = named_all _ _ _ c.args.board.trace c.in_ok-account.ensures.names c.into_parts-core.ensures.trace c.into_parts-core.ensures.noted
 
-pub returns-clause-honest : goal.returns-clause-honest
-returns-clause-honest g c =
+pub returns-clause-told : goal.returns-clause-told
+returns-clause-told g c =
     let names = c.in_ok-account.ensures.names in
-    told_honest (λ p. machine_of g.P.Lat.PartialEq.eq g.P.Lat.Event.PartialEq.eq g.P.Lat.Event.Ord.cmp g.P.Lat.Lattice.least g.P.Lat.Lattice.joined g.P.Lat.Lattice.events_of g.P.Lat.Reads.answer_of (g.P.Program.functions p)) (λ p. (g.P.Program.functions p).variables) g.J.Named.program g.J.Named.budget c.args.board _ _ _ _ _ _ _ _ _
-    c.into_parts-core.ensures.sound c.into_parts-core.ensures.core (named_trace _ _ _ _ names c.into_parts-core.ensures.trace) c.requires.over c.in_ok-account.ensures.outcome c.in_ok-account.ensures.account
-    (named_long _ _ _ _ names c.into_parts-core.ensures.trace _ (search rules)) c.report.ensures
-
-pub returns-clause-handed : goal.returns-clause-handed
-returns-clause-handed g c = c.handing_kept.ensures _ _
-
-pub returns-clause-alike : goal.returns-clause-alike
-returns-clause-alike g c =
-    let names = c.in_ok-account.ensures.names in
-    told_alike (λ p. machine_of g.P.Lat.PartialEq.eq g.P.Lat.Event.PartialEq.eq g.P.Lat.Event.Ord.cmp g.P.Lat.Lattice.least g.P.Lat.Lattice.joined g.P.Lat.Lattice.events_of g.P.Lat.Reads.answer_of (g.P.Program.functions p)) (λ p. (g.P.Program.functions p).variables) g.J.Named.program g.J.Named.budget c.args.board _ _ _ _ _ _ _ _ _
-    c.into_parts-core.ensures.sound c.into_parts-core.ensures.core (named_trace _ _ _ _ names c.into_parts-core.ensures.trace) c.requires.over c.in_ok-account.ensures.outcome c.in_ok-account.ensures.account
-    (named_long _ _ _ _ names c.into_parts-core.ensures.trace _ (search rules)) c.report.ensures
-    (c.same_end.ensures.uncrossed _) (c.same_end.ensures.one_asks _) (c.same_end.ensures.no_error _)
+    record {
+      honest = told_honest (λ p. machine_of g.P.Lat.PartialEq.eq g.P.Lat.Event.PartialEq.eq g.P.Lat.Event.Ord.cmp g.P.Lat.Lattice.least g.P.Lat.Lattice.joined g.P.Lat.Lattice.events_of g.P.Lat.Reads.answer_of (g.P.Program.functions p)) (λ p. (g.P.Program.functions p).variables) g.J.Named.program g.J.Named.budget c.args.board _ _ _ _ _ _ _ _ _
+          c.into_parts-core.ensures.sound c.into_parts-core.ensures.core (named_trace _ _ _ _ names c.into_parts-core.ensures.trace) c.requires.over c.in_ok-account.ensures.outcome c.in_ok-account.ensures.account
+          (named_long _ _ _ _ names c.into_parts-core.ensures.trace _ (search rules)) c.report.ensures _ c.requires.counts;
+      handed = c.handing_kept.ensures _ _;
+      alike = told_alike (λ p. machine_of g.P.Lat.PartialEq.eq g.P.Lat.Event.PartialEq.eq g.P.Lat.Event.Ord.cmp g.P.Lat.Lattice.least g.P.Lat.Lattice.joined g.P.Lat.Lattice.events_of g.P.Lat.Reads.answer_of (g.P.Program.functions p)) (λ p. (g.P.Program.functions p).variables) g.J.Named.program g.J.Named.budget c.args.board _ _ _ _ _ _ _ _ _
+          c.into_parts-core.ensures.sound c.into_parts-core.ensures.core (named_trace _ _ _ _ names c.into_parts-core.ensures.trace) c.requires.over c.in_ok-account.ensures.outcome c.in_ok-account.ensures.account
+          (named_long _ _ _ _ names c.into_parts-core.ensures.trace _ (search rules)) c.report.ensures
+          (c.same_end.ensures.uncrossed _) (c.same_end.ensures.one_asks _) (c.same_end.ensures.no_error _);
+    }
 
 pub returns-clause-trace : goal.returns-clause-trace
 returns-clause-trace g c = ap (λ x. x.trace) c.report.ensures ∙ named_trace _ _ _ _ c.in_ok-account.ensures.names c.into_parts-core.ensures.trace

@@ -1,19 +1,27 @@
-use Rattle.std.proofs.Common.{rules}
+use Rattle.std.proofs.Common.{rules, ◌≡◌, length}
 use Rattle.std.proofs.lemmas.Result.{IfOk-weaker}
 use Rattle.lvish_calculus.specs.Program.{machine_of}
-use Rattle.lvish_run.proofs.Reports.{walked_over, walked_counts}
+use Rattle.lvish_run.proofs.Reports.{by_workers, walked_over, walked_counts}
 use Rattle.lvish_run.proofs.runner.run_program.Goals as goal
 
-pub told-requires : goal.told-requires
-told-requires g c = record {
-  over = walked_over g.P.Lat.Event.Ord.cmp (λ p. machine_of g.P.Lat.PartialEq.eq g.P.Lat.Event.PartialEq.eq g.P.Lat.Event.Ord.cmp g.P.Lat.Lattice.least g.P.Lat.Lattice.joined g.P.Lat.Lattice.events_of g.P.Lat.Reads.answer_of (g.P.Program.functions p)) g.J.Named.program c.args.picks.now g.J.Named.budget c.in_ok-board.board c.in_ok-board.ensures
-      c.core-core.result.now c.in_ok-outcome.outcome (c.takes_something.ensures g.J.Named.program) c.core-core.ensures.core c.in_ok-outcome.ensures;
-}
+pub told-requires-clause-over : goal.told-requires-clause-over
+told-requires-clause-over g c = walked_over g.P.Lat.Event.Ord.cmp (λ p. machine_of g.P.Lat.PartialEq.eq g.P.Lat.Event.PartialEq.eq g.P.Lat.Event.Ord.cmp g.P.Lat.Lattice.least g.P.Lat.Lattice.joined g.P.Lat.Lattice.events_of g.P.Lat.Reads.answer_of (g.P.Program.functions p)) g.J.Named.program c.args.picks.now g.J.Named.budget c.in_ok-board.board c.in_ok-board.ensures
+    c.core-core.result.now c.in_ok-outcome.outcome (c.takes_something.ensures g.J.Named.program) c.core-core.ensures.core c.in_ok-outcome.ensures
+
+pub told-requires-clause-counts : goal.told-requires-clause-counts
+told-requires-clause-counts g c = walked_counts g.P.Lat.Event.Ord.cmp (λ p. machine_of g.P.Lat.PartialEq.eq g.P.Lat.Event.PartialEq.eq g.P.Lat.Event.Ord.cmp g.P.Lat.Lattice.least g.P.Lat.Lattice.joined g.P.Lat.Lattice.events_of g.P.Lat.Reads.answer_of (g.P.Program.functions p)) g.J.Named.program c.args.picks.now g.J.Named.budget c.in_ok-board.board c.in_ok-board.ensures
+    c.core-core.result.now _ c.core-core.ensures.core (search rules)
 
 pub returns-clause-honest : goal.returns-clause-honest
-returns-clause-honest g c = IfOk-weaker c.told.result _ _
-    (λ r told. told 1 (walked_counts g.P.Lat.Event.Ord.cmp (λ p. machine_of g.P.Lat.PartialEq.eq g.P.Lat.Event.PartialEq.eq g.P.Lat.Event.Ord.cmp g.P.Lat.Lattice.least g.P.Lat.Lattice.joined g.P.Lat.Lattice.events_of g.P.Lat.Reads.answer_of (g.P.Program.functions p)) g.J.Named.program c.args.picks.now g.J.Named.budget c.in_ok-board.board c.in_ok-board.ensures c.core-core.result.now _ c.core-core.ensures.core (search rules)))
-    c.told.ensures.honest
+returns-clause-honest g c =
+    let one : length c.from.result ≡ 1 = search rules in
+    IfOk-weaker c.told.result _ _ (λ r z. by_workers _ _ _ _ _ r one z.honest) c.told.ensures.told
 
 pub returns-clause-picked : goal.returns-clause-picked
 returns-clause-picked g c = IfOk-weaker c.told.result _ _ (λ r same. rw same c.in_ok-board.ensures.walk.picked) c.told.ensures.trace
+
+pub returns-clause-handed : goal.returns-clause-handed
+returns-clause-handed g c = IfOk-weaker c.told.result _ _ (λ r z. z.handed) c.told.ensures.told
+
+pub returns-clause-alike : goal.returns-clause-alike
+returns-clause-alike g c = IfOk-weaker c.told.result _ _ (λ r z. z.alike) c.told.ensures.told

@@ -4,7 +4,7 @@ use Rattle.lvish_task.specs.Meaning.{script_functions}
 use Rattle.lvish_task.specs.Run.{functions}
 use Rattle.lvish_run.proofs.OfScript.{said_there, picks_there}
 use Rattle.lvish_run.proofs.Reports.{both_ok}
-use Rattle.lvish_run.proofs.Texts.{kinds_count}
+use Rattle.lvish_run.proofs.VariableKinds.{kinds_count}
 use Rattle.lvish_run.proofs.scripts.run_picks.Goals as goal
 
 pub returns : goal.returns
@@ -14,7 +14,7 @@ returns c =
     let h = c.run_named.ensures in
     IfOk-weaker c.run_named.result _ _
     (λ r z.
-    let said = said_there _ _ _ _ _ _ _ (functions c.in_ok-code.code) (script_functions c.args.script.now) same _ _ _ r (rw many at z.0.0) z.1.0 (rw many at z.1.1) in
-    let picks = picks_there _ _ _ _ _ _ _ (functions c.in_ok-code.code) (script_functions c.args.script.now) same _ _ _ r (rw many at z.0.0) _ _ z.0.1 in
+    let said = said_there _ _ _ _ _ _ _ (functions c.in_ok-code.code) (script_functions c.args.script.now) same _ _ _ r (rw many at z.0.honest) z.0.handed (rw many at z.0.alike) in
+    let picks = picks_there _ _ _ _ _ _ _ (functions c.in_ok-code.code) (script_functions c.args.script.now) same _ _ _ r (rw many at z.0.honest) _ _ z.1 in
     record { honest = said.0; picked = picks; handed = said.1; alike = said.2 })
-    (both_ok _ _ c.run_named.result (both_ok _ _ c.run_named.result h.honest h.picked) (both_ok _ _ c.run_named.result h.handed h.alike))
+    (both_ok _ _ c.run_named.result h.told h.picked)

@@ -3,17 +3,15 @@ use Rattle.std.proofs.lemmas.Result.{IfOk-weaker}
 use Rattle.lvish_task.specs.Meaning.{script_functions}
 use Rattle.lvish_task.specs.Run.{functions}
 use Rattle.lvish_run.proofs.OfScript.{said_there}
-use Rattle.lvish_run.proofs.Reports.{both_ok}
-use Rattle.lvish_run.proofs.Texts.{kinds_count}
+use Rattle.lvish_run.proofs.VariableKinds.{kinds_count}
 use Rattle.lvish_run.proofs.workers.run.Goals as goal
 
 pub returns-clause-honest : goal.returns-clause-honest
 returns-clause-honest g c =
     let many = ap length c.in_ok-code.ensures.kinds ∙ kinds_count c.args.script.now.declarations in
     let same = c.same_runs.ensures c.args.script.now c.in_ok-code.code c.in_ok-code.ensures in
-    let h = c.run_named.ensures in
     IfOk-weaker c.run_named.result _ _
     (λ r z.
-    let said = said_there _ _ _ _ _ _ _ (functions c.in_ok-code.code) (script_functions c.args.script.now) same _ _ _ r (rw many at z.0) z.1.0 (rw many at z.1.1) in
+    let said = said_there _ _ _ _ _ _ _ (functions c.in_ok-code.code) (script_functions c.args.script.now) same _ _ _ r (rw many at z.honest) z.handed (rw many at z.alike) in
     record { honest = said.0; handed = said.1; alike = said.2 })
-    (both_ok _ _ c.run_named.result h.honest (both_ok _ _ c.run_named.result h.handed h.alike))
+    c.run_named.ensures.told

@@ -2,7 +2,7 @@ use Rattle.std.proofs.Common.{rules, ◌≡◌, ◌≤◌, None, Some, length, r
 use Rattle.lvish_core.specs.Tasks.{task_names}
 use Rattle.lvish_board.specs.Vocabulary.{CameGone, CameNext, CameOver, CameParked, CameStale}
 use Rattle.lvish_board.proofs.Comes.{act_unmade, for_this}
-use Rattle.lvish_board.proofs.Noting.{as_many}
+use Rattle.lvish_trace.proofs.Noting.{as_many}
 use Rattle.lvish_board.proofs.Steps.{none_is}
 use Rattle.lvish_board.proofs.board.Board.act_indexed.Goals as goal
 

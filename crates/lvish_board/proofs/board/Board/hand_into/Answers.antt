@@ -1,7 +1,7 @@
 use Rattle.std.proofs.Common.{◌≡◌, ◌≤◌, None, length, refl, subst, sym, ◌∙◌, arith}
 use Rattle.lvish_core.specs.Tasks.{task_names}
 use Rattle.lvish_board.proofs.Comes.{hand_unmade}
-use Rattle.lvish_board.proofs.Noting.{as_many}
+use Rattle.lvish_trace.proofs.Noting.{as_many}
 use Rattle.lvish_board.proofs.Steps.{none_is}
 use Rattle.lvish_board.proofs.board.Board.hand_into.Goals as goal
 

@@ -7,8 +7,8 @@ use Rattle.lvish_core.specs.Tasks.{task_names}
 use Rattle.lvish_board.specs.Acts.{IsDone, entry_of}
 use Rattle.lvish_board.specs.Listed.{option_list}
 use Rattle.lvish_board.specs.Left.{most_added}
-use Rattle.lvish_board.specs.Noted.{entries_of, label_at}
-use Rattle.lvish_board.specs.Standing.{labels_of}
+use Rattle.lvish_trace.specs.Noted.{entries_of, label_at}
+use Rattle.lvish_trace.specs.Traced.{labels_of}
 use Rattle.lvish_board.proofs.Acting.{act_tickets, error_done, error_kept, error_listed, is_done, not_done, stands}
 use Rattle.lvish_board.proofs.Blocked.{IsMade, is_listed, kept_made, still_current}
 use Rattle.lvish_board.proofs.Comes.{act_gone, act_left, left_kept}
@@ -16,7 +16,7 @@ use Rattle.lvish_board.proofs.Concerned.{act_made, few_added}
 use Rattle.lvish_board.proofs.Handing.{seen_core, seen_parked}
 use Rattle.lvish_board.proofs.Knowing.{error_known, step_known}
 use Rattle.lvish_board.proofs.Parking.{still_indexed}
-use Rattle.lvish_board.proofs.Noting.{acts_there, all_noted, written}
+use Rattle.lvish_trace.proofs.Noting.{acts_there, all_noted, written}
 use Rattle.lvish_board.proofs.board.Board.make.Goals.{In-Error, After-left_by-left}
 use Rattle.lvish_board.proofs.board.Board.make.Goals as goal
 

@@ -6,14 +6,14 @@ use Rattle.lvish_core.specs.Core.{IsNext}
 use Rattle.lvish_core.specs.Tasks.{task_names, IsAt}
 use Rattle.lvish_board.specs.Acts.{entry_of}
 use Rattle.lvish_board.specs.Listed.{option_list}
-use Rattle.lvish_board.specs.Noted.{entries_of, label_at}
-use Rattle.lvish_board.specs.Standing.{labels_of}
+use Rattle.lvish_trace.specs.Noted.{entries_of, label_at}
+use Rattle.lvish_trace.specs.Traced.{labels_of}
 use Rattle.lvish_board.proofs.Blocked.{IsMade, is_listed, kept_made, still_current}
 use Rattle.lvish_board.proofs.Comes.{for_this, hand_memory, hand_next}
 use Rattle.lvish_board.proofs.Handing.{hand_made, hand_tickets, handed_event, handed_well, seen_core, seen_parked}
 use Rattle.lvish_board.proofs.Knowing.{hand_known}
 use Rattle.lvish_board.proofs.Parking.{still_indexed}
-use Rattle.lvish_board.proofs.Noting.{all_noted, hands_there, written}
+use Rattle.lvish_trace.proofs.Noting.{all_noted, hands_there, written}
 use Rattle.lvish_board.proofs.board.Board.make_hand.Goals.{After-ticket_of}
 use Rattle.lvish_board.proofs.board.Board.make_hand.Goals as goal
 

@@ -3,7 +3,7 @@ use Rattle.std.specs.List.{AllByRecursion}
 use Rattle.lvish_calculus.specs.Program.{machine_of}
 use Rattle.lvish_core.specs.Core.{IsBegun}
 use Rattle.lvish_core.specs.Tasks.{task_names}
-use Rattle.lvish_board.specs.Noted.{IsNoted, entries_of}
+use Rattle.lvish_trace.specs.Noted.{IsNoted, entries_of}
 use Rattle.lvish_board.proofs.Knowing.{none_known}
 use Rattle.lvish_board.specs.Seated.{places_of}
 use Rattle.lvish_board.proofs.Opening.{opened}

@@ -1,0 +1,90 @@
+//! What boards of a script answer, call by call.
+
+ghost use Rattle.std.specs.Prelude.{◌≡◌, ◌≤◌};
+
+use crate::board_desk::write_calls;
+use crate::naming::{Naming, Of};
+use lvish_board::Place;
+use lvish_core::MOST_STEPS;
+use lvish_history::Opened;
+use lvish_script::{Fault, ScriptFault, read_script};
+use lvish_task::ScriptCode;
+use std::alloc::{AllocError, Global};
+use std::marker::Brand;
+
+/// The status and the text of the answer to what was read: a script, and calls that stand below it.
+pub fn answer_to(alloc: Global, budget: u64, input: &str) -> Result<(u8, String), AllocError> {
+    let (script, calls) = input.split_once("-- calls\n").unwrap_or((input, ""));
+    match read_script(alloc, script.as_bytes()) {
+        Ok(script) => {
+            let code = ScriptCode::new(alloc, &script)?;
+            Ok((0, answers_of(alloc, &code, budget, calls)?))
+        }
+        Err(refused) => Ok((4, refusal(alloc, &refused)?)),
+    }
+}
+
+/// The answer about a text that is no script; none where there was no memory to read it.
+fn refusal(alloc: Global, refused: &ScriptFault) -> Result<String, AllocError> {
+    if let Fault::Memory = refused.fault {
+        return Err(AllocError);
+    }
+    let (number, name, line) = (refused.fault.number(), refused.fault.name(), refused.line);
+    format!(in alloc; "refused {number} {name} line {line}\n")
+}
+
+/// The calls, each with what the board answers to it.
+fn answers_of(
+    alloc: Global,
+    code: &ScriptCode,
+    budget: u64,
+    calls: &str,
+) -> Result<String, AllocError> {
+    let mut text = String::new(alloc);
+    write_one(alloc, code, &mut text, budget, calls)?;
+    Ok(text)
+}
+
+/// Writes what two boards with this budget answer to the calls. No board has a larger budget than a
+/// run may have.
+fn write_one(
+    alloc: Global,
+    code: &ScriptCode,
+    text: &mut String,
+    budget: u64,
+    calls: &str,
+) -> Result<(), AllocError> {
+    if budget > MOST_STEPS {
+        return text.push_str("no such budget\n");
+    }
+    write_named::<Brand, Brand>(
+        alloc,
+        code,
+        text,
+        budget,
+        calls,
+        Opened::new(),
+        Opened::new(),
+    )
+}
+
+/// Writes what they answer, each by a name of its own.
+fn write_named<N: Naming, M: Naming>(
+    alloc: Global,
+    code: &ScriptCode,
+    text: &mut String,
+    budget: u64,
+    calls: &str,
+    here: Opened<Place<ScriptCode>>,
+    there: Opened<Place<ScriptCode>>,
+) -> Result<(), AllocError>
+    requires program { code.now ≡ N.code }
+    requires its_program { code.now ≡ M.code }
+    requires budget { budget ≡ N.budget }
+    requires its_budget { budget ≡ M.budget }
+    requires bounded { N.budget ≤ MOST_STEPS }
+    requires here { here.seen.book ≡ N.book }
+    requires there { there.seen.book ≡ M.book }
+{
+    write_calls::<ScriptCode, Of<N>, Of<M>>(alloc, code, text, budget, calls, here, there)
+}

@@ -1,0 +1,195 @@
+//! A board of a program, as it is asked.
+
+ghost use Rattle.std.specs.Prelude.{◌≡◌, ◌≤◌};
+
+use crate::desk::{Adopts, Desk, Told};
+use crate::seat::Seat;
+use crate::text::{write_machine, write_outcome};
+use crate::two_boards::write_answers;
+use lvish_board::{Acted, Board, Named, Place, Ticket, Work, stretch};
+use lvish_calculus::Program;
+use lvish_core::MOST_STEPS;
+use lvish_history::Opened;
+use lvish_lattice::{Lattice, Numbered};
+use lvish_names::{HandlerName, TaskName};
+use std::alloc::{AllocError, Global};
+
+/// A board beside its program.
+pub struct BoardDesk<'p, P: Program, J: Named<P>> {
+    program: &'p P,
+    board: Board<'p, P, J>,
+    ghost same: { program.now ≡ J.program },
+}
+
+// Written out, so that it is proved once, and not at each exit of a function that owns one.
+impl<'p, P: Program, J: Named<P>> Drop for BoardDesk<'p, P, J> {
+    fn drop(self) {
+        let BoardDesk {
+            program: _,
+            board: _,
+        } = self;
+    }
+}
+
+/// Writes what two boards of the program answer to the calls, a line each.
+pub fn write_calls<P: Program, J: Named<P>, K: Named<P>>(
+    alloc: Global,
+    program: &P,
+    text: &mut String,
+    budget: u64,
+    calls: &str,
+    here: Opened<Place<P>>,
+    there: Opened<Place<P>>,
+) -> Result<(), AllocError>
+where
+    <P::Lat as Lattice>::Event: Numbered,
+    requires program { program.now ≡ J.program }
+    requires its_program { program.now ≡ K.program }
+    requires budget { budget ≡ J.budget }
+    requires its_budget { budget ≡ K.budget }
+    requires bounded { J.budget ≤ MOST_STEPS }
+    requires here { here.seen.book ≡ J.book }
+    requires there { there.seen.book ≡ K.book }
+{
+    let mut here: Seat<BoardDesk<'_, P, J>> = seat_at_start(alloc, program, budget, here)?;
+    let mut there: Seat<BoardDesk<'_, P, K>> = seat_at_start(alloc, program, budget, there)?;
+    write_answers(alloc, text, calls, &mut here, &mut there)
+}
+
+/// A board at the start with main's ticket.
+fn seat_at_start<'p, P: Program, J: Named<P>>(
+    alloc: Global,
+    program: &'p P,
+    budget: u64,
+    history: Opened<Place<P>>,
+) -> Result<Seat<BoardDesk<'p, P, J>>, AllocError>
+where
+    <P::Lat as Lattice>::Event: Numbered,
+    requires program { program.now ≡ J.program }
+    requires budget { budget ≡ J.budget }
+    requires bounded { J.budget ≤ MOST_STEPS }
+    requires history { history.seen.book ≡ J.book }
+{
+    let (board, work) = opened(alloc, program, budget, history)?;
+    Seat::new(alloc, BoardDesk { program, board }, work)
+}
+
+/// A board at the start and main's ticket; asked for again where a growth is refused.
+fn opened<P: Program, J: Named<P>>(
+    alloc: Global,
+    program: &P,
+    budget: u64,
+    history: Opened<Place<P>>,
+) -> Result<(Board<'_, P, J>, Work<P, J>), AllocError>
+    requires program { program.now ≡ J.program }
+    requires budget { budget ≡ J.budget }
+    requires bounded { J.budget ≤ MOST_STEPS }
+    requires history { history.seen.book ≡ J.book }
+{
+    let history = match Board::new(alloc, program, budget, history) {
+        Ok(opened) => return Ok(opened),
+        Err(history) => history,
+    };
+    match Board::new(alloc, program, budget, history) {
+        Ok(opened) => Ok(opened),
+        Err(_history) => Err(AllocError),
+    }
+}
+
+/// What a board answers to a ticket, by this worker.
+fn told_ticket<P: Program, J: Named<P>>(
+    alloc: Global,
+    program: &P,
+    board: &mut Board<'_, P, J>,
+    worker: usize,
+    ticket: Ticket<P, J>,
+) -> Acted<P, J>
+    requires { program.now ≡ J.program }
+{
+    match stretch(alloc, program, ticket) {
+        Ok(asked) => board.act(alloc, worker, asked),
+        Err(ticket) => Acted::Memory(Work::Stretch(ticket)),
+    }
+}
+
+/// What was answered, with the work that is left listed.
+fn told_of<P: Program, J: Named<P>>(
+    alloc: Global,
+    acted: Acted<P, J>,
+) -> Result<Told<Work<P, J>>, AllocError> {
+    match acted {
+        Acted::Over => Ok(Told::Over),
+        Acted::Stale => Ok(Told::Stale),
+        Acted::Parked => Ok(Told::Parked),
+        Acted::Memory(work) => Ok(Told::Memory(work)),
+        Acted::Next(works) => Ok(Told::Next(works.into_list(alloc)?)),
+        Acted::Gone(works) => Ok(Told::Gone(works.into_list(alloc)?)),
+    }
+}
+
+impl<'p, P: Program, J: Named<P>> Desk for BoardDesk<'p, P, J>
+where
+    <P::Lat as Lattice>::Event: Numbered,
+{
+    type Work = Work<P, J>;
+
+    // By the worker whose number is that of the step, from 0 to 2 in turn.
+    fn tell(&mut self, alloc: Global, work: Work<P, J>) -> Result<Told<Work<P, J>>, AllocError> {
+        let worker = self.board.noted().len() % 3;
+        let acted = match work {
+            Work::Stretch(ticket) => {
+                told_ticket(alloc, self.program, &mut self.board, worker, ticket)
+            }
+            Work::Act(asked) => self.board.act(alloc, worker, asked),
+            Work::Hand(handler) => self.board.hand(alloc, worker, handler),
+        };
+        told_of(alloc, acted)
+    }
+
+    fn copied(&self, alloc: Global, work: &Work<P, J>) -> Result<Option<Work<P, J>>, AllocError> {
+        match work {
+            Work::Stretch(ticket) => Ok(Some(Work::Stretch(ticket.copy(alloc, self.program)?))),
+            Work::Act(_) | Work::Hand(_) => Ok(None),
+        }
+    }
+
+    fn handing(&self, number: u64) -> Result<Work<P, J>, AllocError> {
+        match HandlerName::new(&TaskName::main(), number) {
+            Ok(handler) => Ok(Work::Hand(handler)),
+            Err(_) => Err(AllocError),
+        }
+    }
+
+    fn text(&self, alloc: Global, work: &Work<P, J>) -> Result<String, AllocError> {
+        match work {
+            Work::Stretch(ticket) => format!(in alloc; "Stretch {}", ticket.task()),
+            Work::Act(asked) => format!(in alloc; "Act {}", asked.task()),
+            Work::Hand(handler) => format!(in alloc; "Hand {handler}"),
+        }
+    }
+
+    fn is_over(&self) -> bool {
+        self.board.over().is_some()
+    }
+
+    fn write_over(&self, text: &mut String) -> Result<(), AllocError> {
+        write_outcome(text, self.board.over())
+    }
+
+    fn write_machine(&self, alloc: Global, text: &mut String) -> Result<(), AllocError> {
+        write_machine(text, alloc, &self.board)
+    }
+}
+
+impl<'p, P: Program, J: Named<P>, K: Named<P>> Adopts<Work<P, K>> for BoardDesk<'p, P, J>
+where
+    <P::Lat as Lattice>::Event: Numbered,
+{
+    fn adopted(&self, work: Work<P, K>) -> Option<Work<P, J>> {
+        match work {
+            Work::Stretch(ticket) => Some(Work::Stretch(self.board.adopt(ticket))),
+            Work::Hand(handler) => Some(Work::Hand(handler)),
+            Work::Act(_) => None,
+        }
+    }
+}

@@ -1,5 +1,0 @@
-use Rattle.lvish_history.proofs.tests.each_value_has_a_number.Given as goal
-
--- the history that was just opened
-abbrev pub ghosts-two_stamps : goal.ghosts-two_stamps
-ghosts-two_stamps g a = record { book = a.opened.seen.book }

@@ -1,0 +1,4 @@
+pub mod Braces
+mod Digits
+mod Texts
+mod TraceLines

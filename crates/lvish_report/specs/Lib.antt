@@ -1,0 +1,3 @@
+pub mod StateText
+pub mod Text
+pub mod TraceText

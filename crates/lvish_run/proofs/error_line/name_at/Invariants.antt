@@ -1,6 +1,0 @@
-use Rattle.std.proofs.Common.{◌≡◌, drop, slice_get}
-use Rattle.lvish_run.specs.Text.{variables_of}
-use Rattle.lvish_run.proofs.error_line.name_at.Given as goal
-
-abbrev pub invariant-loop-i : goal.invariant-loop-i
-invariant-loop-i l = slice_get (variables_of l.declarations) l.fn.variable ≡ slice_get (variables_of (drop l.i l.declarations)) l.left

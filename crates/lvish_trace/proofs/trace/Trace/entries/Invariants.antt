@@ -1,0 +1,9 @@
+use Rattle.std.proofs.Common.{◌≡◌, ◌≤◌, length, take, vec_capacity}
+use Rattle.lvish_trace.specs.Noted.{entries_of}
+use Rattle.lvish_trace.proofs.trace.Trace.entries.Given as goal
+
+abbrev pub invariant-loop-noted : goal.invariant-loop-noted
+invariant-loop-noted g l = record {
+  entries : l.entries.items ≡ entries_of l.self-inside.names.items (take l.noted-index l.noted-items);
+  room : length l.noted-items ≤ vec_capacity l.entries;
+}

@@ -1,0 +1,3 @@
+pub mod NotedView
+pub mod Noted
+pub mod Traced
