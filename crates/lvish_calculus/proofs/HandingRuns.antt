@@ -83,7 +83,7 @@ one_first_ends = ends handing _ _ main three_copied one_copied _
     (nothing_to_hand _ (record { content = refl; is = refl; others = λ h z. simp z refl; one = refl; three = refl }))
     refl
 
-not_one : Contains {X = ℕ} (3 ∷ []) 1 → ⊥
+pub not_one : Contains {X = ℕ} (3 ∷ []) 1 → ⊥
 not_one one = both_ways _ refl (list_any-from_Contains nat_eq_equiv 1 (3 ∷ []) one)
 
 pub not_core : HandsOldestFirst (over_sets handing) one_first → ⊥

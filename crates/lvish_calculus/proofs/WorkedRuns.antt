@@ -1,14 +1,13 @@
 -- Worked runs, computed.
-use Rattle.std.proofs.Common.{◌≡◌, ◌⊎◌, ◌↔◌, ℕ, Bool, true, false, ◌||◌, List, [], Some, None, refl, sym, subst, ap, ◌∙◌, arith, inl, inr, nat_eq, Option, ◌∷◌, ◌++◌, Contains}
-use Rattle.std.proofs.lemmas.Bool.{both_ways}
+use Rattle.std.proofs.Common.{◌≡◌, ◌↔◌, ℕ, Bool, true, false, List, [], Some, None, refl, sym, subst, ap, ◌∙◌, arith, inl, inr, nat_eq, Option, ◌∷◌, ◌++◌, Contains}
 use Rattle.std.proofs.lemmas.Grind.{common_steps}
 use Rattle.lvish_calculus.specs.Machine.{Machine, IsBelow, Freeze, ErrorKind, Deep}
 use Rattle.lvish_calculus.specs.Calculus.{State, Running, Label, Act, Hand, Task, Live, Absent, Ended, IsLive, IsQuiet, IsToHand, IsEnd, IsReadyTask, Freezes, start, Configuration, Error, IsRun, step, after, task_effect, IsDoomed, IsDoomedRequest}
 use Rattle.lvish_names.specs.Names.{Name, main, Handler, same_name}
-use Rattle.lvish_calculus.specs.Laws.{IsCrossed, FreezesBefore}
+use Rattle.lvish_calculus.specs.Laws.{IsCrossed}
 use Rattle.lvish_calculus.specs.Live.{HasLive}
 use Rattle.lvish_calculus.specs.Program.{Functions}
-use Rattle.lvish_calculus.specs.Examples.{Set, over_sets, LeadsTo, EndsAs, shown, crossing, u_first, t_first, both_freeze, u_first_end, t_first_end, u, t, u_freezing, t_freezing, late, put_first, put_first_end, writer}
+use Rattle.lvish_calculus.specs.Examples.{Set, over_sets, LeadsTo, EndsAs, shown, crossing, u_first, t_first, u_first_end, t_first_end, u, t, u_freezing, t_freezing, late, put_first, put_first_end, writer}
 use Rattle.lvish_calculus.specs.ErrorExamples.{IsDoomedAfter, IsUndoomedAfter, over_cells, two_numbers, putting_one, putting_two, one_writer, until_two, MeetsError, ChainAt, forking, done, chain, nested, forks_from, late_handler, adder, add_first, add_first_end}
 use Rattle.lvish_calculus.specs.WaitingExamples.{until_fork}
 use Rattle.lvish_calculus.proofs.Waiting.{live_ready}
@@ -95,12 +94,8 @@ crossed = (
   inr (inr (inr (inl (record { task = t; local = t_freezing; forks = 0; adds = 0; puts = 0; pools = []; label = refl; is = refl; asked = refl }, refl)))),
 )
 
-or_left : {a : Bool} → (a || false) ≡ false → a ≡ false
-or_left {a = true} e = e
-or_left {a = false} e = e
-
 -- a task that freezes a variable asks for just that
-asks_it : {S E R A L : Type 0} (M : Machine S E R A L) (c : State S E L) (n : Name E) (l : L) (f a p v : ℕ) → c.tasks n ≡ Live l f a p → Freezes M c (Act n) v
+pub asks_it : {S E R A L : Type 0} (M : Machine S E R A L) (c : State S E L) (n : Name E) (l : L) (f a p v : ℕ) → c.tasks n ≡ Live l f a p → Freezes M c (Act n) v
     → (pools : List ℕ) × (M.request l ≡ Freeze v pools)
 asks_it M c n l f a p v is z =
     let label : Act n ≡ Act z.task = z.label in
@@ -108,37 +103,6 @@ asks_it M c n l f a p v is z =
     let there : Live l f a p ≡ Live z.local z.forks z.adds z.puts = sym is ∙ ap c.tasks same ∙ z.is in
     let local : l ≡ z.local = cc in
     (z.pools, ap M.request local ∙ z.asked)
-
--- u freezes v first, and then t freezes w
-in_order : (v w : ℕ) → FreezesBefore (over_sets crossing) (Running (start (over_sets crossing))) u_first v w → (v ≡ 0) ⊎ ((v ≡ 1) × (nat_eq w 0 ≡ false))
-in_order v w (inl x) = let z = (asks_it _ _ main _ _ _ _ v refl x.0).1 in absurd cc
-in_order v w (inr (inl x)) = let z = (asks_it _ _ main _ _ _ _ v refl x.0).1 in absurd cc
-in_order v w (inr (inr (inl x))) = let z = (asks_it _ _ main _ _ _ _ v refl x.0).1 in absurd cc
-in_order v w (inr (inr (inr (inl x)))) = let z = (asks_it _ _ u _ _ _ _ v refl x.0).1 in inl cc
-in_order v w (inr (inr (inr (inr (inl x))))) = let z = (asks_it _ _ u _ _ _ _ v refl x.0).1 in absurd cc
-in_order v w (inr (inr (inr (inr (inr (inl x)))))) = let z = (asks_it _ _ u _ _ _ _ v refl x.0).1 in absurd cc
-in_order v w (inr (inr (inr (inr (inr (inr (inl x))))))) = let z = (asks_it _ _ t _ _ _ _ v refl x.0).1 in inr (cc, or_left x.1)
-in_order v w (inr (inr (inr (inr (inr (inr (inr (inl x)))))))) = let z = (asks_it _ _ t _ _ _ _ v refl x.0).1 in absurd cc
-in_order v w (inr (inr (inr (inr (inr (inr (inr (inr x)))))))) = absurd x
-
--- and so where both freeze before they put
-in_order_too : (w v : ℕ) → FreezesBefore (over_sets crossing) (Running (start (over_sets crossing))) both_freeze w v → (w ≡ 0) ⊎ ((w ≡ 1) × (nat_eq v 0 ≡ false))
-in_order_too w v (inl x) = let z = (asks_it _ _ main _ _ _ _ w refl x.0).1 in absurd cc
-in_order_too w v (inr (inl x)) = let z = (asks_it _ _ main _ _ _ _ w refl x.0).1 in absurd cc
-in_order_too w v (inr (inr (inl x))) = let z = (asks_it _ _ main _ _ _ _ w refl x.0).1 in absurd cc
-in_order_too w v (inr (inr (inr (inl x)))) = let z = (asks_it _ _ u _ _ _ _ w refl x.0).1 in inl cc
-in_order_too w v (inr (inr (inr (inr (inl x))))) = let z = (asks_it _ _ t _ _ _ _ w refl x.0).1 in inr (cc, or_left x.1)
-in_order_too w v (inr (inr (inr (inr (inr (inl x)))))) = let z = (asks_it _ _ u _ _ _ _ w refl x.0).1 in absurd cc
-in_order_too w v (inr (inr (inr (inr (inr (inr x)))))) = absurd x
-
-apart : (v w : ℕ) → (v ≡ w → ⊥) → (v ≡ 0) ⊎ ((v ≡ 1) × (nat_eq w 0 ≡ false)) → (w ≡ 0) ⊎ ((w ≡ 1) × (nat_eq v 0 ≡ false)) → ⊥
-apart v w ne (inl a) (inl b) = ne (a ∙ sym b)
-apart v w ne (inl a) (inr b) = let z : nat_eq v 0 ≡ true = ap (λ x. nat_eq x 0) a in both_ways _ b.1 z
-apart v w ne (inr a) (inl b) = let z : nat_eq w 0 ≡ true = ap (λ x. nat_eq x 0) b in both_ways _ a.1 z
-apart v w ne (inr a) (inr b) = ne (a.0 ∙ sym b.0)
-
-pub uncrossed : IsCrossed (over_sets crossing) u_first both_freeze → ⊥
-uncrossed z = apart z.0 z.1 z.2 (in_order z.0 z.1 z.3) (in_order_too z.1 z.0 z.4)
 
 -- ---- a conflict
 

@@ -78,7 +78,7 @@ module _ {S E R A L : Type 0} (M : Machine S E R A L) where
     pub drained : (h : Handler E) (e : E) → IsOn c h v → IsBelow M e (c.content v) → c.handled h e ≡ true
     pub ended : (t : Name E) → IsIn c t pools → IsLive (c.tasks t) → ⊥
 
-  -- the request can be made: a Get has its answer, a Freeze finds its variable quiescent, and every other request is always ready (LVars: threshold reads block; LVish: freeze after)
+  -- the request can be made: a Get has its answer, a Freeze finds its variable quiescent, and every other request is always ready (LVars: threshold reads block; LVish: freeze after, and here any freeze waits for the handlers of its variable)
   abbrev pub IsReady : State S E L → Request S R L → Type 0
   IsReady c (Get v r) = IsSome (M.answer r (c.content v))
   IsReady c (Freeze v pools) = IsQuiet c v pools

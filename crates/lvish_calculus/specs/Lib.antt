@@ -3,9 +3,15 @@ pub mod Program
 pub mod Calculus
 pub mod SameRuns
 pub mod Laws
+pub mod FreezeOrder
+pub mod LeastModel
+pub mod Growth
+pub mod Independence
+pub mod Agreement
 pub mod Handing
 pub mod Live
 pub mod Waiting
 pub mod Examples
+pub mod ReachExample
 pub mod WaitingExamples
 pub mod ErrorExamples

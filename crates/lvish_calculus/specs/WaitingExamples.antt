@@ -50,6 +50,7 @@ pub data LevelAt : Type 0 where
   forking putting_one putting_three main_done reading reader_done : LevelAt
   telling : ℕ → LevelAt
 
+-- what each local state asks for
 abbrev pub level_asks : LevelAt → Request ℕ ℕ LevelAt
 level_asks forking = Fork reading
 level_asks putting_one = Put 0 1
@@ -58,6 +59,7 @@ level_asks reading = Get 0 2
 level_asks (telling n) = Put 1 n
 level_asks _ = End
 
+-- what follows each reply
 abbrev pub level_goes : LevelAt → Reply ℕ ℕ → LevelAt
 level_goes forking r = putting_one
 level_goes putting_one r = putting_three
@@ -66,21 +68,27 @@ level_goes reading (Answer n) = telling n
 level_goes (telling n) r = reader_done
 level_goes l r = l
 
+-- the program that waits for a level
 abbrev pub level_functions : Functions ℕ ℕ ℕ ℕ LevelAt
 level_functions = record { variables = 2; pool_variable = λ p. None; start = forking; start_handler = λ p e. forking; request = level_asks; at = λ l. l; resume = level_goes }
 
+-- main's fork, which waits
 abbrev pub reader : Name ℕ
 reader = forked main 1
 
+-- main has forked the reader
 abbrev pub until_fork : List (Label ℕ)
 until_fork = Act main ∷ []
 
+-- and raised the counter to 1
 abbrev pub until_one : List (Label ℕ)
 until_one = Act main ∷ Act main ∷ []
 
+-- and then to 3
 abbrev pub until_three : List (Label ℕ)
 until_three = Act main ∷ Act main ∷ Act main ∷ []
 
+-- the reader gets its answer, puts it into seen and ends, and then main ends
 abbrev pub level_run : List (Label ℕ)
 level_run = Act main ∷ Act main ∷ Act main ∷ Act reader ∷ Act reader ∷ Act reader ∷ Act main ∷ []
 
@@ -109,6 +117,7 @@ pub data NestingAt : Type 0 where
   adding putting freezing adding_inner done : NestingAt
   copying : ℕ → NestingAt
 
+-- what each local state asks for
 abbrev pub nesting_asks : List ℕ → NestingAt → Request Set ℕ NestingAt
 nesting_asks pools adding = Add 0 0
 nesting_asks pools putting = Put 0 (set_of_one 1)
@@ -117,38 +126,47 @@ nesting_asks pools adding_inner = Add 1 1
 nesting_asks pools (copying n) = Put 1 (set_of_one n)
 nesting_asks pools done = End
 
+-- what follows each reply
 abbrev pub nesting_goes : NestingAt → Reply Set ℕ → NestingAt
 nesting_goes adding r = putting
 nesting_goes putting r = freezing
 nesting_goes _ r = done
 
+-- both pools are of s
 abbrev pub nesting_pool : ℕ → Option ℕ
 nesting_pool zero = Some 0
 nesting_pool (suc p) = if nat_eq p 0 then Some 0 else None
 
+-- where the procedures of the outer and of the inner handler begin
 abbrev pub nesting_handles : ℕ → ℕ → NestingAt
 nesting_handles zero e = adding_inner
 nesting_handles (suc p) e = copying e
 
+-- the program with a pool within another, of which main names these pools in its freeze
 abbrev pub nesting : List ℕ → Functions Set ℕ ℕ ℕ NestingAt
 nesting pools = record { variables = 2; pool_variable = nesting_pool; start = adding; start_handler = nesting_handles; request = nesting_asks pools; at = λ l. l; resume = nesting_goes }
 
+-- the outer pool alone
 abbrev pub the_outer : List ℕ
 the_outer = 0 ∷ []
 
+-- the outer pool and the inner one
 abbrev pub both_pools : List ℕ
 both_pools = 0 ∷ 1 ∷ []
 
--- the outer handler's task, and the inner handler's
+-- the outer handler's task
 abbrev pub outer_task : Name ℕ
 outer_task = handed main 1 1
 
+-- the inner handler's task
 abbrev pub inner_task : Name ℕ
 inner_task = handed outer_task 1 1
 
+-- main's handler
 abbrev pub outer : Handler ℕ
 outer = record { adder = main; number = 1 }
 
+-- the handler that the outer handler's task adds
 abbrev pub inner : Handler ℕ
 inner = record { adder = outer_task; number = 1 }
 
@@ -156,6 +174,7 @@ inner = record { adder = outer_task; number = 1 }
 abbrev pub inner_running : List (Label ℕ)
 inner_running = Act main ∷ Act main ∷ Hand outer 1 ∷ Act outer_task ∷ Act outer_task ∷ Hand inner 1 ∷ []
 
+-- both handlers were handed 1, and their tasks have ended
 abbrev pub inner_ended : List (Label ℕ)
 inner_ended = Act main ∷ Act main ∷ Hand outer 1 ∷ Act outer_task ∷ Act outer_task ∷ Hand inner 1 ∷ Act inner_task ∷ Act inner_task ∷ []
 
@@ -163,10 +182,11 @@ inner_ended = Act main ∷ Act main ∷ Hand outer 1 ∷ Act outer_task ∷ Act 
 abbrev pub outer_running : List (Label ℕ)
 outer_running = Act main ∷ Act main ∷ Hand outer 1 ∷ Act outer_task ∷ Hand inner 1 ∷ []
 
--- s is frozen before the inner handler's task ends, and after it
+-- s is frozen before the inner handler's task ends
 abbrev pub frozen_before : List (Label ℕ)
 frozen_before = Act main ∷ Act main ∷ Hand outer 1 ∷ Act outer_task ∷ Act outer_task ∷ Hand inner 1 ∷ Act main ∷ Act main ∷ Act inner_task ∷ Act inner_task ∷ []
 
+-- s is frozen after it
 abbrev pub frozen_after : List (Label ℕ)
 frozen_after = Act main ∷ Act main ∷ Hand outer 1 ∷ Act outer_task ∷ Act outer_task ∷ Hand inner 1 ∷ Act inner_task ∷ Act inner_task ∷ Act main ∷ Act main ∷ []
 

@@ -1,7 +1,7 @@
 //! Worked examples of errors: small programs, and runs that meet an error.
 
 ghost use Rattle.std.specs.Prelude.{Some, None};
-ghost use Rattle.lvish_calculus.specs.Machine.{Conflict, Late, Deep};
+ghost use Rattle.lvish_calculus.specs.Machine.{IsLawful, Conflict, Late, Deep};
 ghost use Rattle.lvish_names.specs.Names.{main};
 ghost use Rattle.lvish_calculus.specs.Examples.{EndsAs, over_sets};
 ghost use Rattle.lvish_calculus.specs.ErrorExamples.{MeetsError, IsDoomedAfter, IsUndoomedAfter, over_cells, two_numbers, one_writer, until_two, two_first, one_first};
@@ -18,6 +18,7 @@ pub fn conflict()
     ensures undoomed { IsUndoomedAfter (over_cells two_numbers) until_fork }
     // After main's, the other task is.
     ensures doomed { IsDoomedAfter (over_cells two_numbers) until_two }
+    ensures lawful { IsLawful (over_cells two_numbers) }
 {}
 
 /// A handler that comes after the freeze is an error, and one that comes before it isn't.
@@ -27,6 +28,7 @@ pub fn late_add()
     ensures freeze_first { MeetsError (over_sets late_handler) freeze_first Late (Some 0) adder }
     // s = {}.
     ensures add_first { EndsAs late_handler add_first add_first_end }
+    ensures lawful { IsLawful (over_sets late_handler) }
 {}
 
 /// A task whose name has 64 parts can't fork, and 64 tasks before it can.
@@ -36,4 +38,5 @@ pub fn deep_fork()
     ensures deep { MeetsError (over_sets chain) (forks_from 0 65) Deep None (nested 64) }
     // Before the last step, its task is at a step that is an error.
     ensures doomed { IsDoomedAfter (over_sets chain) (forks_from 0 64) }
+    ensures lawful { IsLawful (over_sets chain) }
 {}

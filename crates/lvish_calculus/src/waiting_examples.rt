@@ -1,6 +1,8 @@
 //! Worked examples of blocked tasks: small programs, and where in their runs a task is blocked.
 
 ghost use Rattle.lvish_names.specs.Names.{main};
+ghost use Rattle.lvish_calculus.specs.Machine.{IsLawful};
+ghost use Rattle.lvish_calculus.specs.Laws.{AsksNoFreeze, NeverErrs};
 ghost use Rattle.lvish_calculus.specs.Examples.{EndsAs, over_sets, handing};
 ghost use Rattle.lvish_calculus.specs.WaitingExamples.{IsBlockedAfter, IsEnabledAfter, EndsHolding, over_counters, level_functions, reader};
 ghost use Rattle.lvish_calculus.specs.WaitingExamples.{until_fork, until_one, until_three, level_run, three_and_two};
@@ -20,6 +22,10 @@ pub fn get_waits()
     ensures at_three { IsEnabledAfter (over_counters level_functions) until_three reader }
     // The counter is 3, and seen is 2.
     ensures ends { EndsHolding (over_counters level_functions) level_run three_and_two }
+    ensures lawful { IsLawful (over_counters level_functions) }
+    // No task freezes, so by that end no run is in error.
+    ensures asks_no_freeze { AsksNoFreeze (over_counters level_functions) }
+    ensures no_error { NeverErrs (over_counters level_functions) }
 {}
 
 /// A freeze waits until each event was handed to each handler of its variable, and until the tasks
@@ -50,4 +56,6 @@ pub fn nested_pools()
     // s = {1}, out = {1}, whichever comes first.
     ensures frozen_before { EndsAs (nesting the_outer) frozen_before nesting_end }
     ensures frozen_after { EndsAs (nesting both_pools) frozen_after nesting_end }
+    ensures outer_lawful { IsLawful (over_sets (nesting the_outer)) }
+    ensures both_lawful { IsLawful (over_sets (nesting both_pools)) }
 {}

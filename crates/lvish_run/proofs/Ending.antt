@@ -10,13 +10,13 @@ use Rattle.lvish_calculus.specs.Machine.{Machine}
 use Rattle.lvish_calculus.specs.Program.{Functions, machine_of}
 use Rattle.lvish_calculus.specs.Calculus.{State, Configuration, Running, Error, IsEnabled, IsRun, IsEnd, start}
 use Rattle.lvish_names.specs.Names.{Name}
-use Rattle.lvish_calculus.specs.Laws.{Reaches, NoLateError}
+use Rattle.lvish_calculus.specs.Laws.{Reaches, NoLateError, AsksNoFreeze}
 use Rattle.lvish_calculus.specs.SameRuns.{HaveSameRuns}
 use Rattle.lvish_calculus.proofs.SameThere.{Base, over, flip_runs, reached, never_there, end_there}
 use Rattle.lvish_compound.specs.declared.any.Any.{Any}
 use Rattle.lvish_compound.specs.declared.event.Event.{Event}
 use Rattle.lvish_syntax.specs.declared.script.Script.{Script}
-use Rattle.lvish_task.specs.Freezing.{AsksNoFreeze, has_freeze}
+use Rattle.lvish_task.specs.Freezing.{has_freeze}
 use Rattle.lvish_trace.specs.declared.trace_entry.TraceEntry.{TraceEntry}
 use Rattle.lvish_trace.specs.declared.outcome.Outcome.{Outcome}
 use Rattle.lvish_trace.specs.declared.outcome.Outcome.TheVariants.{Ended, Error as ErrorOutcome, Budget}

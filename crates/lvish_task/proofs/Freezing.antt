@@ -19,7 +19,9 @@ use Rattle.lvish_task.specs.declared.script_code.ScriptCode.{ScriptCode}
 use Rattle.lvish_task.specs.declared.stack.Stack.{Stack}
 use Rattle.lvish_task.specs.CodeOf.{IsScriptCodeOf}
 use Rattle.lvish_task.specs.Run.{functions}
-use Rattle.lvish_task.specs.Freezing.{is_freeze_command, is_freeze_line, have_freeze, has_freeze, is_freeze, routine_freezes, code_freezes, AsksNoFreeze, NeverAsksFreeze}
+use Rattle.lvish_task.specs.Freezing.{is_freeze_command, is_freeze_line, have_freeze, has_freeze, is_freeze, routine_freezes, code_freezes}
+use Rattle.lvish_calculus.specs.Laws.{AsksNoFreeze}
+use Rattle.lvish_calculus.specs.Agreement.{NeverAsksFreeze}
 use Rattle.lvish_task.specs.laws.Fits.{RequestFits, request_fits}
 
 -- ---- lines and instructions

@@ -1,12 +1,6 @@
 -- Scripts with the line `freeze`, and code that asks to freeze.
-use Rattle.std.specs.Prelude.{◌≡◌, ◌≢◌, ℕ, Bool, true, false, List}
+use Rattle.std.specs.Prelude.{Bool, true, false, List}
 use Rattle.std.specs.List.{list_any}
-use Rattle.lvish_calculus.specs.declared.label.Label.{Label}
-use Rattle.lvish_calculus.specs.declared.request.Request.TheVariants.{Freeze}
-use Rattle.lvish_calculus.specs.Machine.{Machine}
-use Rattle.lvish_calculus.specs.Calculus.{Live, State}
-use Rattle.lvish_names.specs.Names.{Name}
-use Rattle.lvish_calculus.specs.Laws.{Reaches}
 use Rattle.lvish_syntax.specs.Nested.{statements, all_nested}
 use Rattle.lvish_task.specs.Vocabulary.{Command, Statement, out-Statement, Block, Script, Action, Instruction, Ask, Routine}
 use Rattle.lvish_syntax.specs.declared.command.Command.TheVariants as line
@@ -54,14 +48,3 @@ routine_freezes r = list_any is_freeze r.instructions
 -- whether one of the code does
 abbrev pub code_freezes : flat.Code → Bool
 code_freezes c = list_any routine_freezes c.routines
-
--- ---- requests
-
--- no local state asks to freeze
-abbrev pub AsksNoFreeze : {S E R A L : Type 0} → Machine S E R A L → Type 0
-AsksNoFreeze {L = L} M = (l : L) (v : ℕ) (pools : List ℕ) → M.request l ≢ Freeze v pools
-
--- in no run does a task ask to freeze
-abbrev pub NeverAsksFreeze : {S E R A L : Type 0} → Machine S E R A L → Type 0
-NeverAsksFreeze {S} {E} {R} {A} {L} M = (ls : List (Label E)) (c : State S E L) → Reaches M ls c
-    → (t : Name E) (l : L) (forks adds puts : ℕ) → c.tasks t ≡ Live l forks adds puts → (v : ℕ) (pools : List ℕ) → M.request l ≢ Freeze v pools

@@ -2,10 +2,12 @@
 
 ghost use Rattle.std.specs.Prelude.{◌≡◌, false};
 ghost use Rattle.lvish_calculus.specs.SameRuns.{IsMatch, HaveSameRuns};
+ghost use Rattle.lvish_calculus.specs.Laws.{AsksNoFreeze};
+ghost use Rattle.lvish_calculus.specs.Agreement.{NeverAsksFreeze};
 ghost use Rattle.lvish_syntax.specs.declared.script.Script.{Script};
 ghost use Rattle.lvish_task.specs.declared.script_code.ScriptCode.{ScriptCode};
 ghost use Rattle.lvish_task.specs.CodeOf.{IsScriptCodeOf};
-ghost use Rattle.lvish_task.specs.Freezing.{AsksNoFreeze, NeverAsksFreeze, code_freezes, has_freeze};
+ghost use Rattle.lvish_task.specs.Freezing.{code_freezes, has_freeze};
 ghost use Rattle.lvish_task.specs.Fitting.{KeepsFitting};
 ghost use Rattle.lvish_task.specs.Meaning.{script_functions};
 ghost use Rattle.lvish_task.specs.Pictures.{Pictures, BeginsOnTwo};

@@ -1,4 +1,5 @@
 use Rattle.lvish_calculus.proofs.HandingRuns.{blocked_outer, enabled_outer, blocked_inner, enabled_both, frozen_before_ends, frozen_after_ends}
+use Rattle.lvish_calculus.proofs.LawfulRuns.{outer_lawful, both_lawful}
 use Rattle.lvish_calculus.proofs.waiting_examples.nested_pools.Goals as goal
 
 pub returns-clause-outer_left : goal.returns-clause-outer_left
@@ -18,3 +19,9 @@ returns-clause-frozen_before g = frozen_before_ends
 
 pub returns-clause-frozen_after : goal.returns-clause-frozen_after
 returns-clause-frozen_after g = frozen_after_ends
+
+pub returns-clause-outer_lawful : goal.returns-clause-outer_lawful
+returns-clause-outer_lawful g = outer_lawful
+
+pub returns-clause-both_lawful : goal.returns-clause-both_lawful
+returns-clause-both_lawful g = both_lawful
