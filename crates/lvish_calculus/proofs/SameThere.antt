@@ -6,7 +6,7 @@ use Rattle.lvish_calculus.specs.Program.{Functions, machine_of}
 use Rattle.lvish_calculus.specs.Calculus.{Label, Act, Hand, Task, Absent, Live, Ended, State, Configuration, Running, Error, IsOn, IsIn, IsLive, is_live, IsQuiet, IsReady, IsReadyTask, IsEnabled, CanStep, IsRun, IsEnd, Freezes, start, step}
 use Rattle.lvish_names.specs.Names.{Name, Handler, same_handler}
 use Rattle.lvish_calculus.specs.Laws.{Reaches, FreezesBefore, IsCrossed, FreezesAllBy, NeverErrs}
-use Rattle.lvish_calculus.specs.Handing.{handed_to, IsAmong, NoRepeats, ComesBefore, Introduces, IsNoLater, HandsOldestFirst, HandsWell, HandsTo, IsHandedWell}
+use Rattle.lvish_calculus.specs.Handing.{handed_to, IsAmong, NoRepeats, ComesBefore, Introduces, IsNoLater, HandsOldestFirst, HandsWell, HandsTo, IsWellHanded}
 use Rattle.lvish_calculus.specs.Live.{HasLive}
 use Rattle.lvish_calculus.specs.SameRuns.{without_child, SameTask, SameState, SameConfiguration, HaveSameRuns}
 
@@ -290,7 +290,7 @@ module _ {S E R A L K : Type 0} (B : Base S E R A) (f : Functions S E R A L) (g 
       let z = reached (over B f) (over B g) H w.0 w.1 w.3 in
       (w.0, z.0, w.2 ∙ ap (λ (x : Name E). w.0 ++ Act x ∷ []) same.2, z.1, hands_there w.0 w.1 z.0 z.2 w.4)
 
-  pub handed_there : (xs : List (Label E)) → IsHandedWell (over B f) xs → IsHandedWell (over B g) xs
-  handed_there xs well D run =
-      let z = H.back xs D run in
-      hands_to_there xs z.0 D (flip_configuration (over B g) (over B f) D z.0 z.2) (well z.0 z.1)
+  pub handed_there : (xs : List (Label E)) → IsWellHanded (over B f) xs → IsWellHanded (over B g) xs
+  handed_there xs well =
+      let z = H.there xs well.0 well.1 in
+      (z.0, z.1, hands_to_there xs well.0 z.0 z.2 well.2)

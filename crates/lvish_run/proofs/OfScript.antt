@@ -7,7 +7,7 @@ use Rattle.lvish_calculus.specs.Program.{Functions, machine_of}
 use Rattle.lvish_calculus.specs.Calculus.{State, Configuration, Running, Error, IsRun, start, step}
 use Rattle.lvish_names.specs.Names.{Name}
 use Rattle.lvish_calculus.specs.Laws.{Reaches, IsCrossed, FreezesAllBy, NeverErrs}
-use Rattle.lvish_calculus.specs.Handing.{IsHandedWell}
+use Rattle.lvish_calculus.specs.Handing.{IsWellHanded}
 use Rattle.lvish_calculus.specs.SameRuns.{SameState, SameConfiguration, HaveSameRuns}
 use Rattle.lvish_calculus.proofs.SameThere.{Base, over, Both, both_start, both_step, flip_state, flip_configuration, flip_runs, reached, never_there, end_there, can_there, enabled_there, live_count, all_by_there, crossed_there, core_there, handed_there}
 use Rattle.lvish_report.specs.declared.report.FinalState.{FinalState}
@@ -156,10 +156,10 @@ module _ {S E R A L K : Type 0} (same : S → S → Bool) (event_same : E → E 
   abbrev base : Base S E R A
   base = record { same = same; event_same = event_same; cmp = cmp; bottom = bottom; join = join; events = events; answer = answer }
 
-  pub said_there : IsHandedWell (machine_of same event_same cmp bottom join events answer f) (labels_of r.trace)
+  pub said_there : IsWellHanded (machine_of same event_same cmp bottom join events answer f) (labels_of r.trace)
       → IsAlike (machine_of same event_same cmp bottom join events answer f) variables r
       → IsHonest (machine_of same event_same cmp bottom join events answer g) variables workers budget r
-      × IsHandedWell (machine_of same event_same cmp bottom join events answer g) (labels_of r.trace)
+      × IsWellHanded (machine_of same event_same cmp bottom join events answer g) (labels_of r.trace)
       × IsAlike (machine_of same event_same cmp bottom join events answer g) variables r
   said_there handed alike = (
     honest_there base f g H variables workers budget r honest,

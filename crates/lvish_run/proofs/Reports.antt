@@ -5,11 +5,11 @@ use Rattle.std.proofs.lemmas.List.{length-map}
 use Rattle.std.proofs.lemmas.Option.{slice_get_within, get_or_from_slice_get}
 use Rattle.lvish_calculus.specs.declared.label.Label.{Label}
 use Rattle.lvish_calculus.specs.Machine.{Machine}
-use Rattle.lvish_calculus.specs.Calculus.{Running, CanStep, IsRun, IsEnd, IsEnded, start}
+use Rattle.lvish_calculus.specs.Calculus.{Configuration, Running, Error, CanStep, IsRun, IsEnd, IsEnded, start}
 use Rattle.lvish_names.specs.Names.{Name}
 use Rattle.lvish_calculus.specs.Laws.{IsCrossed, FreezesAllBy, NeverErrs, SameEndIf}
 use Rattle.lvish_core.specs.declared.fault.RunError.{RunError}
-use Rattle.lvish_calculus.specs.Handing.{HandsOldestFirst, IsHandedWell}
+use Rattle.lvish_calculus.specs.Handing.{HandsOldestFirst, IsWellHanded, HandingKept}
 use Rattle.lvish_core.specs.Core.{CoreView, picture, state, at_fault, CanTake, IsRunTo}
 use Rattle.lvish_core.specs.CoreLaws.{TakesSomething}
 use Rattle.lvish_core.specs.Labels.{AreLabels}
@@ -176,13 +176,25 @@ module _ {P S E R A L : Type 0} (machine : P → Machine S E R A L) (variables :
     no_error = alike_if _ no_error ended;
   }
 
+-- the configuration to which the run of a report leads
+run_in : {S E R A L : Type 0} (M : Machine S E R A L) (variables budget : ℕ) (r : Report S E) (o : Outcome E) → IsOutcome M variables budget r o → (last : Configuration S E L) × IsRun M (Running (start M)) (labels_of r.trace) last
+run_in M variables budget r Ended h = (Running h.0.last, h.0.reached)
+run_in M variables budget r (ErrorOutcome kind v t) h = (Error kind v t, h.0)
+run_in M variables budget r Budget h = (Running h.0.last, h.0.reached)
+
+-- an honest report's run hands well, as every run does
+pub well_handed : {S E R A L : Type 0} (M : Machine S E R A L) (variables workers budget : ℕ) (r : Report S E) → HandingKept M → IsHonest M variables workers budget r → IsWellHanded M (labels_of r.trace)
+well_handed M variables workers budget r kept h =
+    let run = run_in M variables budget r r.outcome h.outcome in
+    (run.0, run.1, kept (labels_of r.trace) run.0 run.1)
+
 -- a report by n workers is one by as many
 pub by_workers : {S E R A L : Type 0} (M : Machine S E R A L) (variables n workers budget : ℕ) (r : Report S E) → n ≡ workers → IsHonest M variables n budget r → IsHonest M variables workers budget r
 by_workers M variables n workers budget r same h = subst (λ k. IsHonest M variables k budget r) same h
 
 -- what three clauses say of a report
 pub is_told : {S E R A L X : Type 0} (M : Machine S E R A L) (variables workers budget : ℕ) (r : Result (Report S E) X) → IfOk r (λ x. IsHonest M variables workers budget x)
-    → IfOk r (λ x. IsHandedWell M (labels_of x.trace)) → IfOk r (λ x. IsAlike M variables x) → IfOk r (λ x. IsTold M variables workers budget x)
+    → IfOk r (λ x. IsWellHanded M (labels_of x.trace)) → IfOk r (λ x. IsAlike M variables x) → IfOk r (λ x. IsTold M variables workers budget x)
 is_told M variables workers budget (Ok x) h k a = record { honest = h; handed = k; alike = a }
 is_told M variables workers budget (Err e) h k a = tt
 

@@ -5,7 +5,7 @@ use Rattle.lvish_calculus.specs.Machine.{Machine}
 use Rattle.lvish_calculus.specs.Calculus.{State, Running, IsEnd, start}
 use Rattle.lvish_names.specs.Names.{Name}
 use Rattle.lvish_calculus.specs.Laws.{Reaches, IsCrossed, FreezesAllBy, NeverErrs}
-use Rattle.lvish_calculus.specs.Handing.{IsHandedWell}
+use Rattle.lvish_calculus.specs.Handing.{IsWellHanded}
 use Rattle.lvish_calculus.specs.Live.{HasLive}
 use Rattle.lvish_report.specs.declared.report.Report.{Report}
 use Rattle.lvish_trace.specs.declared.outcome.Outcome.TheVariants.{Ended}
@@ -33,6 +33,6 @@ IsAlike M variables r = r.outcome ≡ Ended → EndsAlike M variables r
 pub record IsTold {S E R A L : Type 0} (M : Machine S E R A L) (variables workers budget : ℕ) (r : Report S E) : Type 0 where
   pub honest : IsHonest M variables workers budget r
   -- what handlers are handed in it
-  pub handed : IsHandedWell M (labels_of r.trace)
+  pub handed : IsWellHanded M (labels_of r.trace)
   -- what it says of all other ends
   pub alike : IsAlike M variables r

@@ -5,7 +5,7 @@ use Rattle.lvish_compound.specs.declared.any_read.AnyRead.{AnyRead}
 use Rattle.lvish_compound.specs.declared.event.Event.{Event}
 use Rattle.lvish_calculus.specs.Machine.{Machine}
 use Rattle.lvish_calculus.specs.Calculus.{Running, start}
-use Rattle.lvish_calculus.specs.Handing.{IsHandedWell}
+use Rattle.lvish_calculus.specs.Handing.{IsWellHanded}
 use Rattle.lvish_syntax.specs.declared.script.Script.{Script}
 use Rattle.lvish_task.specs.Meaning.{LocalState}
 use Rattle.lvish_task.specs.contracts.meaning.ScriptScriptMeaning.TheImpl.{ghosts as meaning}
@@ -25,7 +25,7 @@ script_machine script = meaning.machine script
 pub record IsRunBy (script : Script) (workers budget : ℕ) (r : Report Any Event) : Type 0 where
   pub honest : IsHonest (script_machine script) (length (variables_of script.declarations)) workers budget r
   -- each handler is handed each event at most once, one task's in the order of its puts, none after the freeze, at the freeze and at an end exactly those below the state
-  pub handed : IsHandedWell (script_machine script) (labels_of r.trace)
+  pub handed : IsWellHanded (script_machine script) (labels_of r.trace)
   -- if it is of an end, all ends that don't cross it are alike
   pub alike : IsAlike (script_machine script) (length (variables_of script.declarations)) r
 
@@ -34,6 +34,6 @@ pub record IsPickedRun (script : Script) (picks : List ℕ) (budget : ℕ) (r : 
   pub honest : IsHonest (script_machine script) (length (variables_of script.declarations)) 1 budget r
   pub picked : IsPicked event_order.cmp (script_machine script) picks [] (Running (start (script_machine script))) (labels_of r.trace)
   -- each handler is handed each event at most once, one task's in the order of its puts, none after the freeze, at the freeze and at an end exactly those below the state
-  pub handed : IsHandedWell (script_machine script) (labels_of r.trace)
+  pub handed : IsWellHanded (script_machine script) (labels_of r.trace)
   -- if it is of an end, all ends that don't cross it are alike
   pub alike : IsAlike (script_machine script) (length (variables_of script.declarations)) r

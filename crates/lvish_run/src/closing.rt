@@ -1,7 +1,7 @@
 //! The report of a board that is over.
 
 ghost use Rattle.std.specs.Prelude.{◌≡◌, ◌≢◌, IfOk, Some, length};
-ghost use Rattle.lvish_calculus.specs.Handing.{IsHandedWell};
+ghost use Rattle.lvish_calculus.specs.Handing.{IsWellHanded};
 ghost use Rattle.lvish_run.specs.Honest.{IsCountByWorker, IsHonest};
 ghost use Rattle.lvish_trace.specs.Traced.{labels_of};
 ghost use Rattle.lvish_board.specs.Standing.{OverIs};
@@ -68,7 +68,7 @@ pub fn report_of<P: Program, J: Named<P>>(
 ) -> Result<Report<P::Lat, <P::Lat as Lattice>::Event>, RunFault>
     ensures honest { IfOk result (λ r. IsHonest (⟦<P as Meaning>⟧.machine J.program) (P.functions J.program).variables workers J.budget r) }
     // What handlers are handed in it.
-    ensures handed { IfOk result (λ r. IsHandedWell (⟦<P as Meaning>⟧.machine J.program) (labels_of r.trace)) }
+    ensures handed { IfOk result (λ r. IsWellHanded (⟦<P as Meaning>⟧.machine J.program) (labels_of r.trace)) }
     // What it says of all other runs that end without an error.
     ensures alike { IfOk result (λ r. IsAlike (⟦<P as Meaning>⟧.machine J.program) (P.functions J.program).variables r) }
     ensures not_stopped { result ≢ Err RunFault.Stopped }

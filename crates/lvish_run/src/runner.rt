@@ -2,7 +2,7 @@
 
 ghost use Rattle.std.specs.Prelude.{◌≡◌, ◌≤◌, ◌%◌, IfOk, MatchOption, length, [], slice_get, true, None, Some};
 ghost use Rattle.lvish_calculus.specs.Calculus.{Running, start};
-ghost use Rattle.lvish_calculus.specs.Handing.{IsHandedWell};
+ghost use Rattle.lvish_calculus.specs.Handing.{IsWellHanded};
 ghost use Rattle.lvish_trace.specs.Traced.{labels_of};
 ghost use Rattle.lvish_board.specs.Standing.{IsOpened};
 ghost use Rattle.lvish_run.specs.Agenda.{open_in, NoTask, IsBeside, IsFor};
@@ -260,7 +260,7 @@ pub fn run_program<P: Program, J: Named<P>>(
     ensures honest { IfOk result (λ r. IsHonest (⟦<P as Meaning>⟧.machine J.program) (P.functions J.program).variables 1 J.budget r) }
     ensures picked { IfOk result (λ r. IsPicked P.Lat.Event.cmp (⟦<P as Meaning>⟧.machine J.program) picks.now [] (Running (start (⟦<P as Meaning>⟧.machine J.program))) (labels_of r.trace)) }
     // What handlers are handed in it.
-    ensures handed { IfOk result (λ r. IsHandedWell (⟦<P as Meaning>⟧.machine J.program) (labels_of r.trace)) }
+    ensures handed { IfOk result (λ r. IsWellHanded (⟦<P as Meaning>⟧.machine J.program) (labels_of r.trace)) }
     // What it says of all other runs that end without an error.
     ensures alike { IfOk result (λ r. IsAlike (⟦<P as Meaning>⟧.machine J.program) (P.functions J.program).variables r) }
 {

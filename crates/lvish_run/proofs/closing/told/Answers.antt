@@ -1,6 +1,6 @@
 use Rattle.std.proofs.Common.{rules, ap, ◌∙◌}
 use Rattle.lvish_calculus.specs.Program.{machine_of}
-use Rattle.lvish_run.proofs.Reports.{named_all, named_long, named_trace, told_honest, told_alike}
+use Rattle.lvish_run.proofs.Reports.{named_all, named_long, named_trace, told_honest, told_alike, well_handed}
 use Rattle.lvish_run.proofs.closing.told.Goals as goal
 
 pub report-requires : goal.report-requires
@@ -9,11 +9,12 @@ report-requires g c = named_all _ _ _ c.args.board.trace c.in_ok-account.ensures
 pub returns-clause-told : goal.returns-clause-told
 returns-clause-told g c =
     let names = c.in_ok-account.ensures.names in
+    let honest = told_honest (λ p. machine_of g.P.Lat.PartialEq.eq g.P.Lat.Event.PartialEq.eq g.P.Lat.Event.Ord.cmp g.P.Lat.Lattice.least g.P.Lat.Lattice.joined g.P.Lat.Lattice.events_of g.P.Lat.Reads.answer_of (g.P.Program.functions p)) (λ p. (g.P.Program.functions p).variables) g.J.Named.program g.J.Named.budget c.args.board _ _ _ _ _ _ _ _ _
+    c.into_parts-core.ensures.sound c.into_parts-core.ensures.core (named_trace _ _ _ _ names c.into_parts-core.ensures.trace) c.requires.over c.in_ok-account.ensures.outcome c.in_ok-account.ensures.account
+    (named_long _ _ _ _ names c.into_parts-core.ensures.trace _ (search rules)) c.report.ensures _ c.requires.counts in
     record {
-      honest = told_honest (λ p. machine_of g.P.Lat.PartialEq.eq g.P.Lat.Event.PartialEq.eq g.P.Lat.Event.Ord.cmp g.P.Lat.Lattice.least g.P.Lat.Lattice.joined g.P.Lat.Lattice.events_of g.P.Lat.Reads.answer_of (g.P.Program.functions p)) (λ p. (g.P.Program.functions p).variables) g.J.Named.program g.J.Named.budget c.args.board _ _ _ _ _ _ _ _ _
-          c.into_parts-core.ensures.sound c.into_parts-core.ensures.core (named_trace _ _ _ _ names c.into_parts-core.ensures.trace) c.requires.over c.in_ok-account.ensures.outcome c.in_ok-account.ensures.account
-          (named_long _ _ _ _ names c.into_parts-core.ensures.trace _ (search rules)) c.report.ensures _ c.requires.counts;
-      handed = c.handing_kept.ensures _ _;
+      honest = honest;
+      handed = well_handed _ _ _ _ _ (c.handing_kept.ensures g.J.Named.program) honest;
       alike = told_alike (λ p. machine_of g.P.Lat.PartialEq.eq g.P.Lat.Event.PartialEq.eq g.P.Lat.Event.Ord.cmp g.P.Lat.Lattice.least g.P.Lat.Lattice.joined g.P.Lat.Lattice.events_of g.P.Lat.Reads.answer_of (g.P.Program.functions p)) (λ p. (g.P.Program.functions p).variables) g.J.Named.program g.J.Named.budget c.args.board _ _ _ _ _ _ _ _ _
           c.into_parts-core.ensures.sound c.into_parts-core.ensures.core (named_trace _ _ _ _ names c.into_parts-core.ensures.trace) c.requires.over c.in_ok-account.ensures.outcome c.in_ok-account.ensures.account
           (named_long _ _ _ _ names c.into_parts-core.ensures.trace _ (search rules)) c.report.ensures
