@@ -4,7 +4,6 @@ use std::alloc::{AllocError, Global};
 use std::marker::Model;
 
 /// A value on the heap, seen as the value: what has it in a field stays small.
-#[derive(Debug)]
 pub struct Boxed<T> {
     inner: Box<T>,
 }

@@ -8,7 +8,7 @@ use lvish_lattice::{Lattice, Reads};
 use std::alloc::{AllocError, Global};
 
 /// A request, and the local state in which it is made.
-#[derive(Debug, Drop)]
+#[derive(Drop)]
 pub struct Asks<S, R, L> {
     pub request: Request<S, R, L>,
     pub at: L,

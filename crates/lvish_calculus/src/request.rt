@@ -23,7 +23,6 @@ pub enum ErrorKind {
 pub type Pools = Items<usize>;
 
 /// What a task asks for: over states `S`, reads `R` and local states `L`.
-#[derive(Debug)]
 pub enum Request<S, R, L> {
     /// Joins the state to the variable's.
     Put(usize, S),
@@ -61,7 +60,6 @@ impl<S: Drop, R: Drop, L: Drop> Drop for Request<S, R, L> {
 }
 
 /// The reply to a task's request: over states `S` and answers `A`.
-#[derive(Debug)]
 pub enum Reply<S, A> {
     /// The action was made.
     Done,

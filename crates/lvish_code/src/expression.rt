@@ -2,7 +2,7 @@ use crate::operand::Operand;
 use lvish_syntax::Operator;
 
 /// What a `let` gives its local.
-#[derive(Clone, Copy, Debug, PartialEq, Eq)]
+#[derive(Clone, Copy)]
 pub enum Expression {
     /// The value of the operand.
     Same(Operand),

@@ -8,7 +8,6 @@ use lvish_base::Items;
 pub type Indices = Items<usize>;
 
 /// What a task asks the others for. Variables, pools, procedures and locals are numbers, from 0.
-#[derive(Debug)]
 pub enum Action {
     /// Puts the operand's value: the variable, what of it, the operand.
     Put(usize, Target, Operand),
@@ -39,7 +38,6 @@ impl Drop for Action {
 }
 
 /// One instruction of flat code. A jump says how many instructions it passes.
-#[derive(Debug)]
 pub enum Instruction {
     /// Asks for an action, and goes on with the next instruction after the reply.
     Ask(Action),

@@ -1,7 +1,7 @@
 use lvish_base::Items;
 
 /// What stands for a number in an instruction.
-#[derive(Clone, Copy, Debug, PartialEq, Eq)]
+#[derive(Clone, Copy)]
 pub enum Operand {
     /// The value of the local with this number.
     Local(usize),

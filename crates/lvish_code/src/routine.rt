@@ -2,7 +2,6 @@ use crate::instruction::Instructions;
 use lvish_base::Items;
 
 /// The flat code of a procedure. Its parameters are the first of its locals.
-#[derive(Debug)]
 pub struct Routine {
     pub parameters: usize,
     pub locals: usize,

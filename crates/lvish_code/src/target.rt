@@ -2,7 +2,7 @@ use crate::operand::Operand;
 use lvish_syntax::SimpleKind;
 
 /// A side of a pair.
-#[derive(Clone, Copy, Debug, PartialEq, Eq)]
+#[derive(Clone, Copy)]
 pub enum Side {
     /// Side 1.
     First,
@@ -11,7 +11,7 @@ pub enum Side {
 }
 
 /// What a put or a get on a variable is about.
-#[derive(Clone, Copy, Debug, PartialEq, Eq)]
+#[derive(Clone, Copy)]
 pub enum Target {
     /// The whole variable, which is of this kind.
     Whole(SimpleKind),

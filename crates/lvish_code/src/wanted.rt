@@ -2,7 +2,6 @@ use crate::operand::Operand;
 use lvish_syntax::Numbers;
 
 /// What a get waits for at its target.
-#[derive(Debug)]
 pub enum Wanted {
     /// A number in a cell.
     Any,

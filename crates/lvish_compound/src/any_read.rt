@@ -12,7 +12,6 @@ use crate::spots::at_spot;
 use lvish_lattice::{Flat, Range, Reads};
 
 /// A read of a script's variable.
-#[derive(Debug)]
 pub struct AnyRead {
     pub place: Place,
     pub test: Test,

@@ -11,7 +11,6 @@ use std::alloc::{AllocError, Global};
 use std::marker::Model;
 
 /// One entry in place, or a list in the order of the keys.
-#[derive(Debug)]
 pub(crate) enum Held<K, L> {
     One((K, L)),
     Many(Vec<(K, L)>),
@@ -28,7 +27,6 @@ impl<K: Drop, L: Drop> Drop for Held<K, L> {
 }
 
 /// Entries of keys that have the same high part, seen as their list in the order of the keys.
-#[derive(Debug)]
 pub(crate) struct Block<K, L> {
     held: Held<K, L>,
 }

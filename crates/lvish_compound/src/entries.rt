@@ -15,7 +15,6 @@ use std::alloc::{AllocError, Global};
 use std::marker::Model;
 
 /// At most one entry in place, as most puts have it, else a tree.
-#[derive(Debug)]
 pub(crate) enum Stored<K: Key, L> {
     Few(Option<(K, L)>),
     Tree(Tree<K, L>),
@@ -32,7 +31,6 @@ impl<K: Key, L: Drop> Drop for Stored<K, L> {
 }
 
 /// Keys with their parts, seen as the list of entries in the order of the keys.
-#[derive(Debug)]
 pub struct Entries<K: Key, L> {
     stored: Stored<K, L>,
     alloc: Global,

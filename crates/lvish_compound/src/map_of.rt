@@ -10,10 +10,11 @@ use crate::key::Key;
 use crate::keyed;
 use lvish_lattice::{Brought, Lattice};
 use std::alloc::{AllocError, Global};
+use std::fmt;
+use std::fmt::Debug;
 use std::hash::Hash;
 
 /// A map that only grows: its entries, in the order of their keys. No key holds bottom.
-#[derive(Debug)]
 pub struct MapOf<K: Key, L: Lattice> {
     entries: Entries<K, L>,
     ghost ascending: { IsStrictlySortedBy K.cmp (map key entries) } by { IsStrictlySortedBy-prop K.cmp (map key entries) },
@@ -24,6 +25,12 @@ pub struct MapOf<K: Key, L: Lattice> {
 impl<K: Key, L: Lattice> Drop for MapOf<K, L> {
     fn drop(self) {
         let MapOf { entries: _ } = self;
+    }
+}
+
+impl<K: Key + Debug, L: Lattice + Debug> Debug for MapOf<K, L> {
+    fn fmt<W: fmt::Write>(&self, f: &mut fmt::Formatter<W>) -> fmt::Result {
+        f.debug_map().entries(self.entries()).finish()
     }
 }
 

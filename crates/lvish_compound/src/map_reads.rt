@@ -6,7 +6,7 @@ use lvish_lattice::{Lattice, Reads};
 use std::hash::Hash;
 
 /// A read of what one key holds.
-#[derive(Debug, Drop)]
+#[derive(Drop)]
 pub struct AtKey<K, R> {
     pub key: K,
     pub read: R,

@@ -13,7 +13,6 @@ use lvish_lattice::{GrowSet, HIGHEST_LEVEL, Items, has_one_value};
 ///
 /// The one is a value of a cell, an element that a set has, or a level that a counter, an amount or
 /// a total has reached.
-#[derive(Debug)]
 pub enum Test {
     Any,
     In(Items<i64>),

@@ -6,7 +6,7 @@ use crate::number_test::Test;
 
 /// Where a variable is read: as a whole, at a key of a map, at a key of a tally or in its total, or
 /// at a side of a pair.
-#[derive(Clone, Copy, Debug, PartialEq, Eq)]
+#[derive(Clone, Copy, PartialEq, Eq)]
 pub enum Place {
     Cell,
     Set,

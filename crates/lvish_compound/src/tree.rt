@@ -19,7 +19,6 @@ use std::marker::Model;
 ///
 /// The keys of a block are neighbours, those with one high part: so most keys that are searched one
 /// behind the other stand in one block, and a tree has few nodes.
-#[derive(Debug)]
 pub(crate) struct Tree<K: Key, L> {
     blocks: BTreeMap<Ranked<K>, Block<K, L>>,
     count: usize,

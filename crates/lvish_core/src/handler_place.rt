@@ -1,7 +1,7 @@
 ghost use Rattle.std.specs.Prelude.{◌≡◌};
 
 /// Where a handler is: its variable, its pool and its procedure.
-#[derive(Clone, Copy, Debug, PartialEq, Eq)]
+#[derive(Clone, Copy, PartialEq, Eq)]
 pub struct HandlerPlace {
     pub variable: usize,
     pub pool: usize,
@@ -22,7 +22,7 @@ impl HandlerPlace {
 }
 
 /// Where a handler stands: its variable, and its place among that variable's handlers.
-#[derive(Clone, Copy, Debug)]
+#[derive(Clone, Copy)]
 pub(crate) struct HandlerSeat {
     pub variable: usize,
     pub at: usize,

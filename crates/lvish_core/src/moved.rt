@@ -4,14 +4,14 @@ ghost use Rattle.lvish_core.specs.Changes.{nothing_moved};
 use lvish_names::{HandlerName, TaskName};
 
 /// A task that a step made, and the local state in which it starts.
-#[derive(Debug, Drop)]
+#[derive(Drop)]
 pub struct Made<E, L> {
     pub name: TaskName<E>,
     pub local: L,
 }
 
 /// What a step moved: copies, for a caller that keeps track of tasks and handlers.
-#[derive(Debug, Drop)]
+#[derive(Drop)]
 pub struct Moved<E, L> {
     /// The local state in which the acting task goes on; `None` where it has ended.
     pub own: Option<L>,

@@ -3,7 +3,6 @@ ghost use Rattle.lvish_calculus.specs.Calculus.{Live};
 ghost use Rattle.lvish_core.specs.Tasks.{standing};
 
 /// What runs under a task's name.
-#[derive(Debug)]
 pub enum Stage<L> {
     /// A task with its numbers of forks, added handlers and puts.
     Live {
@@ -58,7 +57,7 @@ impl<L> Stage<L> {
 
 /// A task's index in the table of its core, how many tasks it forked, how many handlers it added, and
 /// how many puts it made.
-#[derive(Clone, Copy, Debug, PartialEq, Eq)]
+#[derive(Clone, Copy, PartialEq, Eq)]
 pub struct TaskNumbers {
     pub index: usize,
     pub forks: u64,

@@ -14,7 +14,6 @@ use std::alloc::{AllocError, Global};
 use std::marker::Model;
 
 /// The handlers of a variable, and how many tasks run in each pool.
-#[derive(Debug)]
 pub struct Handlers<L: Lattice> {
     held: Vec<Held<L::Event>>,
     // how many entries were handed in all, so that `drained` need not go through the handlers

@@ -18,7 +18,6 @@ use std::marker::Model;
 /// comes behind the others; else a tree.
 ///
 /// Row and tree stand in blocks of their own, so that a state is small: it is moved at each step.
-#[derive(Debug)]
 pub(crate) enum Stored<V: Ord> {
     Nothing,
     One(V),
@@ -39,7 +38,6 @@ impl<V: Ord + Drop> Drop for Stored<V> {
 }
 
 /// Elements, seen as their list, ascending.
-#[derive(Debug)]
 pub struct Elements<V: Ord> {
     stored: Stored<V>,
 }

@@ -8,7 +8,7 @@ use std::alloc::{AllocError, Global};
 use std::hash::Hash;
 
 /// Nothing, or one value that is written once.
-#[derive(Clone, Copy, Debug, PartialEq, Eq, PartialOrd, Ord)]
+#[derive(Clone, Copy, Debug, PartialEq, Eq)]
 pub enum Flat<V> {
     Bottom,
     Value(V),
@@ -25,7 +25,7 @@ impl Plain for Whole {
 }
 
 /// What is waited for: any value, or one of a list.
-#[derive(Debug, Drop)]
+#[derive(Drop)]
 pub enum FlatRead<V> {
     Any,
     In(Items<V>),

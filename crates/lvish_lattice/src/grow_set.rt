@@ -9,12 +9,13 @@ use crate::reads::{has_one_value, one_of};
 use crate::set_iter::SetIter;
 use lvish_base::Items;
 use std::alloc::{AllocError, Global};
+use std::fmt;
+use std::fmt::Debug;
 use std::hash::Hash;
 
 /// A set that only grows.
 ///
 /// It is stored as a tree, or as at most one element.
-#[derive(Debug)]
 pub struct GrowSet<V: Plain> {
     items: Elements<V>,
     ghost ascending: { IsStrictlySortedBy V.cmp items } by { IsStrictlySortedBy-prop V.cmp items },
@@ -27,8 +28,14 @@ impl<V: Plain> Drop for GrowSet<V> {
     }
 }
 
+impl<V: Plain + Debug> Debug for GrowSet<V> {
+    fn fmt<W: fmt::Write>(&self, f: &mut fmt::Formatter<W>) -> fmt::Result {
+        f.debug_set().entries(self.items()).finish()
+    }
+}
+
 /// What is waited for: one of a list of elements.
-#[derive(Debug, Drop)]
+#[derive(Drop)]
 pub enum Members<V> {
     In(Items<V>),
 }

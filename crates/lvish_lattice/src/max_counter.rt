@@ -22,7 +22,7 @@ pub struct MaxCounter {
 pub struct Range;
 
 /// What is waited for: one of a list of levels.
-#[derive(Debug, Drop)]
+#[derive(Drop)]
 pub enum Levels {
     In(Items<MaxCounter>),
 }

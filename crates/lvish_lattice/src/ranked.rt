@@ -7,7 +7,7 @@ use std::marker::Model;
 ///
 /// A search goes on at each key that the sought one is above, so that is asked first, by one
 /// comparison that branches.
-#[derive(Clone, Copy, Debug)]
+#[derive(Clone, Copy)]
 pub struct Ranked<V> {
     value: V,
 }

@@ -11,7 +11,6 @@ use std::marker::Model;
 /// Elements that came in ascending order: each stands behind those that came before it.
 ///
 /// The vector stands behind a box, since whatever may hold a row would be as large as it otherwise.
-#[derive(Debug)]
 pub(crate) struct Row<V: Ord> {
     items: Box<Vec<V>>,
 }

@@ -7,7 +7,6 @@ use crate::threshold::Threshold;
 use std::alloc::{AllocError, Global};
 
 /// A statement of one line.
-#[derive(Debug)]
 pub enum Command {
     /// `let`: the local takes the value.
     Let(Identifier, LetValue),

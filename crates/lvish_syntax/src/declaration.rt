@@ -5,7 +5,6 @@ use crate::kind::VariableKind;
 use lvish_base::Items;
 
 /// A line at the head of a script.
-#[derive(Debug)]
 pub enum Declaration {
     /// Declares a variable of this kind.
     Variable(Identifier, VariableKind),

@@ -8,7 +8,6 @@ use std::alloc::{AllocError, Global};
 use std::marker::Model;
 
 /// The name of a variable, a procedure or a local, seen as its bytes.
-#[derive(Debug)]
 pub struct Identifier {
     text: ArrayString<MOST_IN_NAME>,
 }

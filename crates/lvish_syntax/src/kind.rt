@@ -1,5 +1,5 @@
 /// The kinds that a side of a pair can have.
-#[derive(Clone, Copy, Debug, PartialEq, Eq)]
+#[derive(Clone, Copy, PartialEq, Eq)]
 pub enum SimpleKind {
     /// Empty, or one number.
     Cell,
@@ -10,7 +10,7 @@ pub enum SimpleKind {
 }
 
 /// What a variable holds.
-#[derive(Clone, Copy, Debug, PartialEq, Eq)]
+#[derive(Clone, Copy, PartialEq, Eq)]
 pub enum VariableKind {
     /// A cell, a set or a counter.
     Simple(SimpleKind),

@@ -4,7 +4,6 @@ use crate::operator::Operator;
 use crate::term::Term;
 
 /// What a `let` gives its local.
-#[derive(Debug, PartialEq, Eq)]
 pub enum LetValue {
     /// The value of the term.
     Same(Term),

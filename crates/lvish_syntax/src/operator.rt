@@ -1,5 +1,5 @@
 /// What combines two numbers in a `let`.
-#[derive(Clone, Copy, Debug, PartialEq, Eq)]
+#[derive(Clone, Copy, PartialEq, Eq)]
 pub enum Operator {
     /// `+`
     Add,

@@ -3,7 +3,7 @@ use crate::statement::Block;
 use lvish_base::Items;
 
 /// A procedure: its name, its parameters in order and its statements.
-#[derive(Debug, Drop)]
+#[derive(Drop)]
 pub struct Procedure {
     pub name: Identifier,
     pub parameters: Identifiers,

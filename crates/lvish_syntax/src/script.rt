@@ -9,7 +9,6 @@ use crate::version::Version;
 /// Every name in it is declared, the counts of terms and parameters agree, its names differ, its
 /// tables are within their limits and its lines are those of its version, by its type:
 /// `IsSound version declarations procedures` holds of each script.
-#[derive(Debug)]
 pub struct Script {
     pub version: Version,
     pub declarations: Declarations,

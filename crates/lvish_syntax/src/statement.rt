@@ -2,7 +2,7 @@ use crate::command::Command;
 use crate::term::Term;
 
 /// A statement of a procedure.
-#[derive(Debug, Drop)]
+#[derive(Drop)]
 #[cycle(block)]
 pub enum Statement {
     /// A statement of one line.
@@ -16,7 +16,7 @@ pub enum Statement {
 }
 
 /// Statements in order.
-#[derive(Debug, Drop)]
+#[derive(Drop)]
 #[cycle(block)]
 pub struct Block {
     pub items: Vec<Statement>,

@@ -5,7 +5,6 @@ use lvish_base::Items;
 use std::alloc::{AllocError, Global};
 
 /// What stands for a number in a statement: a local or a number.
-#[derive(Debug, PartialEq, Eq)]
 pub enum Term {
     /// The value of the local with this name.
     Local(Identifier),

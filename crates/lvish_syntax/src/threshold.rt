@@ -8,7 +8,6 @@ use std::alloc::{AllocError, Global};
 pub type Numbers = Items<i64>;
 
 /// What a `get` waits for.
-#[derive(Debug, PartialEq, Eq)]
 pub enum Threshold {
     /// `any`: a number in a cell.
     Any,

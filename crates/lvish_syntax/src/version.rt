@@ -1,5 +1,5 @@
 /// The versions of scripts.
-#[derive(Clone, Copy, Debug, PartialEq, Eq)]
+#[derive(Clone, Copy, PartialEq, Eq)]
 pub enum Version {
     /// Scripts without a line that says another.
     One,
