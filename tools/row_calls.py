@@ -14,7 +14,7 @@ LVISH, PROBE, BOARD_PROBE = "lvish", "lvish_probe", "lvish_board_probe"
 # Where a run of `rt ci` leaves them.
 PATHS = {it: f"{kit.ROOT}/crates/{it}/out/{it}" for it in (LVISH, PROBE, BOARD_PROBE)}
 # The questions of the first probe.
-OF_PROBE = ("canonical", "faults", "order", "parts", "replayed", "report")
+OF_PROBE = ("canonical", "faults", "order", "replayed", "report")
 WORKERS = ("1", "2", "8")
 OFTEN, LISTS, PICKS = 100, 200, 40
 # The seconds that a call may take.

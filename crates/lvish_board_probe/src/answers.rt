@@ -3,6 +3,7 @@
 ghost use Rattle.std.specs.Prelude.{◌≡◌, ◌≤◌};
 
 use crate::board_desk::write_calls;
+use crate::calls::Calls;
 use crate::naming::{Naming, Of};
 use lvish_board::Place;
 use lvish_core::MOST_STEPS;
@@ -45,7 +46,7 @@ fn answers_of(
     Ok(text)
 }
 
-/// Writes what two boards with this budget answer to the calls. No board has a larger budget than a
+/// Writes what a board with this budget answers to the calls. No board has a larger budget than a
 /// run may have.
 fn write_one(
     alloc: Global,
@@ -57,34 +58,23 @@ fn write_one(
     if budget > MOST_STEPS {
         return text.push_str("no such budget\n");
     }
-    write_named::<Brand, Brand>(
-        alloc,
-        code,
-        text,
-        budget,
-        calls,
-        Opened::new(),
-        Opened::new(),
-    )
+    let calls = Calls { lines: calls };
+    write_named::<Brand>(alloc, code, text, budget, &calls, Opened::new())
 }
 
-/// Writes what they answer, each by a name of its own.
-fn write_named<N: Naming, M: Naming>(
+/// Writes what it answers, under a name of its own.
+fn write_named<N: Naming>(
     alloc: Global,
     code: &ScriptCode,
     text: &mut String,
     budget: u64,
-    calls: &str,
-    here: Opened<Place<ScriptCode>>,
-    there: Opened<Place<ScriptCode>>,
+    calls: &Calls<'_>,
+    history: Opened<Place<ScriptCode>>,
 ) -> Result<(), AllocError>
     requires program { code.now ≡ N.code }
-    requires its_program { code.now ≡ M.code }
     requires budget { budget ≡ N.budget }
-    requires its_budget { budget ≡ M.budget }
     requires bounded { N.budget ≤ MOST_STEPS }
-    requires here { here.seen.book ≡ N.book }
-    requires there { there.seen.book ≡ M.book }
+    requires history { history.seen.book ≡ N.book }
 {
-    write_calls::<ScriptCode, Of<N>, Of<M>>(alloc, code, text, budget, calls, here, there)
+    write_calls::<ScriptCode, Of<N>>(alloc, code, text, budget, calls.lines, history)
 }

@@ -2,10 +2,10 @@
 
 ghost use Rattle.std.specs.Prelude.{◌≡◌, ◌≤◌};
 
-use crate::desk::{Adopts, Desk, Told};
+use crate::calls::write_answers;
+use crate::desk::{Desk, Told};
 use crate::seat::Seat;
 use crate::text::{write_machine, write_outcome};
-use crate::two_boards::write_answers;
 use lvish_board::{Acted, Board, Named, Place, Ticket, Work, stretch};
 use lvish_calculus::Program;
 use lvish_core::MOST_STEPS;
@@ -31,29 +31,24 @@ impl<'p, P: Program, J: Named<P>> Drop for BoardDesk<'p, P, J> {
     }
 }
 
-/// Writes what two boards of the program answer to the calls, a line each.
-pub fn write_calls<P: Program, J: Named<P>, K: Named<P>>(
+/// Writes what a board of the program answers to the calls, a line each.
+pub fn write_calls<P: Program, J: Named<P>>(
     alloc: Global,
     program: &P,
     text: &mut String,
     budget: u64,
     calls: &str,
-    here: Opened<Place<P>>,
-    there: Opened<Place<P>>,
+    history: Opened<Place<P>>,
 ) -> Result<(), AllocError>
 where
     <P::Lat as Lattice>::Event: Numbered,
     requires program { program.now ≡ J.program }
-    requires its_program { program.now ≡ K.program }
     requires budget { budget ≡ J.budget }
-    requires its_budget { budget ≡ K.budget }
     requires bounded { J.budget ≤ MOST_STEPS }
-    requires here { here.seen.book ≡ J.book }
-    requires there { there.seen.book ≡ K.book }
+    requires history { history.seen.book ≡ J.book }
 {
-    let mut here: Seat<BoardDesk<'_, P, J>> = seat_at_start(alloc, program, budget, here)?;
-    let mut there: Seat<BoardDesk<'_, P, K>> = seat_at_start(alloc, program, budget, there)?;
-    write_answers(alloc, text, calls, &mut here, &mut there)
+    let mut seat = seat_at_start::<P, J>(alloc, program, budget, history)?;
+    write_answers(alloc, text, calls, &mut seat)
 }
 
 /// A board at the start with main's ticket.
@@ -62,7 +57,7 @@ fn seat_at_start<'p, P: Program, J: Named<P>>(
     program: &'p P,
     budget: u64,
     history: Opened<Place<P>>,
-) -> Result<Seat<BoardDesk<'p, P, J>>, AllocError>
+) -> Result<Seat<BoardDesk<'p, P, J>, Work<P, J>>, AllocError>
 where
     <P::Lat as Lattice>::Event: Numbered,
     requires program { program.now ≡ J.program }
@@ -127,12 +122,10 @@ fn told_of<P: Program, J: Named<P>>(
     }
 }
 
-impl<'p, P: Program, J: Named<P>> Desk for BoardDesk<'p, P, J>
+impl<'p, P: Program, J: Named<P>> Desk<Work<P, J>> for BoardDesk<'p, P, J>
 where
     <P::Lat as Lattice>::Event: Numbered,
 {
-    type Work = Work<P, J>;
-
     // By the worker whose number is that of the step, from 0 to 2 in turn.
     fn tell(&mut self, alloc: Global, work: Work<P, J>) -> Result<Told<Work<P, J>>, AllocError> {
         let worker = self.board.noted().len() % 3;
@@ -178,18 +171,5 @@ where
 
     fn write_machine(&self, alloc: Global, text: &mut String) -> Result<(), AllocError> {
         write_machine(text, alloc, &self.board)
-    }
-}
-
-impl<'p, P: Program, J: Named<P>, K: Named<P>> Adopts<Work<P, K>> for BoardDesk<'p, P, J>
-where
-    <P::Lat as Lattice>::Event: Numbered,
-{
-    fn adopted(&self, work: Work<P, K>) -> Option<Work<P, J>> {
-        match work {
-            Work::Stretch(ticket) => Some(Work::Stretch(self.board.adopt(ticket))),
-            Work::Hand(handler) => Some(Work::Hand(handler)),
-            Work::Act(_) => None,
-        }
     }
 }

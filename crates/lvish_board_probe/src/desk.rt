@@ -27,22 +27,19 @@ impl<W: Drop> Told<W> {
     }
 }
 
-/// A board and its program.
-pub trait Desk {
-    /// A piece of its work.
-    type Work: Drop;
-
+/// A board and its program, with work of this type.
+pub trait Desk<W> {
     /// Does the work, and lists what is left.
-    fn tell(&mut self, alloc: Global, work: Self::Work) -> Result<Told<Self::Work>, AllocError>;
+    fn tell(&mut self, alloc: Global, work: W) -> Result<Told<W>, AllocError>;
 
     /// A copy of work that is a ticket; none of other work.
-    fn copied(&self, alloc: Global, work: &Self::Work) -> Result<Option<Self::Work>, AllocError>;
+    fn copied(&self, alloc: Global, work: &W) -> Result<Option<W>, AllocError>;
 
     /// The handing by main's handler with this number.
-    fn handing(&self, number: u64) -> Result<Self::Work, AllocError>;
+    fn handing(&self, number: u64) -> Result<W, AllocError>;
 
     /// What the work is, and the name of its task or handler.
-    fn text(&self, alloc: Global, work: &Self::Work) -> Result<String, AllocError>;
+    fn text(&self, alloc: Global, work: &W) -> Result<String, AllocError>;
 
     /// Whether the board is over.
     fn is_over(&self) -> bool;
@@ -52,10 +49,4 @@ pub trait Desk {
 
     /// Writes what shows of the board.
     fn write_machine(&self, alloc: Global, text: &mut String) -> Result<(), AllocError>;
-}
-
-/// A board that may take over the work of another one.
-pub trait Adopts<W>: Desk {
-    /// The work, for this board; none where it is no ticket and no handler.
-    fn adopted(&self, work: W) -> Option<Self::Work>;
 }

@@ -6,11 +6,11 @@
 
 mod answers;
 mod board_desk;
+mod calls;
 mod desk;
 mod naming;
 mod seat;
 mod text;
-mod two_boards;
 mod work_left;
 
 use answers::answer_to;

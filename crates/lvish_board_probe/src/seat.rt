@@ -6,16 +6,16 @@ use std::alloc::{AllocError, Global};
 
 /// A board, a copy of its first work, the work that it has left, the piece in hand, and what was answered
 /// last. So what is owned stands here, and what is written of it is borrowed.
-pub struct Seat<D: Desk> {
+pub struct Seat<D, W: Drop> {
     desk: D,
-    first: Option<D::Work>,
-    left: WorkLeft<D::Work>,
-    work: Option<D::Work>,
-    told: Told<D::Work>,
+    first: Option<W>,
+    left: WorkLeft<W>,
+    work: Option<W>,
+    told: Told<W>,
 }
 
 // Written out, so that it is proved once, and not at each exit of a function that owns one.
-impl<D: Desk + Drop> Drop for Seat<D> {
+impl<D: Drop, W: Drop> Drop for Seat<D, W> {
     fn drop(self) {
         let Seat {
             desk: _,
@@ -27,9 +27,9 @@ impl<D: Desk + Drop> Drop for Seat<D> {
     }
 }
 
-impl<D: Desk + Drop> Seat<D> {
+impl<D: Desk<W> + Drop, W: Drop> Seat<D, W> {
     /// A board that was opened with this work.
-    pub fn new(alloc: Global, desk: D, work: D::Work) -> Result<Seat<D>, AllocError> {
+    pub fn new(alloc: Global, desk: D, work: W) -> Result<Seat<D, W>, AllocError> {
         let mut seat = Seat {
             desk,
             first: None,
@@ -42,18 +42,13 @@ impl<D: Desk + Drop> Seat<D> {
     }
 
     /// Copies the first work, and adds it to what is left.
-    fn begin(&mut self, alloc: Global, work: D::Work) -> Result<(), AllocError> {
+    fn begin(&mut self, alloc: Global, work: W) -> Result<(), AllocError> {
         self.first = self.desk.copied(alloc, &work)?;
         self.left.keep(work)
     }
 
-    /// The board.
-    pub fn desk(&self) -> &D {
-        &self.desk
-    }
-
     /// Takes the work in hand; none where there was no such work.
-    pub fn hold(&mut self, work: Option<D::Work>) {
+    fn hold(&mut self, work: Option<W>) {
         self.work = work;
     }
 
@@ -83,20 +78,8 @@ impl<D: Desk + Drop> Seat<D> {
         Ok(None)
     }
 
-    /// Takes out the first piece of work that has this text.
-    pub fn take(&mut self, alloc: Global, wanted: &str) -> Result<Option<D::Work>, AllocError> {
-        match self.place_of(alloc, wanted)? {
-            Some(place) => Ok(self.left.take_at(place)),
-            None => Ok(None),
-        }
-    }
-
     /// A copy of work, if there is any, and it is a ticket.
-    fn copy_of(
-        &self,
-        alloc: Global,
-        work: Option<&D::Work>,
-    ) -> Result<Option<D::Work>, AllocError> {
+    fn copy_of(&self, alloc: Global, work: Option<&W>) -> Result<Option<W>, AllocError> {
         match work {
             Some(work) => self.desk.copied(alloc, work),
             None => Ok(None),
@@ -104,7 +87,7 @@ impl<D: Desk + Drop> Seat<D> {
     }
 
     /// A copy of a ticket that was left; none where this is no such ticket.
-    fn copied(&self, alloc: Global, wanted: &str) -> Result<Option<D::Work>, AllocError> {
+    fn copied(&self, alloc: Global, wanted: &str) -> Result<Option<W>, AllocError> {
         match self.place_of(alloc, wanted)? {
             Some(place) => self.copy_of(alloc, self.left.works().get(place)),
             None => Ok(None),
@@ -112,7 +95,7 @@ impl<D: Desk + Drop> Seat<D> {
     }
 
     /// The handing that a call names by the number of one of main's handlers.
-    fn handing(&self, call: &str) -> Result<Option<D::Work>, AllocError> {
+    fn handing(&self, call: &str) -> Result<Option<W>, AllocError> {
         let Some(number) = call.strip_prefix("Hand main/h") else {
             return Ok(None);
         };
@@ -124,7 +107,7 @@ impl<D: Desk + Drop> Seat<D> {
 
     /// The work that a call names: a copy of a ticket, what was left, or a handing by any handler of
     /// main.
-    fn named(&mut self, alloc: Global, call: &str) -> Result<Option<D::Work>, AllocError> {
+    fn named(&mut self, alloc: Global, call: &str) -> Result<Option<W>, AllocError> {
         if call == "First" {
             return self.copy_of(alloc, self.first.as_ref());
         }
@@ -181,7 +164,7 @@ impl<D: Desk + Drop> Seat<D> {
         &self,
         alloc: Global,
         text: &mut String,
-        back: &D::Work,
+        back: &W,
         given: &str,
     ) -> Result<(), AllocError> {
         let back = self.desk.text(alloc, back)?;
@@ -210,12 +193,7 @@ impl<D: Desk + Drop> Seat<D> {
     }
 
     /// Writes these pieces, and the bracket behind them.
-    fn write_works(
-        &self,
-        alloc: Global,
-        text: &mut String,
-        works: &[D::Work],
-    ) -> Result<(), AllocError> {
+    fn write_works(&self, alloc: Global, text: &mut String, works: &[W]) -> Result<(), AllocError> {
         let mut between = "";
         for work in works {
             text.push_str(between)?;
@@ -242,7 +220,7 @@ impl<D: Desk + Drop> Seat<D> {
     }
 
     /// Does the work in hand, writes what is answered, and keeps what is left.
-    pub fn write_told(&mut self, alloc: Global, text: &mut String) -> Result<(), AllocError> {
+    fn write_told(&mut self, alloc: Global, text: &mut String) -> Result<(), AllocError> {
         let Some(work) = &self.work else {
             return text.push_str("no such work");
         };
@@ -267,6 +245,14 @@ impl<D: Desk + Drop> Seat<D> {
                 self.hold(work);
                 self.write_told(alloc, text)
             }
+        }
+    }
+
+    /// Takes out the first piece of work that has this text.
+    fn take(&mut self, alloc: Global, wanted: &str) -> Result<Option<W>, AllocError> {
+        match self.place_of(alloc, wanted)? {
+            Some(place) => Ok(self.left.take_at(place)),
+            None => Ok(None),
         }
     }
 }

@@ -1,6 +1,7 @@
 //! Worked examples: cores of scripts, call by call.
 
 mod bench;
+mod seen;
 
 use bench::{Call, answers, many, tasks_at_the_end};
 use lvish_calculus::Label;

@@ -10,7 +10,6 @@ mod faults;
 mod host;
 mod likeness;
 mod orders;
-mod parts;
 mod questions;
 mod replayed;
 mod reports;

@@ -5,7 +5,6 @@ use crate::canonical::canonical_text;
 use crate::faults::numbered_faults;
 use crate::host::Host;
 use crate::orders::order_asked;
-use crate::parts::parts_read;
 use crate::replayed::runs_replayed;
 use crate::reports::report_of;
 use lvish_cli::read_text;
@@ -47,7 +46,6 @@ fn answer_about<R: Host>(
     let alloc = rt.alloc();
     match first {
         "canonical" => canonical_text(alloc, script),
-        "parts" => parts_read(alloc, script),
         "replayed" => runs_replayed(rt, rest, script),
         "report" => report_of(alloc, rest, script),
         _ => misuse(alloc, "no such question\n"),

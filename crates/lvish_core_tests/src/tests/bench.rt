@@ -3,6 +3,7 @@
 
 ghost use Rattle.std.specs.Prelude.{◌≡◌};
 
+use crate::tests::seen::Seen;
 use lvish_calculus::{Label, Program};
 use lvish_compound::Event;
 use lvish_core::{Core, StepFault, Stepped};
@@ -51,27 +52,28 @@ impl<'p> Bench<'p> {
     }
 
     /// What is seen; looked at again where a growth was refused.
-    fn seen_at_last(&self, alloc: Global) -> Result<String, AllocError> {
+    fn seen_at_last(&self, alloc: Global) -> Result<Seen, AllocError> {
         match self.seen(alloc) {
-            Ok(text) => Ok(text),
+            Ok(seen) => Ok(seen),
             Err(_) => self.seen(alloc),
         }
     }
 
-    /// The labels that the core can take, its variables, the handlers on the first one, what main asks
-    /// for, and the rest that is seen.
-    fn seen(&self, alloc: Global) -> Result<String, AllocError> {
+    /// What is seen, and what main asks for.
+    fn seen(&self, alloc: Global) -> Result<Seen, AllocError> {
+        let text = self.text(alloc)?;
+        Seen::new(text, self.core.request_of(alloc, &TaskName::main())?)
+    }
+
+    /// The labels that the core can take, its variables, the handlers on the first one, and the rest
+    /// that is seen.
+    fn text(&self, alloc: Global) -> Result<String, AllocError> {
         let mut text = String::new(alloc);
         write!(text, "{:?}", self.core.labels(alloc)?.as_slice())?;
         write!(text, "{:?}", self.core.states())?;
         if self.code.variables() > 0 {
             write!(text, "{:?}", self.core.handlers(0))?;
         }
-        write!(
-            text,
-            "{:?}",
-            self.core.request_of(alloc, &TaskName::main())?
-        )?;
         self.write_rest(alloc, &mut text)?;
         Ok(text)
     }
@@ -120,7 +122,7 @@ impl<'p> Bench<'p> {
         let before = self.seen_at_last(alloc)?;
         match self.called(alloc, call) {
             Err(StepFault::Memory) => {
-                assert_eq!(rt; self.seen(alloc)?.as_str(), before.as_str());
+                assert!(rt; self.seen(alloc)?.is(&before));
                 Ok(self.called(alloc, call))
             }
             answer => Ok(answer),
@@ -189,7 +191,7 @@ impl<'p> Bench<'p> {
                 Some((_, numbers)) => Some(numbers),
                 None => None,
             };
-            assert_eq!(rt; standing, found);
+            assert!(rt; standing == found);
             assert_eq!(rt; self.core.local_of(name).is_some(), found.is_some());
         }
     }
