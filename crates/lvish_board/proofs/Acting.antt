@@ -18,7 +18,7 @@ use Rattle.lvish_board.specs.Standing.{Standing, IsBlocked, IsBoardSound}
 use Rattle.lvish_board.proofs.Handing.{made_same}
 use Rattle.lvish_board.proofs.Blocked.{IsMade}
 use Rattle.lvish_board.proofs.Those.{nothing_sorted}
-use Rattle.lvish_board.proofs.Steps.{done_none, error_own, error_some, kept_step, own_told, stepped_from}
+use Rattle.lvish_board.proofs.Steps.{done_none, error_own, error_some, kept_step, own_told, some_over, stepped_from}
 
 -- ---- a step that gives an error
 
@@ -75,7 +75,7 @@ module _ {P S E R A L : Type 0} (M : Machine S E R A L) (c d : CoreView P S E L)
       → IsBoardSound M program budget (record { trace = longer; core = d; over = Some told; parked = ps })
   error_kept program budget trace longer over ps worker told sound room long is =
       subst (λ o. IsBoardSound M program budget (record { trace = longer; core = d; over = Some o; parked = ps })) (sym is)
-      (kept_step M program budget trace longer c d over (Some (ErrorOver kind (option_and_then (λ f. f.variable) d.fault) t)) ps ps (Act t) worker (ErrorStep kind) sound step room long (error_own M c d t kind step) (λ p i. still_blocked p (sound.blocked p i)) sound.once)
+      (kept_step M program budget trace longer c d over (Some (ErrorOver kind (option_and_then (λ f. f.variable) d.fault) t)) ps ps (Act t) worker (ErrorStep kind) sound step room long (error_own M c d t kind step) (some_over _) (λ p i. still_blocked p (sound.blocked p i)) sound.once)
 
   pub error_done : IsDone M d t
   error_done = let f = error_some M c d (Act t) kind step in inr (ap is_some f.1)

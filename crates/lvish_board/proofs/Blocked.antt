@@ -13,15 +13,15 @@ use Rattle.lvish_variable.specs.Variable.{VariableView as Variable}
 use Rattle.lvish_core.specs.Core.{CoreView, IsRunTo, IsStep, CanTake, state}
 use Rattle.lvish_core.specs.Changes.{IsMoved, local_of, brought}
 use Rattle.lvish_core.specs.Spots.{HasSpot, PassesAtItsSpot}
-use Rattle.lvish_core.specs.Waiting.{MayPass, WaitsUntilTouched}
+use Rattle.lvish_core.specs.Waiting.{EndsByCounts, MayPass, WaitsUntilTouched}
 use Rattle.lvish_core.specs.laws.Runs.{at_state}
 use Rattle.lvish_board.specs.Acts.{entry_of}
 use Rattle.lvish_board.specs.Listed.{Concerns, HasNext, IsListed, acts, handings, stretches, tickets, option_list}
 use Rattle.lvish_board.specs.Place.{TaskPlace}
-use Rattle.lvish_board.specs.Standing.{Standing, IsBlocked, IsCurrent, IsBoardSound, OverIs, tasks_of}
+use Rattle.lvish_board.specs.Standing.{Standing, IsBlocked, IsCurrent, IsBoardSound, TellsEnd, tasks_of}
 use Rattle.lvish_board.specs.Woken.{MayAnswer, MayWake}
 use Rattle.lvish_board.specs.Left.{IsLeft, IsLogged, candidates, fresh_in}
-use Rattle.lvish_board.proofs.Steps.{done_none, begins_well, kept_step}
+use Rattle.lvish_board.proofs.Steps.{done_none, begins_well, kept_step, told_end}
 use Rattle.lvish_board.proofs.Those.{those_are, those_sorted}
 
 -- a task that stands at a local state is live there
@@ -154,12 +154,12 @@ module _ {P S E R A L : Type 0} {M : Machine S E R A L} {cmp : E → E → Order
         hands_by_name = those_sorted (λ g. HasNext M d g) (handler_cmp cmp) (candidates (fresh_in d.table.variables logged d.touched) handlers added) left.work.hands left.work.are k.by_name;
       }
 
-      -- the board keeps what it says, and isn't over by the step
-      pub kept_made : (program : P) (budget : ℕ) (trace longer : List (Step E)) (over : Option (Over E)) (worker : ℕ) → IsBoardSound M program budget (record { trace = trace; core = c; over = over; parked = old }) → over ≡ None
-          → length trace < budget → longer ≡ trace ++ entry_of worker l ∷ [] → NoRepeats (tasks_of new) → IsBoardSound M program budget (record { trace = longer; core = d; over = over; parked = new })
-      kept_made program budget trace longer over worker sound none room more once =
-          let fine = subst (λ o. OverIs M budget (record { trace = longer; core = d; over = over; parked = new }) o) (sym none) (done_none M c d l k.step) in
-          kept_step M program budget trace longer c d over over old new l worker DoneStep sound k.step room more fine blocked_after once
+      -- the board keeps what it says, where it tells its end
+      pub kept_made : EndsByCounts P M → (program : P) (budget : ℕ) (trace longer : List (Step E)) (over after : Option (Over E)) (worker : ℕ) → IsBoardSound M program budget (record { trace = trace; core = c; over = over; parked = old })
+          → length trace < budget → longer ≡ trace ++ entry_of worker l ∷ [] → NoRepeats (tasks_of new) → TellsEnd M d (length new) after → IsBoardSound M program budget (record { trace = longer; core = d; over = after; parked = new })
+      kept_made ends program budget trace longer over after worker sound room more once tells =
+          let end = told_end M ends budget longer d (k.labels ++ l ∷ []) new (k.step.leads k.labels k.leads) (done_none M c d l k.step) blocked_after once after tells in
+          kept_step M program budget trace longer c d over after old new l worker DoneStep sound k.step room more end.0 end.1 blocked_after once
 
       -- just the work that is to be listed
       pub is_listed : option_list own ++ option_list made ≡ tickets l moved → (s u : Standing P S E L) → s.core ≡ c → s.parked ≡ old → u.core ≡ d → u.parked ≡ new → IsListed cmp M s l u ws

@@ -1,5 +1,5 @@
 -- What a handing is to a board, over any machine.
-use Rattle.std.proofs.Common.{◌≡◌, ◌↔◌, inl, inr, ℕ, List, [], ◌∷◌, length, Ordering, Option, Some, None, refl, sym, ap, subst, ◌∙◌, option_and_then}
+use Rattle.std.proofs.Common.{◌≡◌, ◌↔◌, inl, inr, ℕ, List, [], ◌∷◌, length, Ordering, Option, Some, None, IsSome, is_some, refl, sym, ap, subst, ◌∙◌, option_and_then}
 use Rattle.std.specs.List.Sorted.{IsStrictlySortedBy}
 use Rattle.lvish_board.specs.Vocabulary.{Label, Hand, Stepped, DoneStep, ErrorStep, Made, Moved, PutOn as Put, Handed, Work}
 use Rattle.lvish_calculus.specs.Machine.{Machine}
@@ -7,11 +7,11 @@ use Rattle.lvish_calculus.specs.Calculus.{Post, Live, State, Configuration, Runn
 use Rattle.lvish_names.specs.Names.{Handler, handed}
 use Rattle.lvish_calculus.specs.Handing.{IsAmong}
 use Rattle.lvish_names.specs.NameOrder.{handler_cmp}
-use Rattle.lvish_core.specs.Core.{CoreView, IsRunTo, IsNext, IsStep, CanTake, state, says}
+use Rattle.lvish_core.specs.Core.{CoreView, IsRunTo, IsNext, IsStep, CanTake, at_fault, state, says}
 use Rattle.lvish_core.specs.CoreLaws.{HandsOneEvent, HandsWhatComes}
 use Rattle.lvish_core.specs.Changes.{IsMoved, moved_in, brings, touching}
 use Rattle.lvish_core.specs.Handed.{IsHanded}
-use Rattle.lvish_core.specs.laws.Runs.{at_state}
+use Rattle.lvish_core.specs.laws.Runs.{at_state, no_error_before}
 use Rattle.lvish_board.specs.Listed.{Concerns, by_handing, by_adding, by_putting, made_place, tickets, option_list}
 use Rattle.lvish_board.specs.Left.{IsLeft, IsLogged, candidates, fresh_in, made_ticket}
 use Rattle.lvish_board.specs.Place.{TaskPlace}
@@ -98,14 +98,21 @@ module _ {P S E R A L : Type 0} (M : Machine S E R A L) where
     pub handed_well : IsStep M c (Hand h was.event) d DoneStep
     handed_well = subst (λ r. IsStep M c (Hand h was.event) d r) (hand_done c d h was.event said was.moving.step) was.moving.step
 
-    -- and is what came next
-    pub handed_event : HandsOneEvent P M → (xs : List (Label E)) → IsRunTo M c xs → (e : E) → IsNext M.event_same c.table h e → was.event ≡ e
-    handed_event one xs run e comes = one c xs run h was.event e was.moving.step.enabled comes
+  -- a handler that can be handed something is there
+  pub hand_held : (c : CoreView P S E L) (h : Handler E) (e : E) → CanTake M c (Hand h e) → IsSome ((state M c).handlers h)
+  hand_held c h e can =
+      let to : IsToHand M (state M c) h e = subst (λ f. CanStep M (at_fault (state M c) f) (Hand h e)) (no_error_before M (state M c) c.fault (Hand h e) can.0) can.0 in
+      ap is_some to.on.is
 
   -- where a board isn't over, what comes next can be handed
   pub hand_open : HandsWhatComes P M → (program : P) (budget : ℕ) (s : Standing P S E L) → IsBoardSound M program budget s → s.over ≡ None
       → (h : Handler E) (e : E) → IsNext M.event_same s.core.table h e → CanTake M s.core (Hand h e)
   hand_open opens program budget s sound going h e comes = opens s.core (labels_of s.trace) sound.leads (no_fault M program budget s sound going) h e comes
+
+  -- so its handler is there
+  pub next_held : HandsWhatComes P M → (program : P) (budget : ℕ) (s : Standing P S E L) → IsBoardSound M program budget s → s.over ≡ None
+      → (h : Handler E) (e : E) → IsNext M.event_same s.core.table h e → IsSome ((state M s.core).handlers h)
+  next_held opens program budget s sound going h e comes = hand_held s.core h e (hand_open opens program budget s sound going h e comes)
 
   -- and nothing else comes next
   pub comes_once : HandsOneEvent P M → HandsWhatComes P M → (program : P) (budget : ℕ) (s : Standing P S E L) → IsBoardSound M program budget s → s.over ≡ None
@@ -125,3 +132,9 @@ module _ {P S E L : Type 0} {inside now : Standing P S E L} (view : inside ≡ n
 
   pub seen_parked : now.parked ≡ inside.parked
   seen_parked = sym (ap (λ b. b.parked) view)
+
+-- as a contract sees a board that isn't over, a handler for which something comes next is there
+pub held_here : {P S E R A L : Type 0} (M : Machine S E R A L) → HandsWhatComes P M → (program : P) (budget : ℕ) {inside now : Standing P S E L} → inside ≡ now → IsBoardSound M program budget inside → inside.over ≡ None
+    → (h : Handler E) (e : E) → IsNext M.event_same now.core.table h e → IsSome ((state M now.core).handlers h)
+held_here M opens program budget {inside = inside} view sound going h e comes =
+    subst (λ s. IsSome ((state M s.core).handlers h)) view (next_held M opens program budget inside sound going h e (subst (λ s. IsNext M.event_same s.core.table h e) (sym view) comes))

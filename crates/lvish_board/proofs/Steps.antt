@@ -1,13 +1,14 @@
 -- What a step is to a board, over any machine.
-use Rattle.std.proofs.Common.{◌≡◌, inl, inr, ◌<◌, ◌+◌, ℕ, List, [], ◌∷◌, ◌++◌, length, false, is_some, Option, Some, None, refl, sym, ap, subst, ◌∙◌, arith, length-append, option_and_then}
+use Rattle.std.proofs.Common.{◌≡◌, ◌⊎◌, ◌↔◌, inl, inr, ◌<◌, ◌+◌, ℕ, suc, List, [], ◌∷◌, ◌++◌, length, Bool, true, false, is_some, Option, Some, None, refl, sym, ap, subst, ◌∙◌, arith, length-append, option_and_then}
 use Rattle.std.proofs.lemmas.Bool.{false≢true}
 use Rattle.std.proofs.lemmas.List.{length-map, map_push}
-use Rattle.lvish_board.specs.Vocabulary.{Label, Act, ErrorKind, RunError, Stepped, DoneStep, ErrorStep, TraceEntry, Outcome as Over, EndedOver}
+use Rattle.lvish_board.specs.Vocabulary.{Label, Act, ErrorKind, RunError, Stepped, DoneStep, ErrorStep, TraceEntry, Outcome as Over, EndedOver, ErrorOver, Budget}
 use Rattle.lvish_calculus.specs.Machine.{Machine, IsLawful}
 use Rattle.lvish_calculus.specs.Calculus.{Task, Absent, Live, Ended, IsLive, is_live, State, Configuration, Running, Error, Effect, Changes, Fails, Nothing, IsReadyTask, CanStep, after, changed, next, effect, with_task}
 use Rattle.lvish_names.specs.Names.{Name}
 use Rattle.lvish_calculus.specs.Handing.{IsAmong, NoRepeats}
 use Rattle.lvish_calculus.specs.Waiting.{HasWaiting}
+use Rattle.lvish_calculus.proofs.Among.{without, among_without, stays_among, once_without, gone, one_less}
 use Rattle.lvish_calculus.proofs.Steps.{blamed, view}
 use Rattle.lvish_calculus.proofs.Names.{with_task-same}
 use Rattle.lvish_calculus.proofs.Runs.{nothing}
@@ -21,7 +22,7 @@ use Rattle.lvish_board.specs.Acts.{entry_of}
 use Rattle.lvish_board.specs.Place.{TaskPlace}
 use Rattle.lvish_board.specs.Woken.{IsParkedBeside}
 use Rattle.lvish_trace.specs.Traced.{labels_of}
-use Rattle.lvish_board.specs.Standing.{Standing, tasks_of, IsBlocked, IsCurrent, IsBoardSound, OverIs}
+use Rattle.lvish_board.specs.Standing.{Standing, tasks_of, AreAllParked, IsBlocked, IsCurrent, IsBoardSound, OverIs, TellsEnd}
 use Rattle.lvish_board.proofs.Among.{of_map}
 
 -- a task of places is that of one of them
@@ -33,16 +34,66 @@ live_there (Live m f a p) l e = is_live
 live_there Absent l e = absurd cc
 live_there Ended l e = absurd cc
 
+-- what is over in some way isn't over in none
+pub some_over : {X Y : Type 0} (x : X) → Some x ≡ None → Y
+some_over x none = absurd (false≢true (sym (ap is_some none)))
+
+-- a trace shorter than the budget isn't as long
+pub not_full : {n m : ℕ} → n < m → n ≡ m → ⊥
+not_full less same = absurd (omega (arith, less, same))
+
+-- what a core can take by the machine of its board's program, it can take by that of its own, as a contract sees it
+pub can_seen : {P S E R A L : Type 0} (machine : P → Machine S E R A L) (program : P) (c d : CoreView P S E L) (l : Label E) → c.program ≡ program → d ≡ c → CanTake (machine program) c l → CanTake (machine d.program) d l
+can_seen machine program c d l own same can = subst (λ z. CanTake (machine z.program) z l) (sym same) (subst (λ p. CanTake (machine p) c l) (sym own) can)
+
+-- lists of the same names without repeats are as long
+module _ {E : Type 0} (eq : E → E → Bool) (is : (a b : E) → (eq a b ≡ true) ↔ (a ≡ b)) where
+  as_long : (us vs : List (Name E)) → NoRepeats us → NoRepeats vs → ((t : Name E) → IsAmong t us ↔ IsAmong t vs) → length us ≡ length vs
+  as_long [] [] once other same = refl
+  as_long [] (v ∷ vs) once other same = absurd ((same v).1 (inl refl))
+  as_long (u ∷ us) vs once other same =
+      let rest : length us ≡ length (without eq is u vs) = as_long us (without eq is u vs) once.1 (once_without eq is u vs other) (λ t. (
+        λ i. stays_among eq is u t vs (λ e. once.0 (subst (λ z. IsAmong z us) e i)) ((same t).0 (inr i)),
+        λ i. elim ((same t).1 (among_without eq is u t vs i)) [
+          | inl e ↦ absurd (gone eq is u vs other (subst (λ z. IsAmong z (without eq is u vs)) e i))
+          | inr z ↦ z
+        ],
+      )) in
+      ap suc rest ∙ sym (one_less eq is u vs ((same u).0 (inl refl)))
+
 module _ {P S E R A L : Type 0} (M : Machine S E R A L) where
+  -- so many tasks haven't ended, and no other number of them
+  running_once : IsLawful M → (c : CoreView P S E L) (n m : ℕ) → HasRunning M c n → HasRunning M c m → n ≡ m
+  running_once ok c n m a b = sym a.count ∙ as_long M.event_same ok.event_same_is a.names b.names a.once b.once (λ t. (λ i. (b.just t).1 ((a.just t).0 i), λ i. (a.just t).1 ((b.just t).0 i))) ∙ b.count
+
+  -- a board tells no end where another number of tasks is parked than haven't ended, or a handler isn't drained
+  pub tells_none : IsLawful M → (c : CoreView P S E L) (parked running : ℕ) (over : Option (Over E)) → over ≡ None → HasRunning M c running → ((parked ≡ running → ⊥) ⊎ (AreDrained c.table → ⊥)) → TellsEnd M c parked over
+  tells_none ok c parked running over none counted why = subst (λ o. TellsEnd M c parked o) (sym none) (λ all drained. elim why [
+    | inl other ↦ other (running_once ok c parked running all counted)
+    | inr more ↦ more drained
+  ])
+
+  -- parked tasks are live
+  parked_live : (c : CoreView P S E L) (ps : List (TaskPlace E L)) → ((p : TaskPlace E L) → IsAmong p ps → IsBlocked M c p) → (t : Name E) → IsAmong t (tasks_of ps) → IsLive ((state M c).tasks t)
+  parked_live c ps blocked t a =
+      let r = of_task t ps a in
+      live_there ((state M c).tasks t) r.0.from (subst (λ u. local_of ((state M c).tasks u) ≡ Some r.0.from) r.2 (blocked r.0 r.1).current)
+
+  -- where all live tasks are parked, so many haven't ended as are parked
+  all_counted : (c : CoreView P S E L) (ps : List (TaskPlace E L)) → ((p : TaskPlace E L) → IsAmong p ps → IsBlocked M c p) → NoRepeats (tasks_of ps) → ((t : Name E) → IsLive ((state M c).tasks t) → IsAmong t (tasks_of ps)) → HasRunning M c (length ps)
+  all_counted c ps blocked once all = record {
+    names = tasks_of ps;
+    once = once;
+    just = λ t. (parked_live c ps blocked t, all t);
+    count = length-map ps (λ (p : TaskPlace E L). p.task);
+  }
+
   -- the parked tasks wait
   waiting : (c : CoreView P S E L) (ps : List (TaskPlace E L)) → c.fault ≡ None → ((p : TaskPlace E L) → IsAmong p ps → IsBlocked M c p) → NoRepeats (tasks_of ps) → HasWaiting M (state M c) (length ps)
   waiting c ps none blocked once = record {
     names = tasks_of ps;
     once = once;
-    live = λ t a.
-        let r = of_task t ps a in
-        let b = blocked r.0 r.1 in
-        live_there ((state M c).tasks t) r.0.from (subst (λ u. local_of ((state M c).tasks u) ≡ Some r.0.from) r.2 b.current);
+    live = parked_live c ps blocked;
     wait = λ t a ready.
         let r = of_task t ps a in
         let b = blocked r.0 r.1 in
@@ -54,15 +105,17 @@ module _ {P S E R A L : Type 0} (M : Machine S E R A L) where
   -- with the same steps, over in another way, or with others parked
   pub kept_over : {program : P} {budget : ℕ} {trace : List (TraceEntry E)} {c : CoreView P S E L} {over after : Option (Over E)} {ps qs : List (TaskPlace E L)}
       → IsBoardSound M program budget (record { trace = trace; core = c; over = over; parked = ps })
-      → OverIs M budget (record { trace = trace; core = c; over = after; parked = qs }) after → ((p : TaskPlace E L) → IsAmong p qs → IsBlocked M c p) → NoRepeats (tasks_of qs)
+      → OverIs M budget (record { trace = trace; core = c; over = after; parked = qs }) after → (after ≡ None → AreAllParked M (record { trace = trace; core = c; over = after; parked = qs }) → AreDrained c.table → ⊥)
+      → ((p : TaskPlace E L) → IsAmong p qs → IsBlocked M c p) → NoRepeats (tasks_of qs)
       → IsBoardSound M program budget (record { trace = trace; core = c; over = after; parked = qs })
-  kept_over s o blocked once = record {
+  kept_over s o going blocked once = record {
     program_is = s.program_is;
     leads = s.leads;
     counted = s.counted;
     within = s.within;
     bounded = s.bounded;
     over_is = o;
+    not_at_end = going;
     blocked = blocked;
     once = once;
   }
@@ -71,35 +124,38 @@ module _ {P S E R A L : Type 0} (M : Machine S E R A L) where
   pub no_fault : (program : P) (budget : ℕ) (s : Standing P S E L) → IsBoardSound M program budget s → s.over ≡ None → s.core.fault ≡ None
   no_fault program budget s k none = subst (λ o. OverIs M budget s o) none k.over_is
 
-  -- where as many tasks are parked as run and every handler is drained, the board is at an end
-  pub settled : EndsByCounts P M → (program : P) (budget : ℕ) (trace : List (TraceEntry E)) (c : CoreView P S E L) (over : Option (Over E)) (ps : List (TaskPlace E L))
-      → IsBoardSound M program budget (record { trace = trace; core = c; over = over; parked = ps }) → over ≡ None
-      → (n : ℕ) → HasRunning M c n → length ps ≡ n → AreDrained c.table
-      → IsBoardSound M program budget (record { trace = trace; core = c; over = Some EndedOver; parked = ps })
-  settled ends program budget trace c over ps k none n running same drained =
-      let fine = no_fault program budget (record { trace = trace; core = c; over = over; parked = ps }) k none in
-      kept_over k ((ends c (labels_of trace) n k.leads fine running (subst (λ m. HasWaiting M (state M c) m) same (waiting c ps fine k.blocked k.once))).1 drained) k.blocked k.once
+  -- a board that tells its end is over in the way that it is, and at its end
+  pub told_end : EndsByCounts P M → (budget : ℕ) (trace : List (TraceEntry E)) (c : CoreView P S E L) (labels : List (Label E)) (ps : List (TaskPlace E L)) → IsRunTo M c labels → c.fault ≡ None
+      → ((p : TaskPlace E L) → IsAmong p ps → IsBlocked M c p) → NoRepeats (tasks_of ps) → (after : Option (Over E)) → TellsEnd M c (length ps) after
+      → OverIs M budget (record { trace = trace; core = c; over = after; parked = ps }) after
+      × (after ≡ None → AreAllParked M (record { trace = trace; core = c; over = after; parked = ps }) → AreDrained c.table → ⊥)
+  told_end ends budget trace c labels ps leads fine blocked once None tells = (fine, λ none all drained. tells (all_counted c ps blocked once all) drained)
+  told_end ends budget trace c labels ps leads fine blocked once (Some EndedOver) tells = ((ends c labels (length ps) leads fine tells.0 (waiting c ps fine blocked once)).1 tells.1, some_over EndedOver)
+  told_end ends budget trace c labels ps leads fine blocked once (Some (ErrorOver kind v t)) tells = absurd tells
+  told_end ends budget trace c labels ps leads fine blocked once (Some Budget) tells = absurd tells
 
   -- one more parked
-  pub kept_parked : (program : P) (budget : ℕ) (trace : List (TraceEntry E)) (c : CoreView P S E L) (over : Option (Over E)) (ps qs : List (TaskPlace E L)) (p : TaskPlace E L)
+  pub kept_parked : EndsByCounts P M → (program : P) (budget : ℕ) (trace : List (TraceEntry E)) (c : CoreView P S E L) (over after : Option (Over E)) (ps qs : List (TaskPlace E L)) (p : TaskPlace E L)
       → IsBoardSound M program budget (record { trace = trace; core = c; over = over; parked = ps })
-      → IsCurrent M c p → (CanTake M c (Act p.task) → ⊥) → IsParkedBeside ps p qs → NoRepeats (tasks_of qs) → over ≡ None
-      → IsBoardSound M program budget (record { trace = trace; core = c; over = over; parked = qs })
-  kept_parked program budget trace c over ps qs p s current blocked beside once none =
+      → IsCurrent M c p → (CanTake M c (Act p.task) → ⊥) → IsParkedBeside ps p qs → NoRepeats (tasks_of qs) → over ≡ None → TellsEnd M c (length qs) after
+      → IsBoardSound M program budget (record { trace = trace; core = c; over = after; parked = qs })
+  kept_parked ends program budget trace c over after ps qs p s current blocked beside once none tells =
       let fine = no_fault program budget (record { trace = trace; core = c; over = over; parked = ps }) s none in
-      kept_over s (subst (λ o. OverIs M budget (record { trace = trace; core = c; over = o; parked = qs }) o) (sym none) fine) (λ q a. elim ((beside.each q).0 a) [
+      let shut : (q : TaskPlace E L) → IsAmong q qs → IsBlocked M c q = λ q a. elim ((beside.each q).0 a) [
         | inl e ↦ subst (λ z. IsBlocked M c z) (sym e) (record { current = current; blocked = blocked })
         | inr w ↦ s.blocked q w.0
-      ]) once
+      ] in
+      let end = told_end ends budget trace c (labels_of trace) qs s.leads fine shut once after tells in
+      kept_over s end.0 end.1 shut once
 
   -- a step more
   pub kept_step : (program : P) (budget : ℕ) (trace longer : List (TraceEntry E)) (c d : CoreView P S E L) (over after : Option (Over E)) (ps qs : List (TaskPlace E L)) (l : Label E) (worker : ℕ) (said : Stepped)
       → IsBoardSound M program budget (record { trace = trace; core = c; over = over; parked = ps })
       → IsStep M c l d said → length trace < budget → longer ≡ trace ++ entry_of worker l ∷ []
-      → OverIs M budget (record { trace = longer; core = d; over = after; parked = qs }) after
+      → OverIs M budget (record { trace = longer; core = d; over = after; parked = qs }) after → (after ≡ None → AreAllParked M (record { trace = longer; core = d; over = after; parked = qs }) → AreDrained d.table → ⊥)
       → ((p : TaskPlace E L) → IsAmong p qs → IsBlocked M d p) → NoRepeats (tasks_of qs)
       → IsBoardSound M program budget (record { trace = longer; core = d; over = after; parked = qs })
-  kept_step program budget trace longer c d over after ps qs l worker said s step room long o blocked once =
+  kept_step program budget trace longer c d over after ps qs l worker said s step room long o going blocked once =
       let len : length (trace ++ entry_of worker l ∷ []) ≡ length trace + 1 = length-append trace (entry_of worker l ∷ []) in
       let count : length longer ≡ length trace + 1 = ap length long ∙ len in
       record {
@@ -109,6 +165,7 @@ module _ {P S E R A L : Type 0} (M : Machine S E R A L) where
         within = omega (arith, count, room);
         bounded = s.bounded;
         over_is = o;
+        not_at_end = going;
         blocked = blocked;
         once = once;
       }

@@ -1,7 +1,7 @@
 -- What comes of acts.
-use Rattle.std.specs.Prelude.{◌≡◌, ◌⊎◌, ◌↔◌, ◌++◌, ◌∷◌, ℕ, Bool, [], true, false, None, IsSome}
+use Rattle.std.specs.Prelude.{◌≡◌, ◌⊎◌, ◌↔◌, ◌++◌, ◌∷◌, ℕ, Bool, [], true, false, Option, None, IsSome}
 use Rattle.std.specs.declared.cmp.Ordering.{Ordering}
-use Rattle.lvish_board.specs.Vocabulary.{Label, Act, Hand, TraceEntry, Work, Works, ActOn, HandTo, Acted, Over, Stale, Parked, Memory, Next, Gone, Came, CameOver, CameStale, CameParked, CameMemory, CameNext, CameGone}
+use Rattle.lvish_board.specs.Vocabulary.{Label, Act, Hand, TraceEntry, Outcome, Work, Works, ActOn, HandTo, Acted, Over, Stale, Parked, Memory, Next, Gone, Came, CameOver, CameStale, CameParked, CameMemory, CameNext, CameGone}
 use Rattle.lvish_calculus.specs.Machine.{Machine}
 use Rattle.lvish_names.specs.Names.{Name, Handler}
 use Rattle.lvish_core.specs.Core.{CoreView, state}
@@ -38,6 +38,21 @@ is_stale _ = false
 abbrev pub is_parked : {P J S L R A W E : Type 0} → Acted P J S L R A W E → Bool
 is_parked Parked = true
 is_parked _ = false
+
+-- memory was refused
+abbrev pub is_memory : {P J S L R A W E : Type 0} → Acted P J S L R A W E → Bool
+is_memory (Memory w) = true
+is_memory _ = false
+
+-- which answer comes, the first of these: the board was over; the task isn't there at this state, or there is no such handler; its step can't be made; the budget is used up, by which the board is over too;
+-- memory was refused, to a step or to the parking of a task whose step can't be made; a step was made
+abbrev pub ComesInOrder : {P J S L R A W E : Type 0} → (Stands Can Full : Type 0) → Option (Outcome E) → Acted P J S L R A W E → Type 0
+ComesInOrder Stands Can Full over Over = IsSome over ⊎ (Stands × Can × Full)
+ComesInOrder Stands Can Full over Stale = (over ≡ None) × (Stands → ⊥)
+ComesInOrder Stands Can Full over Parked = (over ≡ None) × Stands × (Can → ⊥)
+ComesInOrder Stands Can Full over (Memory w) = (over ≡ None) × Stands × (Can → Full → ⊥)
+ComesInOrder Stands Can Full over (Next ws) = (over ≡ None) × Stands × Can × (Full → ⊥)
+ComesInOrder Stands Can Full over (Gone ws) = (over ≡ None) × Stands × Can × (Full → ⊥)
 
 -- what came of this work, with it where memory was refused, and with the work that a step left
 abbrev pub with_work : {P J S L R A W E : Type 0} → Came → Work P J S L R A W E → Works P J S L R A W E → Acted P J S L R A W E
@@ -89,8 +104,9 @@ abbrev pub HasNoOwn : {P J S L R A W E : Type 0} → Acted P J S L R A W E → T
 HasNoOwn (Next ws) = ws.own ≡ None
 HasNoOwn _ = Unit {0}
 
--- all that `act` says of its answer, clause by clause, in one: Stands says that the task is at its state, Can that its step can be made
-pub record ComesOfAct {P' P J S L R A W E Ans : Type 0} (cmp : E → E → Ordering) (M : Machine S E R Ans L) (Stands Can : Type 0) (worker : ℕ) (asked : TaskPlace E L) (old new : Standing P' S E L) (result : Acted P J S L R A W E) : Type 0 where
+-- all that `act` says of its answer, clause by clause, in one: Stands says that the task is at its state, Can that its step can be made, Full that the budget is used up
+pub record ComesOfAct {P' P J S L R A W E Ans : Type 0} (cmp : E → E → Ordering) (M : Machine S E R Ans L) (Stands Can Full : Type 0) (worker : ℕ) (asked : TaskPlace E L) (old new : Standing P' S E L) (result : Acted P J S L R A W E) : Type 0 where
+  pub order : ComesInOrder Stands Can Full old.over result
   pub stays : is_step result ≡ false → (new.trace ≡ old.trace) × (new.core ≡ old.core)
   pub step : is_step result ≡ true → new.trace ≡ old.trace ++ entry_of worker (Act asked.task) ∷ []
   pub gone : is_step result ≡ true → (is_gone result ≡ true) ↔ IsDone M new.core asked.task
@@ -99,35 +115,35 @@ pub record ComesOfAct {P' P J S L R A W E Ans : Type 0} (cmp : E → E → Order
   pub own : HasOwn result
   pub over : is_over result ≡ true → IsSome new.over
   pub done : IsSome old.over → (result ≡ Over) × (new ≡ old)
-  pub stale : is_stale result ≡ true → (Stands → ⊥) × (new ≡ old)
-  pub parked : is_parked result ≡ true → (Can → ⊥) × IsParkedBeside old.parked asked new.parked
+  pub stale : is_stale result ≡ true → new ≡ old
+  pub parked : is_parked result ≡ true → IsParkedBeside old.parked asked new.parked
   pub memory : GivesBack (ActOn asked) result × KeepsAtMemory old new result
 
--- all that `hand` says of its answer, clause by clause, in one: Held says that there is such a handler, Next which event comes next for it
-pub record ComesOfHand {P' P J S L R A W E Ans : Type 0} (cmp : E → E → Ordering) (M : Machine S E R Ans L) (Held : Type 0) (Next : E → Type 0) (worker : ℕ) (handler : Handler E) (old new : Standing P' S E L) (result : Acted P J S L R A W E) : Type 0 where
+-- all that `hand` says of its answer, clause by clause, in one: Held says that there is such a handler, Next which event comes next for it, Full that the budget is used up
+pub record ComesOfHand {P' P J S L R A W E Ans : Type 0} (cmp : E → E → Ordering) (M : Machine S E R Ans L) (Held : Type 0) (Next : E → Type 0) (Full : Type 0) (worker : ℕ) (handler : Handler E) (old new : Standing P' S E L) (result : Acted P J S L R A W E) : Type 0 where
+  pub order : ComesInOrder Held ((e : E) × Next e) Full old.over result
   pub stays : is_step result ≡ false → (new.trace ≡ old.trace) × (new.core ≡ old.core) × (new.parked ≡ old.parked)
-  pub step : is_step result ≡ true → (e : E) → Next e → new.trace ≡ old.trace ++ entry_of worker (Hand handler e) ∷ []
+  pub step : is_step result ≡ true → (e : E) × Next e × (new.trace ≡ old.trace ++ entry_of worker (Hand handler e) ∷ []) × ListsWork cmp M old (Hand handler e) new result × NotesStep (Hand handler e) new result
   pub gone : is_gone result ≡ false
-  pub list : (e : E) → Next e → ListsWork cmp M old (Hand handler e) new result
-  pub noted : (e : E) → Next e → NotesStep (Hand handler e) new result
   pub own : HasNoOwn result
   pub over : is_over result ≡ true → IsSome new.over
   pub done : IsSome old.over → (result ≡ Over) × (new ≡ old)
-  pub stale : is_stale result ≡ true → (Held → ⊥) × (new ≡ old)
-  pub parked : is_parked result ≡ true → ((e : E) → Next e → ⊥) × (new ≡ old)
+  pub stale : is_stale result ≡ true → new ≡ old
+  pub parked : is_parked result ≡ true → new ≡ old
   pub memory : GivesBack (HandTo handler) result × KeepsAtMemory old new result
+  pub refused : is_memory result ≡ true → (e : E) × Next e
 
--- what comes of an act whose step isn't made, which leaves trace and core: Can says that it can be made
-abbrev pub ComesOfNoAct : {P S E L : Type 0} → Type 0 → TaskPlace E L → Standing P S E L → Standing P S E L → Came → Type 0
-ComesOfNoAct Can asked old new CameOver = IsSome new.over
-ComesOfNoAct Can asked old new CameParked = (Can → ⊥) × IsParkedBeside old.parked asked new.parked
-ComesOfNoAct Can asked old new CameMemory = new ≡ old
-ComesOfNoAct Can asked old new _ = ⊥
+-- what comes of an act whose step isn't made, which leaves trace and core: Can says that it can be made, Full that the budget is used up
+abbrev pub ComesOfNoAct : {P S E L : Type 0} → (Can Full : Type 0) → TaskPlace E L → Standing P S E L → Standing P S E L → Came → Type 0
+ComesOfNoAct Can Full asked old new CameOver = Can × Full × IsSome new.over
+ComesOfNoAct Can Full asked old new CameParked = (Can → ⊥) × IsParkedBeside old.parked asked new.parked
+ComesOfNoAct Can Full asked old new CameMemory = (Can → Full → ⊥) × (new ≡ old)
+ComesOfNoAct Can Full asked old new _ = ⊥
 
--- what comes of a handing that isn't made, which leaves trace, core and parked tasks: Held says that there is such a handler, IsNext which event comes next for it
-abbrev pub ComesOfNoHanding : {P S E L : Type 0} → Type 0 → (E → Type 0) → Standing P S E L → Standing P S E L → Came → Type 0
-ComesOfNoHanding Held IsNext old new CameOver = IsSome new.over
-ComesOfNoHanding Held IsNext old new CameStale = (Held → ⊥) × (new ≡ old)
-ComesOfNoHanding Held IsNext old new CameParked = ((e : _) → IsNext e → ⊥) × (new ≡ old)
-ComesOfNoHanding Held IsNext old new CameMemory = new ≡ old
-ComesOfNoHanding Held IsNext old new _ = ⊥
+-- what comes of a handing that isn't made, which leaves trace, core and parked tasks: Held says that there is such a handler, IsNext which event comes next for it, Full that the budget is used up
+abbrev pub ComesOfNoHanding : {P S E L : Type 0} → Type 0 → (E → Type 0) → Type 0 → Standing P S E L → Standing P S E L → Came → Type 0
+ComesOfNoHanding Held IsNext Full old new CameOver = ((e : _) × IsNext e) × Full × IsSome new.over
+ComesOfNoHanding Held IsNext Full old new CameStale = (Held → ⊥) × (new ≡ old)
+ComesOfNoHanding Held IsNext Full old new CameParked = Held × ((e : _) → IsNext e → ⊥) × (new ≡ old)
+ComesOfNoHanding Held IsNext Full old new CameMemory = ((e : _) × IsNext e) × (Full → ⊥) × (new ≡ old)
+ComesOfNoHanding Held IsNext Full old new _ = ⊥

@@ -1,4 +1,4 @@
-ghost use Rattle.std.specs.Prelude.{◌≡◌, ◌<◌, ◌≤◌, ◌+◌, ◌++◌, [], None, IfOk, vec_len, vec_capacity};
+ghost use Rattle.std.specs.Prelude.{◌≡◌, ◌<◌, ◌≤◌, ◌+◌, ◌++◌, [], None, IfErr, IfOk, vec_len, vec_capacity};
 ghost use Rattle.lvish_board.specs.Listed.{works_of, stretches, acts, handings, option_list};
 
 use crate::asked::Asked;
@@ -9,7 +9,7 @@ use lvish_calculus::Program;
 use lvish_lattice::Lattice;
 use lvish_names::HandlerName;
 use lvish_trace::Step;
-use std::alloc::{AllocError, Global};
+use std::alloc::Global;
 
 /// The work that a step leaves, in this order. All of it is to be done, by whomever and in any order.
 #[derive(Drop)]
@@ -63,10 +63,19 @@ impl<P: Program, J: Named<P>> Works<P, J> {
     ///
     /// # Errors
     ///
-    /// Where there is no room for it.
-    pub fn into_list(self, alloc: Global) -> Result<Vec<Work<P, J>>, AllocError>
-        ensures { IfOk result (λ v. v.items ≡ works_of self) }
+    /// Where there is no room for it, the work.
+    pub fn into_list(self, alloc: Global) -> Result<Vec<Work<P, J>>, Works<P, J>>
+        ensures ok { IfOk result (λ v. v.items ≡ works_of self) }
+        ensures err { IfErr result (λ w. w ≡ self) }
     {
+        let most = self
+            .woken
+            .len()
+            .saturating_add(self.hands.len())
+            .saturating_add(2);
+        let Ok(mut list) = Vec::with_capacity(alloc, most) else {
+            return Err(self);
+        };
         let Works {
             step: _,
             own,
@@ -75,8 +84,6 @@ impl<P: Program, J: Named<P>> Works<P, J> {
             woken,
             hands,
         } = self;
-        let most = woken.len().saturating_add(hands.len()).saturating_add(2);
-        let mut list = Vec::with_capacity(alloc, most)?;
         list_ticket(&mut list, own);
         list_ticket(&mut list, made);
         list_acts(&mut list, woken);

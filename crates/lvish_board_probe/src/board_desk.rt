@@ -6,7 +6,7 @@ use crate::calls::write_answers;
 use crate::desk::{Desk, Told};
 use crate::seat::Seat;
 use crate::text::{write_machine, write_outcome};
-use lvish_board::{Acted, Board, Named, Place, Ticket, Work, stretch};
+use lvish_board::{Acted, Board, Named, Place, Ticket, Work, Works, stretch};
 use lvish_calculus::Program;
 use lvish_core::MOST_STEPS;
 use lvish_history::Opened;
@@ -107,6 +107,21 @@ fn told_ticket<P: Program, J: Named<P>>(
     }
 }
 
+/// The work in a list; asked for again where a growth is refused.
+fn listed<P: Program, J: Named<P>>(
+    alloc: Global,
+    works: Works<P, J>,
+) -> Result<Vec<Work<P, J>>, AllocError> {
+    let works = match works.into_list(alloc) {
+        Ok(list) => return Ok(list),
+        Err(works) => works,
+    };
+    match works.into_list(alloc) {
+        Ok(list) => Ok(list),
+        Err(_works) => Err(AllocError),
+    }
+}
+
 /// What was answered, with the work that is left listed.
 fn told_of<P: Program, J: Named<P>>(
     alloc: Global,
@@ -117,8 +132,8 @@ fn told_of<P: Program, J: Named<P>>(
         Acted::Stale => Ok(Told::Stale),
         Acted::Parked => Ok(Told::Parked),
         Acted::Memory(work) => Ok(Told::Memory(work)),
-        Acted::Next(works) => Ok(Told::Next(works.into_list(alloc)?)),
-        Acted::Gone(works) => Ok(Told::Gone(works.into_list(alloc)?)),
+        Acted::Next(works) => Ok(Told::Next(listed(alloc, works)?)),
+        Acted::Gone(works) => Ok(Told::Gone(listed(alloc, works)?)),
     }
 }
 

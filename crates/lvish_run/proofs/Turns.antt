@@ -10,14 +10,21 @@ use Rattle.lvish_core.specs.Core.{CoreView, CanTake, IsNext}
 use Rattle.lvish_core.specs.CoreLaws.{HandsOneEvent, HandsWhatComes}
 use Rattle.lvish_core.specs.Labels.{AreLabels}
 use Rattle.lvish_board.specs.Acts.{entry_of}
+use Rattle.lvish_board.specs.Listed.{IsListed}
+use Rattle.lvish_board.specs.Vocabulary.{Work}
 use Rattle.lvish_trace.specs.Traced.{labels_of}
 use Rattle.lvish_board.specs.Standing.{Standing, IsBoardSound, IsBlocked}
 use Rattle.lvish_board.specs.Place.{TaskPlace}
 use Rattle.lvish_run.specs.Agenda.{Agenda, open_in, NoTask, IsTaskGone, IsHandlerGone, IsBeside}
-use Rattle.lvish_run.specs.Walk.{IsStuck, IsDrawn, IsFirstEnabled, IsIdle, IsActed, IsHandTurn, IsFirstHandler, IsTurn}
+use Rattle.lvish_run.specs.Walk.{IsStuck, IsDrawn, IsFirstEnabled, IsIdle, IsMade, IsActed, IsHandTurn, IsFirstHandler, IsTurn}
 use Rattle.lvish_run.proofs.Reports.{chosen_can}
 use Rattle.lvish_board.proofs.Handing.{hand_open}
 use Rattle.lvish_run.proofs.Firsts.{lowest_task, lowest_handler, without_handler, drained}
+
+-- the event that a handing handed, by another name
+pub handing_made : {P' P J S L R A W E Ans : Type 0} {cmp : E → E → Ordering} {M : Machine S E R Ans L} {old new : Standing P' S E L} {h : Handler E} {e f : E} {ws : List (Work P J S L R A W E)} → e ≡ f
+    → new.trace ≡ old.trace ++ entry_of 0 (Hand h e) ∷ [] → IsListed cmp M old (Hand h e) new ws → IsMade cmp M old (Hand h f) new ws
+handing_made {cmp = cmp} {M = M} {old = old} {new = new} {h = h} {ws = ws} same entered listed = subst (λ x. IsMade cmp M old (Hand h x) new ws) same (record { entered = entered; listed = listed })
 
 -- ---- labels that picks name
 

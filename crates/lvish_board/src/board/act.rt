@@ -3,12 +3,13 @@
 ghost use Rattle.std.specs.Prelude.{◌≡◌, ◌≢◌, ◌++◌, ◌∷◌, ◌↔◌, [], true, false, length, None, Some, IfOk, IfErr, IsSome, IsTrue, MatchOption};
 ghost use Rattle.lvish_calculus.specs.declared.label.Label.TheVariants.{Act};
 ghost use Rattle.lvish_board.specs.declared.work.Work.TheVariants.{Act as ActOn};
-ghost use Rattle.lvish_board.specs.Acts.{entry_of, is_step, is_gone, is_over, is_stale, is_parked, GivesBack, ComesOfAct, ComesOfNoAct, IsDone, HasOwn, ListsWork, KeepsAtMemory, NotesStep, with_work};
+ghost use Rattle.lvish_board.specs.Acts.{entry_of, is_step, is_gone, is_over, is_stale, is_parked, GivesBack, ComesInOrder, ComesOfAct, ComesOfNoAct, IsDone, HasOwn, ListsWork, KeepsAtMemory, NotesStep, with_work};
 ghost use Rattle.lvish_core.specs.Tasks.{IsAt};
 ghost use Rattle.lvish_board.specs.Place.{TaskPlace};
 ghost use Rattle.lvish_board.specs.Woken.{IsParkedBeside};
 
 use super::Board;
+use super::settle::settle;
 use crate::acted::Acted;
 use crate::asked::Asked;
 use crate::came::Came;
@@ -16,6 +17,7 @@ use crate::named::Named;
 use crate::work::Work;
 use crate::works::Works;
 use lvish_calculus::{Meaning, Program};
+use lvish_core::laws::waiting_tasks;
 use lvish_core::{CoreMeaning, TaskNumbers};
 use lvish_trace::{Outcome, Step};
 use std::alloc::Global;
@@ -23,6 +25,9 @@ use std::alloc::Global;
 impl<'p, P: Program, J: Named<P>> Board<'p, P, J> {
     /// Makes what the task asks for, by this worker.
     pub fn act(&mut self, alloc: Global, worker: usize, asked: Asked<P, J>) -> Acted<P, J>
+        // The board was over; the task isn't at this state; it is blocked; the budget is used up; memory was refused, to
+        // a step or to the parking of a blocked task; a step was made: the first of these.
+        ensures order { ComesInOrder (⟦<P as CoreMeaning>⟧.local_in self.old.core asked.task ≡ Some asked.from) (⟦<P as CoreMeaning>⟧.can_take self.old.core (Act asked.task)) (length self.old.trace ≡ J.budget) self.old.over result }
         // Without a step neither the trace nor the core changes.
         ensures stays { is_step result ≡ false → (self.new.trace ≡ self.old.trace) × (self.new.core ≡ self.old.core) }
         // A step adds itself to the trace.
@@ -36,8 +41,8 @@ impl<'p, P: Program, J: Named<P>> Board<'p, P, J> {
         // A board that is over stays as it is.
         ensures over { is_over result ≡ true → IsSome self.new.over }
         ensures done { IsSome self.old.over → (result ≡ Acted.Over) × (self.new ≡ self.old) }
-        ensures stale { is_stale result ≡ true → (⟦<P as CoreMeaning>⟧.local_in self.old.core asked.task ≢ Some asked.from) × (self.new ≡ self.old) }
-        ensures parked { is_parked result ≡ true → (⟦<P as CoreMeaning>⟧.can_take self.old.core (Act asked.task) → ⊥) × IsParkedBeside self.old.parked asked self.new.parked }
+        ensures stale { is_stale result ≡ true → self.new ≡ self.old }
+        ensures parked { is_parked result ≡ true → IsParkedBeside self.old.parked asked self.new.parked }
         ensures memory { GivesBack (ActOn asked) result × KeepsAtMemory self.old self.new result }
     {
         let mut place = Some(asked);
@@ -58,7 +63,7 @@ impl<'p, P: Program, J: Named<P>> Board<'p, P, J> {
     ) -> Came
         requires there { IsSome asked.old }
         // All that `act` ensures, of this answer and this work.
-        ensures comes { (a : TaskPlace P.Lat.Event P.Local) → asked.old ≡ Some a → ComesOfAct P.Lat.Event.cmp (⟦<P as Meaning>⟧.machine J.program) (⟦<P as CoreMeaning>⟧.local_in self.old.core a.task ≡ Some a.from) (⟦<P as CoreMeaning>⟧.can_take self.old.core (Act a.task)) worker a self.old self.new (with_work result (ActOn a) works.new) }
+        ensures comes { (a : TaskPlace P.Lat.Event P.Local) → asked.old ≡ Some a → ComesOfAct P.Lat.Event.cmp (⟦<P as Meaning>⟧.machine J.program) (⟦<P as CoreMeaning>⟧.local_in self.old.core a.task ≡ Some a.from) (⟦<P as CoreMeaning>⟧.can_take self.old.core (Act a.task)) (length self.old.trace ≡ J.budget) worker a self.old self.new (with_work result (ActOn a) works.new) }
         // Where memory was refused the task is in its place.
         ensures back { result ≡ Came.Memory → asked.new ≡ asked.old }
     {
@@ -97,7 +102,7 @@ impl<'p, P: Program, J: Named<P>> Board<'p, P, J> {
         works: &mut Works<P, J>,
     ) -> Came
         requires there { IsSome asked.old }
-        ensures comes { (a : TaskPlace P.Lat.Event P.Local) → asked.old ≡ Some a → ComesOfAct P.Lat.Event.cmp (⟦<P as Meaning>⟧.machine J.program) (⟦<P as CoreMeaning>⟧.local_in self.old.core a.task ≡ Some a.from) (⟦<P as CoreMeaning>⟧.can_take self.old.core (Act a.task)) worker a self.old self.new (with_work result (ActOn a) works.new) }
+        ensures comes { (a : TaskPlace P.Lat.Event P.Local) → asked.old ≡ Some a → ComesOfAct P.Lat.Event.cmp (⟦<P as Meaning>⟧.machine J.program) (⟦<P as CoreMeaning>⟧.local_in self.old.core a.task ≡ Some a.from) (⟦<P as CoreMeaning>⟧.can_take self.old.core (Act a.task)) (length self.old.trace ≡ J.budget) worker a self.old self.new (with_work result (ActOn a) works.new) }
         ensures back { result ≡ Came.Memory → asked.new ≡ asked.old }
     {
         if self.over.is_some() {
@@ -139,7 +144,7 @@ impl<'p, P: Program, J: Named<P>> Board<'p, P, J> {
         requires at { (a : TaskPlace P.Lat.Event P.Local) → place.old ≡ Some a → IsAt self.old.core.table.tasks index a.task }
         ensures trace { self.new.trace ≡ self.old.trace }
         ensures core { self.new.core ≡ self.old.core }
-        ensures came { (a : TaskPlace P.Lat.Event P.Local) → place.old ≡ Some a → ComesOfNoAct (⟦<P as CoreMeaning>⟧.can_take self.old.core (Act a.task)) a self.old self.new result }
+        ensures came { (a : TaskPlace P.Lat.Event P.Local) → place.old ≡ Some a → ComesOfNoAct (⟦<P as CoreMeaning>⟧.can_take self.old.core (Act a.task)) (length self.old.trace ≡ J.budget) a self.old self.new result }
         ensures back { result ≡ Came.Memory → place.new ≡ place.old }
     {
         let Some(asked) = place.as_ref() else {
@@ -152,7 +157,8 @@ impl<'p, P: Program, J: Named<P>> Board<'p, P, J> {
         Came::Over
     }
 
-    /// What comes of an act for whose step there is no memory, where the task may be blocked besides.
+    /// What comes of an act for whose step there is no memory, where the task may be blocked besides and the
+    /// budget isn't used up.
     #[inline(never)]
     fn not_made(
         &mut self,
@@ -167,7 +173,7 @@ impl<'p, P: Program, J: Named<P>> Board<'p, P, J> {
         requires at { (a : TaskPlace P.Lat.Event P.Local) → place.old ≡ Some a → IsAt self.old.core.table.tasks index a.task }
         ensures trace { self.new.trace ≡ self.old.trace }
         ensures core { self.new.core ≡ self.old.core }
-        ensures came { (a : TaskPlace P.Lat.Event P.Local) → place.old ≡ Some a → ComesOfNoAct (⟦<P as CoreMeaning>⟧.can_take self.old.core (Act a.task)) a self.old self.new result }
+        ensures came { (a : TaskPlace P.Lat.Event P.Local) → place.old ≡ Some a → (length self.old.trace ≡ J.budget → ⊥) → ComesOfNoAct (⟦<P as CoreMeaning>⟧.can_take self.old.core (Act a.task)) (length self.old.trace ≡ J.budget) a self.old self.new result }
         ensures back { result ≡ Came.Memory → place.new ≡ place.old }
     {
         let Some(asked) = place.as_ref() else {
@@ -228,14 +234,15 @@ impl<'p, P: Program, J: Named<P>> Board<'p, P, J> {
         requires blocked { (a : TaskPlace P.Lat.Event P.Local) → place.old ≡ Some a → ⟦<P as CoreMeaning>⟧.can_take self.old.core (Act a.task) → ⊥ }
         ensures trace { self.new.trace ≡ self.old.trace }
         ensures core { self.new.core ≡ self.old.core }
-        ensures came { (a : TaskPlace P.Lat.Event P.Local) → place.old ≡ Some a → ComesOfNoAct (⟦<P as CoreMeaning>⟧.can_take self.old.core (Act a.task)) a self.old self.new result }
+        ensures came { (a : TaskPlace P.Lat.Event P.Local) → place.old ≡ Some a → ComesOfNoAct (⟦<P as CoreMeaning>⟧.can_take self.old.core (Act a.task)) (length self.old.trace ≡ J.budget) a self.old self.new result }
         ensures back { result ≡ Came.Memory → place.new ≡ place.old }
     {
+        waiting_tasks::<P>();
         self.core.each_task_once();
         *spare = rest_in(place);
         match self.parked.park(alloc, index, place) {
             Ok(()) => {
-                self.settle();
+                settle(&self.core, &self.parked, &mut self.over);
                 Came::Parked
             }
             Err(_refused) => Came::Memory,

@@ -3,13 +3,15 @@
 ghost use Rattle.std.specs.Prelude.{◌≡◌, ◌<◌, ◌≤◌, ◌+◌, ◌++◌, ◌∷◌, ◌↔◌, [], true, false, length, None, Some, IfOk, IfErr, IsSome, IsTrue, MatchOption, vec_capacity};
 ghost use Rattle.lvish_calculus.specs.declared.label.Label.TheVariants.{Hand};
 ghost use Rattle.lvish_board.specs.declared.work.Work.TheVariants.{Hand as HandTo};
+ghost use Rattle.lvish_board.specs.declared.acted.Acted.TheVariants.{Next};
 ghost use Rattle.lvish_core.specs.declared.fault.Stepped.{Stepped};
 ghost use Rattle.lvish_core.specs.Handed.{IsHanded};
-ghost use Rattle.lvish_board.specs.Acts.{entry_of, is_step, is_gone, is_over, is_stale, is_parked, GivesBack, ComesOfHand, ComesOfNoHanding, HasNoOwn, ListsWork, KeepsAtMemory, NotesStep, with_work};
+ghost use Rattle.lvish_board.specs.Acts.{entry_of, is_step, is_gone, is_memory, is_over, is_stale, is_parked, GivesBack, ComesInOrder, ComesOfHand, ComesOfNoHanding, HasNoOwn, ListsWork, KeepsAtMemory, NotesStep, with_work};
 ghost use Rattle.lvish_names.specs.Names.{Handler};
 
 use super::Board;
 use super::make::has_all_variables;
+use super::settle::settle;
 use crate::acted::Acted;
 use crate::came::Came;
 use crate::list::{OwnWork, leave, ticket_of};
@@ -34,21 +36,24 @@ impl<'p, P: Program, J: Named<P>> Board<'p, P, J> {
         worker: usize,
         handler: HandlerName<<P::Lat as Lattice>::Event>,
     ) -> Acted<P, J>
+        // The board was over; there is no such handler; nothing comes next for it; the budget is used up; memory was
+        // refused; a step was made: the first of these.
+        ensures order { ComesInOrder (⟦<P as CoreMeaning>⟧.is_held self.old.core handler) ((e : P.Lat.Event) × ⟦<P as CoreMeaning>⟧.is_next self.old.core handler e) (length self.old.trace ≡ J.budget) self.old.over result }
         // Without a step neither the trace, the core nor the parked tasks change.
         ensures stays { is_step result ≡ false → (self.new.trace ≡ self.old.trace) × (self.new.core ≡ self.old.core) × (self.new.parked ≡ self.old.parked) }
-        // A step hands what came next, and adds itself to the trace.
-        ensures step { is_step result ≡ true → (e : P.Lat.Event) → ⟦<P as CoreMeaning>⟧.is_next self.old.core handler e → self.new.trace ≡ self.old.trace ++ entry_of worker (Hand handler e) ∷ [] }
+        // A step hands what came next, adds itself to the trace, and leaves its work.
+        ensures step { is_step result ≡ true → (e : P.Lat.Event) × ⟦<P as CoreMeaning>⟧.is_next self.old.core handler e × (self.new.trace ≡ self.old.trace ++ entry_of worker (Hand handler e) ∷ []) × ListsWork P.Lat.Event.cmp (⟦<P as Meaning>⟧.machine J.program) self.old (Hand handler e) self.new result × NotesStep (Hand handler e) self.new result }
         ensures gone { is_gone result ≡ false }
-        ensures list { (e : P.Lat.Event) → ⟦<P as CoreMeaning>⟧.is_next self.old.core handler e → ListsWork P.Lat.Event.cmp (⟦<P as Meaning>⟧.machine J.program) self.old (Hand handler e) self.new result }
-        ensures noted { (e : P.Lat.Event) → ⟦<P as CoreMeaning>⟧.is_next self.old.core handler e → NotesStep (Hand handler e) self.new result }
         // No task has acted.
         ensures own { HasNoOwn result }
         // A board that is over stays as it is.
         ensures over { is_over result ≡ true → IsSome self.new.over }
         ensures done { IsSome self.old.over → (result ≡ Acted.Over) × (self.new ≡ self.old) }
-        ensures stale { is_stale result ≡ true → (⟦<P as CoreMeaning>⟧.is_held self.old.core handler → ⊥) × (self.new ≡ self.old) }
-        ensures parked { is_parked result ≡ true → ((e : P.Lat.Event) → ⟦<P as CoreMeaning>⟧.is_next self.old.core handler e → ⊥) × (self.new ≡ self.old) }
+        ensures stale { is_stale result ≡ true → self.new ≡ self.old }
+        ensures parked { is_parked result ≡ true → self.new ≡ self.old }
         ensures memory { GivesBack (HandTo handler) result × KeepsAtMemory self.old self.new result }
+        // Memory is refused to a step alone.
+        ensures refused { is_memory result ≡ true → (e : P.Lat.Event) × ⟦<P as CoreMeaning>⟧.is_next self.old.core handler e }
     {
         let mut place = Some(handler);
         let mut left = Works::none(alloc, Step::Hand(0));
@@ -67,19 +72,21 @@ impl<'p, P: Program, J: Named<P>> Board<'p, P, J> {
     ) -> Came
         requires there { IsSome handler.old }
         // All that `hand` ensures, of this answer and this work.
-        ensures comes { (h : Handler P.Lat.Event) → handler.old ≡ Some h → ComesOfHand P.Lat.Event.cmp (⟦<P as Meaning>⟧.machine J.program) (⟦<P as CoreMeaning>⟧.is_held self.old.core h) (⟦<P as CoreMeaning>⟧.is_next self.old.core h) worker h self.old self.new (with_work result (HandTo h) works.new) }
+        ensures comes { (h : Handler P.Lat.Event) → handler.old ≡ Some h → ComesOfHand P.Lat.Event.cmp (⟦<P as Meaning>⟧.machine J.program) (⟦<P as CoreMeaning>⟧.is_held self.old.core h) (⟦<P as CoreMeaning>⟧.is_next self.old.core h) (length self.old.trace ≡ J.budget) worker h self.old self.new (with_work result (HandTo h) works.new) }
         // Where memory was refused the handler is in its place.
         ensures back { result ≡ Came.Memory → handler.new ≡ handler.old }
     {
+        hands_one_event::<P>();
         if self.over.is_some() {
             return Came::Over;
         }
         if self.trace.len() as u64 >= self.budget {
             return self.hand_no_more(handler);
         }
-        match self.make_hand(alloc, worker, handler, works) {
-            Came::Memory => self.not_handed(handler),
-            came => came,
+        if self.make_hand(alloc, worker, handler, works) {
+            Came::Next
+        } else {
+            self.not_handed(handler)
         }
     }
 
@@ -91,7 +98,7 @@ impl<'p, P: Program, J: Named<P>> Board<'p, P, J> {
         requires used { length self.old.trace ≡ J.budget }
         requires there { IsSome place.now }
         ensures stays { (self.new.trace ≡ self.old.trace) × (self.new.core ≡ self.old.core) × (self.new.parked ≡ self.old.parked) }
-        ensures came { (h : Handler P.Lat.Event) → place.now ≡ Some h → ComesOfNoHanding (⟦<P as CoreMeaning>⟧.is_held self.old.core h) (⟦<P as CoreMeaning>⟧.is_next self.old.core h) self.old self.new result }
+        ensures came { (h : Handler P.Lat.Event) → place.now ≡ Some h → ComesOfNoHanding (⟦<P as CoreMeaning>⟧.is_held self.old.core h) (⟦<P as CoreMeaning>⟧.is_next self.old.core h) (length self.old.trace ≡ J.budget) self.old self.new result }
     {
         hands_one_event::<P>();
         let Some(handler) = place.as_ref() else {
@@ -104,11 +111,12 @@ impl<'p, P: Program, J: Named<P>> Board<'p, P, J> {
         Came::Over
     }
 
-    /// What comes of a handing that isn't made: nothing comes next, or there is no memory.
+    /// What comes of a handing that isn't made where the budget isn't used up: nothing comes next, or there is
+    /// no memory.
     #[inline(never)]
     fn not_handed(&self, place: &Option<HandlerName<<P::Lat as Lattice>::Event>>) -> Came
         requires there { IsSome place.now }
-        ensures { (h : Handler P.Lat.Event) → place.now ≡ Some h → ComesOfNoHanding (⟦<P as CoreMeaning>⟧.is_held self.now.core h) (⟦<P as CoreMeaning>⟧.is_next self.now.core h) self.now self.now result }
+        ensures { (h : Handler P.Lat.Event) → place.now ≡ Some h → (length self.now.trace ≡ J.budget → ⊥) → ComesOfNoHanding (⟦<P as CoreMeaning>⟧.is_held self.now.core h) (⟦<P as CoreMeaning>⟧.is_next self.now.core h) (length self.now.trace ≡ J.budget) self.now self.now result }
     {
         let Some(handler) = place.as_ref() else {
             unreachable!()
@@ -122,7 +130,7 @@ impl<'p, P: Program, J: Named<P>> Board<'p, P, J> {
     /// What comes of a handing where nothing comes next for the handler.
     fn idle(&self, handler: &HandlerName<<P::Lat as Lattice>::Event>) -> Came
         requires drained { (e : P.Lat.Event) → ⟦<P as CoreMeaning>⟧.is_next self.now.core handler.now e → ⊥ }
-        ensures { ComesOfNoHanding (⟦<P as CoreMeaning>⟧.is_held self.now.core handler.now) (⟦<P as CoreMeaning>⟧.is_next self.now.core handler.now) self.now self.now result }
+        ensures { ComesOfNoHanding (⟦<P as CoreMeaning>⟧.is_held self.now.core handler.now) (⟦<P as CoreMeaning>⟧.is_next self.now.core handler.now) (length self.now.trace ≡ J.budget) self.now self.now result }
     {
         if self.holds(handler) {
             Came::Parked
@@ -148,7 +156,8 @@ impl<'p, P: Program, J: Named<P>> Board<'p, P, J> {
         self.core.next(handler)
     }
 
-    /// Makes the handing of what comes next. Where it isn't made, nothing has changed.
+    /// Makes the handing of what comes next, and answers whether it did. Where it isn't made, nothing has
+    /// changed.
     #[inline(always)]
     fn make_hand(
         &mut self,
@@ -156,15 +165,14 @@ impl<'p, P: Program, J: Named<P>> Board<'p, P, J> {
         worker: usize,
         handler: &mut Option<HandlerName<<P::Lat as Lattice>::Event>>,
         works: &mut Works<P, J>,
-    ) -> Came
+    ) -> bool
         requires running { self.old.over ≡ None }
         requires room { length self.old.trace < J.budget }
         requires there { IsSome handler.old }
-        ensures comes { (h : Handler P.Lat.Event) → handler.old ≡ Some h → ComesOfHand P.Lat.Event.cmp (⟦<P as Meaning>⟧.machine J.program) (⟦<P as CoreMeaning>⟧.is_held self.old.core h) (⟦<P as CoreMeaning>⟧.is_next self.old.core h) worker h self.old self.new (with_work result (HandTo h) works.new) }
-        ensures kept { result ≡ Came.Memory → self.new ≡ self.old }
-        ensures back { result ≡ Came.Memory → handler.new ≡ handler.old }
+        ensures comes { result ≡ true → (h : Handler P.Lat.Event) → handler.old ≡ Some h → ComesOfHand P.Lat.Event.cmp (⟦<P as Meaning>⟧.machine J.program) (⟦<P as CoreMeaning>⟧.is_held self.old.core h) (⟦<P as CoreMeaning>⟧.is_next self.old.core h) (length self.old.trace ≡ J.budget) worker h self.old self.new (Next works.new) }
+        ensures kept { result ≡ false → self.new ≡ self.old }
+        ensures back { result ≡ false → handler.new ≡ handler.old }
     {
-        hands_one_event::<P>();
         waiting_tasks::<P>();
         passes_at_its_spot::<P>();
         tasks_after::<P>();
@@ -184,7 +192,7 @@ impl<'p, P: Program, J: Named<P>> Board<'p, P, J> {
             step,
             name,
         ) else {
-            return Came::Memory;
+            return false;
         };
         self.core.each_task_once();
         let added = handler.take();
@@ -195,8 +203,8 @@ impl<'p, P: Program, J: Named<P>> Board<'p, P, J> {
             added,
         };
         leave(&self.core, &mut self.parked, left, &mut self.room, 0, works);
-        self.settle();
-        Came::Next
+        settle(&self.core, &self.parked, &mut self.over);
+        true
     }
 }
 

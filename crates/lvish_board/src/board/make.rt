@@ -8,6 +8,7 @@ ghost use Rattle.lvish_board.specs.declared.work.Work.TheVariants.{Act as ActOn}
 ghost use Rattle.lvish_board.specs.Left.{IsStepOf, most_added};
 
 use super::Board;
+use super::settle::settle;
 use crate::asked::Asked;
 use crate::came::Came;
 use crate::list::{leave, left_by};
@@ -38,7 +39,7 @@ impl<'p, P: Program, J: Named<P>> Board<'p, P, J> {
         requires running { self.old.over ≡ None }
         requires room { length self.old.trace < J.budget }
         requires live { ⟦<P as CoreMeaning>⟧.is_live self.old.core asked.old.task asked.old.from numbers }
-        ensures comes { (result ≡ Came.Parked → ⊥) → ComesOfAct P.Lat.Event.cmp (⟦<P as Meaning>⟧.machine J.program) (⟦<P as CoreMeaning>⟧.local_in self.old.core asked.old.task ≡ Some asked.old.from) (⟦<P as CoreMeaning>⟧.can_take self.old.core (Act asked.old.task)) worker asked.old self.old self.new (with_work result (ActOn asked.old) works.new) }
+        ensures comes { (result ≡ Came.Parked → ⊥) → ComesOfAct P.Lat.Event.cmp (⟦<P as Meaning>⟧.machine J.program) (⟦<P as CoreMeaning>⟧.local_in self.old.core asked.old.task ≡ Some asked.old.from) (⟦<P as CoreMeaning>⟧.can_take self.old.core (Act asked.old.task)) (length self.old.trace ≡ J.budget) worker asked.old self.old self.new (with_work result (ActOn asked.old) works.new) }
         ensures blocked { result ≡ Came.Parked → (⟦<P as CoreMeaning>⟧.can_take self.old.core (Act asked.old.task) → ⊥) × (self.new ≡ self.old) × (asked.new ≡ asked.old) }
         ensures kept { result ≡ Came.Memory → self.new ≡ self.old }
         ensures back { result ≡ Came.Memory → asked.new ≡ asked.old }
@@ -85,7 +86,7 @@ impl<'p, P: Program, J: Named<P>> Board<'p, P, J> {
                     logged,
                     works,
                 );
-                self.settle();
+                settle(&self.core, &self.parked, &mut self.over);
                 next_or_gone(goes_on)
             }
         }

@@ -2,7 +2,7 @@ use Rattle.std.proofs.Common.{inl, inr, refl}
 use Rattle.lvish_run.proofs.turn.take_act.Goals as goal
 
 pub unreachable-requires : goal.unreachable-requires
-unreachable-requires g c = ((c.in-Stale.ensures.comes c.args.asked refl).stale refl).0 c.requires.current
+unreachable-requires g c = (c.in-Stale.ensures.comes c.args.asked refl).order.1 c.requires.current
 
 pub returns-in-Next : goal.returns-in-Next
 returns-in-Next g c =
@@ -15,7 +15,7 @@ returns-in-Gone g c =
 pub returns-in-Parked : goal.returns-in-Parked
 returns-in-Parked g c =
     let k = c.in-Parked.ensures.comes c.args.asked refl in
-    let blocked = rw c.is_sound.ensures.program_is at (k.parked refl).0 in record { idle = record { trace = (k.stays refl).0; core = (k.stays refl).1 }; why = inr (blocked, (k.parked refl).1) }
+    let blocked = rw c.is_sound.ensures.program_is at k.order.2 in record { idle = record { trace = (k.stays refl).0; core = (k.stays refl).1 }; why = inr (blocked, k.parked refl) }
 
 pub returns-in-Over : goal.returns-in-Over
 returns-in-Over g c =

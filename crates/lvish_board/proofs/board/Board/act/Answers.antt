@@ -7,6 +7,7 @@ pub returns : goal.returns
 returns g c =
     let same = c.of.ensures (ActOn c.args.asked) (λ e. c.as_work.ensures c.args.asked (c.act_into-came.ensures.back e)) in
     let k = act_whole _ _ _ same (c.act_into-came.ensures.comes c.args.asked refl) in record {
+      order = k.order;
       stays = k.stays;
       step = k.step;
       gone = k.gone;

@@ -1,10 +1,21 @@
-use Rattle.std.proofs.Common.{rules, ◌≡◌, ◌≤◌, None, Some, length, refl, ap, subst, sym, ◌∙◌, arith}
+use Rattle.std.proofs.Common.{rules, ◌≡◌, inl, ◌≤◌, ◌<◌, None, Some, IsSome, length, refl, ap, subst, sym, ◌∙◌, arith}
+use Rattle.lvish_core.specs.Changes.{local_of}
 use Rattle.lvish_core.specs.Tasks.{task_names}
 use Rattle.lvish_board.specs.Vocabulary.{CameGone, CameNext, CameOver, CameParked, CameStale}
-use Rattle.lvish_board.proofs.Comes.{act_unmade, for_this}
+use Rattle.lvish_board.proofs.Comes.{act_over, act_stale, act_unmade, for_this}
 use Rattle.lvish_trace.proofs.Noting.{as_many}
-use Rattle.lvish_board.proofs.Steps.{none_is}
+use Rattle.lvish_board.proofs.Steps.{none_is, not_full}
 use Rattle.lvish_board.proofs.board.Board.act_indexed.Goals as goal
+
+pub returns-then-is_some-clause-comes : goal.returns-then-is_some-clause-comes
+returns-then-is_some-clause-comes g c =
+    let some : IsSome c.args.self.now.over = rw (← c.self.view_is) (sym c.is_some.ensures ∙ c.if-is_some.true) in
+    λ a there. act_over (inl some) refl refl some (λ _. refl)
+
+pub returns-in_default-current-clause-comes : goal.returns-in_default-current-clause-comes
+returns-in_default-current-clause-comes g c =
+    let none : c.args.self.now.over ≡ None = rw (← c.self.view_is) (none_is c.self.inside.over (sym c.is_some.ensures ∙ c.if-is_some.false)) in
+    for_this _ _ _ c.in-Some.ensures.value (act_stale refl none c.in_default-current.ensures)
 
 pub act_no_more-requires-clause-running : goal.act_no_more-requires-clause-running
 act_no_more-requires-clause-running g c = rw (← c.self.view_is) (none_is c.self.inside.over (sym c.is_some.ensures ∙ c.if-is_some.false))
@@ -22,7 +33,7 @@ act_no_more-requires-clause-used g c =
 pub returns-then-len-self-clause-comes : goal.returns-then-len-self-clause-comes
 returns-then-len-self-clause-comes g c =
     let none : c.args.self.now.over ≡ None = rw (← c.self.view_is) (none_is c.self.inside.over (sym c.is_some.ensures ∙ c.if-is_some.false)) in
-    for_this _ _ _ c.in-Some.ensures.value (act_unmade _ c.act_no_more.result none c.act_no_more.ensures.trace c.act_no_more.ensures.core (c.act_no_more.ensures.came c.in-Some.task.now refl))
+    for_this _ _ _ c.in-Some.ensures.value (act_unmade _ c.act_no_more.result none (ap local_of c.in-Some-current.ensures.0) c.act_no_more.ensures.trace c.act_no_more.ensures.core (c.act_no_more.ensures.came c.in-Some.task.now refl))
 
 pub make-requires-clause-running : goal.make-requires-clause-running
 make-requires-clause-running g c = rw (← c.self.view_is) (none_is c.self.inside.over (sym c.is_some.ensures ∙ c.if-is_some.false))
@@ -30,9 +41,13 @@ make-requires-clause-running g c = rw (← c.self.view_is) (none_is c.self.insid
 pub returns-in-Memory-clause-comes : goal.returns-in-Memory-clause-comes
 returns-in-Memory-clause-comes g c =
     let none : c.args.self.now.over ≡ None = rw (← c.self.view_is) (none_is c.self.inside.over (sym c.is_some.ensures ∙ c.if-is_some.false)) in
+    let many = as_many (task_names c.self.inside.core.table.tasks) c.self.inside.trace.items in
+    let less : length c.self.inside.trace.items < g.J.Named.budget = search rules in
+    let room : length c.args.self.now.trace ≡ g.J.Named.budget → ⊥ = rw (← c.self.view_is) (not_full (subst (λ n. n < g.J.Named.budget) (sym many) less)) in
     let kept = c.make.ensures.kept c.in-Memory.is in
     let back = ap (λ a. Some a) (c.make.ensures.back c.in-Memory.is) in
-    for_this _ _ _ c.in-Some.ensures.value (act_unmade _ c.not_made.result none (c.not_made.ensures.trace ∙ ap (λ b. b.trace) kept) (c.not_made.ensures.core ∙ ap (λ b. b.core) kept) (rw kept at (c.not_made.ensures.came c.in-Some.task.now back)))
+    let came = rw kept at (c.not_made.ensures.came c.in-Some.task.now back) in
+    for_this _ _ _ c.in-Some.ensures.value (act_unmade _ c.not_made.result none (ap local_of c.in-Some-current.ensures.0) (c.not_made.ensures.trace ∙ ap (λ b. b.trace) kept) (c.not_made.ensures.core ∙ ap (λ b. b.core) kept) (came room))
 
 pub park-requires-clause-blocked : goal.park-requires-clause-blocked
 park-requires-clause-blocked g c =
@@ -44,7 +59,7 @@ returns-in-Parked-clause-comes g c =
     let none : c.args.self.now.over ≡ None = rw (← c.self.view_is) (none_is c.self.inside.over (sym c.is_some.ensures ∙ c.if-is_some.false)) in
     let k = c.make.ensures.blocked c.in-Parked.is in
     let back = ap (λ a. Some a) k.2 in
-    for_this _ _ _ c.in-Some.ensures.value (act_unmade _ c.park.result none (c.park.ensures.trace ∙ ap (λ b. b.trace) k.1) (c.park.ensures.core ∙ ap (λ b. b.core) k.1) (rw k.1 at (c.park.ensures.came c.in-Some.task.now back)))
+    for_this _ _ _ c.in-Some.ensures.value (act_unmade _ c.park.result none (ap local_of c.in-Some-current.ensures.0) (c.park.ensures.trace ∙ ap (λ b. b.trace) k.1) (c.park.ensures.core ∙ ap (λ b. b.core) k.1) (rw k.1 at (c.park.ensures.came c.in-Some.task.now back)))
 
 pub returns-in-Parked-clause-back : goal.returns-in-Parked-clause-back
 returns-in-Parked-clause-back g c = λ refused. c.park.ensures.back refused ∙ ap (λ a. Some a) (c.make.ensures.blocked c.in-Parked.is).2 ∙ c.in-Some.ensures.value

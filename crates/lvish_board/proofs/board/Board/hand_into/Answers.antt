@@ -1,9 +1,16 @@
-use Rattle.std.proofs.Common.{◌≡◌, ◌≤◌, None, length, refl, subst, sym, ◌∙◌, arith}
+use Rattle.std.proofs.Common.{rules, ◌≡◌, inl, ◌≤◌, ◌<◌, None, IsSome, length, refl, subst, sym, ◌∙◌, arith}
+use Rattle.lvish_calculus.specs.Program.{machine_of}
 use Rattle.lvish_core.specs.Tasks.{task_names}
-use Rattle.lvish_board.proofs.Comes.{hand_unmade}
+use Rattle.lvish_board.proofs.Comes.{hand_over, hand_unmade}
+use Rattle.lvish_board.proofs.Handing.{held_here}
 use Rattle.lvish_trace.proofs.Noting.{as_many}
-use Rattle.lvish_board.proofs.Steps.{none_is}
+use Rattle.lvish_board.proofs.Steps.{none_is, not_full}
 use Rattle.lvish_board.proofs.board.Board.hand_into.Goals as goal
+
+pub returns-then-is_some-clause-comes : goal.returns-then-is_some-clause-comes
+returns-then-is_some-clause-comes g c =
+    let some : IsSome c.args.self.now.over = rw (← c.self.view_is) (sym c.is_some.ensures ∙ c.if-is_some.true) in
+    λ h there. hand_over (inl some) refl refl refl some (λ _. refl)
 
 pub hand_no_more-requires-clause-running : goal.hand_no_more-requires-clause-running
 hand_no_more-requires-clause-running g c = rw (← c.self.view_is) (none_is c.self.inside.over (sym c.is_some.ensures ∙ c.if-is_some.false))
@@ -17,16 +24,26 @@ hand_no_more-requires-clause-used g c =
     rw (← c.self.view_is) (many ∙ used)
 
 pub returns-then-len-self-clause-comes : goal.returns-then-len-self-clause-comes
-returns-then-len-self-clause-comes g c =
-    let none : c.args.self.now.over ≡ None = rw (← c.self.view_is) (none_is c.self.inside.over (sym c.is_some.ensures ∙ c.if-is_some.false)) in
-    λ h there. hand_unmade c.args.works.now c.hand_no_more.result none c.hand_no_more.ensures.stays (c.hand_no_more.ensures.came h there)
+returns-then-len-self-clause-comes g c = λ h there.
+    let M = machine_of g.P.Lat.PartialEq.eq g.P.Lat.Event.PartialEq.eq g.P.Lat.Event.Ord.cmp g.P.Lat.Lattice.least g.P.Lat.Lattice.joined g.P.Lat.Lattice.events_of g.P.Lat.Reads.answer_of (g.P.Program.functions g.J.Named.program) in
+    let none = none_is c.self.inside.over (sym c.is_some.ensures ∙ c.if-is_some.false) in
+    let going : c.args.self.now.over ≡ None = rw (← c.self.view_is) none in
+    hand_unmade c.args.works.now c.hand_no_more.result (held_here M (c.hands_one_event.ensures.open g.J.Named.program) _ _ c.self.view_is c.self.invariant.2 none h) going c.hand_no_more.ensures.stays (c.hand_no_more.ensures.came h there)
 
 pub make_hand-requires-clause-running : goal.make_hand-requires-clause-running
 make_hand-requires-clause-running g c = rw (← c.self.view_is) (none_is c.self.inside.over (sym c.is_some.ensures ∙ c.if-is_some.false))
 
-pub returns-in-Memory-clause-comes : goal.returns-in-Memory-clause-comes
-returns-in-Memory-clause-comes g c =
-    let none : c.args.self.now.over ≡ None = rw (← c.self.view_is) (none_is c.self.inside.over (sym c.is_some.ensures ∙ c.if-is_some.false)) in
-    let kept = c.make_hand.ensures.kept c.in-Memory.is in
-    let back = c.make_hand.ensures.back c.in-Memory.is in
-    λ h there. rw kept (hand_unmade c.make_hand.new.works c.not_handed.result none (refl, refl, refl) (rw kept at (c.not_handed.ensures h (back ∙ there))))
+pub returns-then-make_hand-clause-comes : goal.returns-then-make_hand-clause-comes
+returns-then-make_hand-clause-comes g c = c.make_hand.ensures.comes c.if-make_hand.true
+
+pub returns-else-make_hand-clause-comes : goal.returns-else-make_hand-clause-comes
+returns-else-make_hand-clause-comes g c = λ h there.
+    let M = machine_of g.P.Lat.PartialEq.eq g.P.Lat.Event.PartialEq.eq g.P.Lat.Event.Ord.cmp g.P.Lat.Lattice.least g.P.Lat.Lattice.joined g.P.Lat.Lattice.events_of g.P.Lat.Reads.answer_of (g.P.Program.functions g.J.Named.program) in
+    let none = none_is c.self.inside.over (sym c.is_some.ensures ∙ c.if-is_some.false) in
+    let going : c.args.self.now.over ≡ None = rw (← c.self.view_is) none in
+    let many = as_many (task_names c.self.inside.core.table.tasks) c.self.inside.trace.items in
+    let less : length c.self.inside.trace.items < g.J.Named.budget = search rules in
+    let room : length c.args.self.now.trace ≡ g.J.Named.budget → ⊥ = rw (← c.self.view_is) (not_full (subst (λ n. n < g.J.Named.budget) (sym many) less)) in
+    let kept = c.make_hand.ensures.kept c.if-make_hand.false in
+    let came = rw kept at (c.not_handed.ensures h (c.make_hand.ensures.back c.if-make_hand.false ∙ there)) in
+    rw kept (hand_unmade c.make_hand.new.works c.not_handed.result (held_here M (c.hands_one_event.ensures.open g.J.Named.program) _ _ c.self.view_is c.self.invariant.2 none h) going (refl, refl, refl) (came room))

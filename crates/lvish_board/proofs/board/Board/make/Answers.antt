@@ -4,7 +4,7 @@ use Rattle.lvish_board.specs.Vocabulary.{Act, ActStep, ErrorStep}
 use Rattle.lvish_core.specs.Core.{IsStep}
 use Rattle.lvish_core.specs.Changes.{local_of}
 use Rattle.lvish_core.specs.Tasks.{task_names}
-use Rattle.lvish_board.specs.Acts.{IsDone, entry_of}
+use Rattle.lvish_board.specs.Acts.{entry_of}
 use Rattle.lvish_board.specs.Listed.{option_list}
 use Rattle.lvish_board.specs.Left.{most_added}
 use Rattle.lvish_trace.specs.Noted.{entries_of, label_at}
@@ -16,6 +16,7 @@ use Rattle.lvish_board.proofs.Concerned.{act_made, few_added}
 use Rattle.lvish_board.proofs.Handing.{seen_core, seen_parked}
 use Rattle.lvish_board.proofs.Knowing.{error_known, step_known}
 use Rattle.lvish_board.proofs.Parking.{still_indexed}
+use Rattle.lvish_board.proofs.Steps.{can_seen, not_full}
 use Rattle.lvish_trace.proofs.Noting.{acts_there, all_noted, written}
 use Rattle.lvish_board.proofs.board.Board.make.Goals.{In-Error, After-left_by-left}
 use Rattle.lvish_board.proofs.board.Board.make.Goals as goal
@@ -39,11 +40,13 @@ invariant_of-self-in-Error g c =
 pub returns-in-Error-clause-comes : goal.returns-in-Error-clause-comes
 returns-in-Error-clause-comes g c =
     let step = failed g (goal.at.returns-in-Error-clause-comes g c).In-Error in
+    let machine = λ (p : g.row.P.Denot). machine_of g.P.Lat.PartialEq.eq g.P.Lat.Event.PartialEq.eq g.P.Lat.Event.Ord.cmp g.P.Lat.Lattice.least g.P.Lat.Lattice.joined g.P.Lat.Lattice.events_of g.P.Lat.Reads.answer_of (g.P.Program.functions p) in
+    let can = can_seen machine _ c.self.inside.core c.args.self.now.core _ c.self.invariant.2.program_is (seen_core c.self.view_is) step.enabled in
     let live = (rw (← c.self.view_is) at c.requires.live).1 in
     let there = acts_there (task_names c.step_with_room.new.core.table.tasks) c.args.numbers.index c.args.asked.now.task (step.indices c.args.numbers.index c.args.asked.now.task live) in
     let longer = written (task_names c.self.inside.core.table.tasks) (task_names c.step_with_room.new.core.table.tasks) step.indices c.self.inside.trace.items c.step_with_room.new.trace.items c.args.worker (ActStep c.args.numbers.index) c.self.invariant.1 c.in-Ok.ensures.written (Act c.args.asked.now.task) there
     ∙ ap (λ b. b.trace ++ entry_of c.args.worker (Act c.args.asked.now.task) ∷ []) c.self.view_is in
-    λ _. act_gone _ c.requires.running longer (error_done _ _ _ _ _ step) (error_listed _ _ _ _ _ step _ c.args.self.now _ (seen_core c.self.view_is) refl (sym (seen_parked c.self.view_is)) _ c.empty.ensures.list)
+    λ _. act_gone _ (c.requires.running, ap local_of c.requires.live.0, can, not_full c.requires.room) longer (error_done _ _ _ _ _ step) (error_listed _ _ _ _ _ step _ c.args.self.now _ (seen_core c.self.view_is) refl (sym (seen_parked c.self.view_is)) _ c.empty.ensures.list)
     (ap (label_at _) c.empty.ensures.step ∙ there) c.empty.ensures.own
 
 -- a step that gave none, and how many handlers it added at most
@@ -83,11 +86,16 @@ leave-requires-clause-concerned_room g c = omega (arith, c.in-Ok.ensures.concern
 pub leave-requires-clause-hands_room : goal.leave-requires-clause-hands_room
 leave-requires-clause-hands_room g c = omega (arith, c.in-Ok.ensures.hands_room, (made g (goal.at.leave-requires-clause-hands_room g c).After-left_by-left).1)
 
+pub settle-requires-clause-program : goal.settle-requires-clause-program
+settle-requires-clause-program g c = (made g (goal.at.settle-requires-clause-program g c).After-left_by-left).0.step.program ∙ c.self.invariant.2.program_is
+
+pub settle-requires-clause-running : goal.settle-requires-clause-running
+settle-requires-clause-running g c = ap (λ b. b.over) c.self.view_is ∙ c.requires.running
+
 pub invariant_of-self-in-Done : goal.invariant_of-self-in-Done
 invariant_of-self-in-Done g c =
     let sound = c.self.invariant.2 in
     let k = (made g (goal.at.invariant_of-self-in-Done g c).After-left_by-left).0 in
-    let going = ap (λ b. b.over) c.self.view_is ∙ c.requires.running in
     let live = (rw (← c.self.view_is) at c.requires.live).1 in
     let there = k.step.indices c.args.numbers.index c.args.asked.now.task live in
     let noted = all_noted (task_names c.self.inside.core.table.tasks) (task_names c.step_with_room.new.core.table.tasks) k.step.indices c.self.inside.trace.items c.step_with_room.new.trace.items c.args.worker (ActStep c.args.numbers.index) c.self.invariant.1 c.in-Ok.ensures.written (c.args.asked.now.task, there) in
@@ -95,23 +103,24 @@ invariant_of-self-in-Done g c =
     let newest = rw (c.step_with_room.ensures.same, c.step_with_room.ensures.newest) at c.left_by-left.ensures.newest in
     let known = step_known _ (c.tasks_after.ensures.others g.J.Named.program) _ sound.leads c.each_task_once.ensures (c.tasks_after.ensures.made g.J.Named.program) c.in-Ok.made.2 c.args.asked.now.task c.args.numbers.index _ k.step k.told live
     (stands (c.lawful.ensures g.J.Named.program) k) c.self.inside.newest c.left_by-left.new.newest c.self.invariant.3 newest.0 newest.1 c.tasks-next.result c.tasks-next.ensures newest.2 in
-    (c.self.invariant.0, noted, kept_made (c.waiting_tasks.ensures.until_touched g.J.Named.program) k (c.passes_at_its_spot.ensures g.J.Named.program) sound.blocked c.leave.ensures.left _ _ _ _ _ c.args.worker sound going (rw (← c.self.view_is) at c.requires.room) longer c.leave.ensures.once, known, still_indexed _ _ k.step.indices _ _ c.self.invariant.4 c.leave.ensures.within)
+    (c.self.invariant.0, noted, kept_made (c.waiting_tasks.ensures.until_touched g.J.Named.program) k (c.passes_at_its_spot.ensures g.J.Named.program) sound.blocked c.leave.ensures.left (c.waiting_tasks.ensures.ends g.J.Named.program) _ _ _ _ _ _ c.args.worker sound (rw (← c.self.view_is) at c.requires.room) longer c.leave.ensures.once c.settle.ensures, known, still_indexed _ _ k.step.indices _ _ c.self.invariant.4 c.leave.ensures.within)
 
 pub returns-in-Done-clause-comes : goal.returns-in-Done-clause-comes
 returns-in-Done-clause-comes g c =
     let ok = c.lawful.ensures g.J.Named.program in
     let k = (made g (goal.at.returns-in-Done-clause-comes g c).After-left_by-left).0 in
-    let M = machine_of g.P.Lat.PartialEq.eq g.P.Lat.Event.PartialEq.eq g.P.Lat.Event.Ord.cmp g.P.Lat.Lattice.least g.P.Lat.Lattice.joined g.P.Lat.Lattice.events_of g.P.Lat.Reads.answer_of (g.P.Program.functions g.J.Named.program) in
+    let machine = λ (p : g.row.P.Denot). machine_of g.P.Lat.PartialEq.eq g.P.Lat.Event.PartialEq.eq g.P.Lat.Event.Ord.cmp g.P.Lat.Lattice.least g.P.Lat.Lattice.joined g.P.Lat.Lattice.events_of g.P.Lat.Reads.answer_of (g.P.Program.functions p) in
+    let can = can_seen machine _ c.self.inside.core c.args.self.now.core _ c.self.invariant.2.program_is (seen_core c.self.view_is) k.step.enabled in
     let live = (rw (← c.self.view_is) at c.requires.live).1 in
     let there = acts_there (task_names c.step_with_room.new.core.table.tasks) c.args.numbers.index c.args.asked.now.task (k.step.indices c.args.numbers.index c.args.asked.now.task live) in
-    let longer = c.settle.ensures.trace ∙ written (task_names c.self.inside.core.table.tasks) (task_names c.step_with_room.new.core.table.tasks) k.step.indices c.self.inside.trace.items c.step_with_room.new.trace.items c.args.worker (ActStep c.args.numbers.index) c.self.invariant.1 c.in-Ok.ensures.written (Act c.args.asked.now.task) there
+    let longer = written (task_names c.self.inside.core.table.tasks) (task_names c.step_with_room.new.core.table.tasks) k.step.indices c.self.inside.trace.items c.step_with_room.new.trace.items c.args.worker (ActStep c.args.numbers.index) c.self.invariant.1 c.in-Ok.ensures.written (Act c.args.asked.now.task) there
     ∙ ap (λ b. b.trace ++ entry_of c.args.worker (Act c.args.asked.now.task) ∷ []) c.self.view_is in
     let own = ap is_some (sym (rw c.step_with_room.ensures.same at c.left_by-left.ensures.own)) ∙ sym c.is_some-goes_on.ensures in
-    λ _. act_left c.is_some-goes_on.result c.leave.new.works c.next_or_gone.result c.next_or_gone.ensures.next c.next_or_gone.ensures.gone c.requires.running longer
-    (λ goes done. not_done ok k (own ∙ goes) (subst (λ z. IsDone M z c.args.asked.now.task) c.settle.ensures.core done))
-    (λ ends. subst (λ z. IsDone M z c.args.asked.now.task) (sym c.settle.ensures.core) (is_done ok k (own ∙ ends)))
-    (is_listed (c.waiting_tasks.ensures.until_touched g.J.Named.program) k (c.passes_at_its_spot.ensures g.J.Named.program) c.self.invariant.2.blocked c.leave.ensures.left (act_tickets c.args.asked.now.task c.in-Ok.made.2 c.left_by-left.result.own c.left_by-left.result.made (rw c.step_with_room.ensures.same at c.left_by-left.ensures.own) c.left_by-left.ensures.made) c.args.self.now c.settle.new.self (seen_core c.self.view_is) (seen_parked c.self.view_is) c.settle.ensures.core c.settle.ensures.parked)
-    (ap (λ z. label_at (task_names z.table.tasks) c.leave.new.works.step) c.settle.ensures.core ∙ ap (label_at _) (c.leave.ensures.step ∙ c.left_by-left.ensures.step) ∙ there)
+    λ _. act_left c.is_some-goes_on.result c.leave.new.works c.next_or_gone.result c.next_or_gone.ensures.next c.next_or_gone.ensures.gone (c.requires.running, ap local_of c.requires.live.0, can, not_full c.requires.room) longer
+    (λ goes done. not_done ok k (own ∙ goes) done)
+    (λ ends. is_done ok k (own ∙ ends))
+    (is_listed (c.waiting_tasks.ensures.until_touched g.J.Named.program) k (c.passes_at_its_spot.ensures g.J.Named.program) c.self.invariant.2.blocked c.leave.ensures.left (act_tickets c.args.asked.now.task c.in-Ok.made.2 c.left_by-left.result.own c.left_by-left.result.made (rw c.step_with_room.ensures.same at c.left_by-left.ensures.own) c.left_by-left.ensures.made) c.args.self.now _ (seen_core c.self.view_is) (seen_parked c.self.view_is) refl refl)
+    (ap (label_at _) (c.leave.ensures.step ∙ c.left_by-left.ensures.step) ∙ there)
     (ap is_some c.leave.ensures.own ∙ sym c.is_some-goes_on.ensures)
 
 pub returns-in-Done-clause-back : goal.returns-in-Done-clause-back

@@ -1,18 +1,19 @@
-use Rattle.std.proofs.Common.{rules, ◌≡◌, ◌++◌, ◌∷◌, [], Some, length, sym, ap, subst, ◌∙◌, arith}
+use Rattle.std.proofs.Common.{◌≡◌, ◌++◌, ◌∷◌, [], Some, IsSome, length, refl, sym, ap, subst, ◌∙◌, arith}
 use Rattle.lvish_calculus.specs.Program.{machine_of}
 use Rattle.lvish_names.specs.Names.{handed}
 use Rattle.lvish_board.specs.Vocabulary.{Hand, HandStep}
-use Rattle.lvish_core.specs.Core.{IsNext}
+use Rattle.lvish_core.specs.Core.{IsNext, state}
 use Rattle.lvish_core.specs.Tasks.{task_names, IsAt}
 use Rattle.lvish_board.specs.Acts.{entry_of}
 use Rattle.lvish_board.specs.Listed.{option_list}
 use Rattle.lvish_trace.specs.Noted.{entries_of, label_at}
 use Rattle.lvish_trace.specs.Traced.{labels_of}
 use Rattle.lvish_board.proofs.Blocked.{IsMade, is_listed, kept_made, still_current}
-use Rattle.lvish_board.proofs.Comes.{for_this, hand_memory, hand_next}
-use Rattle.lvish_board.proofs.Handing.{hand_made, hand_tickets, handed_event, handed_well, seen_core, seen_parked}
+use Rattle.lvish_board.proofs.Comes.{for_this, hand_next}
+use Rattle.lvish_board.proofs.Handing.{hand_made, hand_held, hand_tickets, handed_well, seen_core, seen_parked}
 use Rattle.lvish_board.proofs.Knowing.{hand_known}
 use Rattle.lvish_board.proofs.Parking.{still_indexed}
+use Rattle.lvish_board.proofs.Steps.{not_full}
 use Rattle.lvish_trace.proofs.Noting.{all_noted, hands_there, written}
 use Rattle.lvish_board.proofs.board.Board.make_hand.Goals.{After-ticket_of}
 use Rattle.lvish_board.proofs.board.Board.make_hand.Goals as goal
@@ -50,15 +51,17 @@ invariant_of-self-2 g c =
     let k = made g (goal.at.invariant_of-self-2 g c).After-ticket_of in
     let there = started g (goal.at.invariant_of-self-2 g c).After-ticket_of in
     let event = c.in-Ok.ensures.made.1.event in
-    let going = ap (λ b. b.over) c.self.view_is ∙ c.requires.running in
     let noted = all_noted (task_names c.self.inside.core.table.tasks) (task_names c.hand_with_room.new.core.table.tasks) k.step.indices c.self.inside.trace.items c.hand_with_room.new.trace.items c.args.worker (HandStep c.tasks.result) c.self.invariant.1 c.in-Ok.ensures.written (c.in-Some.name.now, event, there) in
     let longer = written (task_names c.self.inside.core.table.tasks) (task_names c.hand_with_room.new.core.table.tasks) k.step.indices c.self.inside.trace.items c.hand_with_room.new.trace.items c.args.worker (HandStep c.tasks.result) c.self.invariant.1 c.in-Ok.ensures.written (Hand c.in-Some.name.now event) (hands_there (task_names c.hand_with_room.new.core.table.tasks) c.tasks.result c.in-Some.name.now event there) in
     let newest = rw (c.index.ensures, c.hand_with_room.ensures.newest) at c.ticket_of.ensures.newest in
     let known = hand_known _ (c.tasks_after.ensures.others g.J.Named.program) _ sound.leads c.each_task_once.ensures (c.tasks_after.ensures.made g.J.Named.program) c.in-Ok.moved c.in-Some.name.now event _ k.step k.told c.self.inside.newest c.ticket_of.new.newest c.self.invariant.3 c.tasks.result c.tasks.ensures newest in
-    (c.self.invariant.0, noted, kept_made (c.waiting_tasks.ensures.until_touched g.J.Named.program) k (c.passes_at_its_spot.ensures g.J.Named.program) sound.blocked c.leave.ensures.left _ _ _ _ _ c.args.worker sound going (rw (← c.self.view_is) at c.requires.room) longer c.leave.ensures.once, known, still_indexed _ _ k.step.indices _ _ c.self.invariant.4 c.leave.ensures.within)
+    (c.self.invariant.0, noted, kept_made (c.waiting_tasks.ensures.until_touched g.J.Named.program) k (c.passes_at_its_spot.ensures g.J.Named.program) sound.blocked c.leave.ensures.left (c.waiting_tasks.ensures.ends g.J.Named.program) _ _ _ _ _ _ c.args.worker sound (rw (← c.self.view_is) at c.requires.room) longer c.leave.ensures.once c.settle.ensures, known, still_indexed _ _ k.step.indices _ _ c.self.invariant.4 c.leave.ensures.within)
 
-pub returns-in_default-hand_with_room-clause-comes : goal.returns-in_default-hand_with_room-clause-comes
-returns-in_default-hand_with_room-clause-comes g c = for_this _ _ _ c.in-Some.ensures.value (hand_memory c.requires.running (search rules))
+pub settle-requires-clause-program : goal.settle-requires-clause-program
+settle-requires-clause-program g c = (made g (goal.at.settle-requires-clause-program g c).After-ticket_of).step.program ∙ c.self.invariant.2.program_is
+
+pub settle-requires-clause-running : goal.settle-requires-clause-running
+settle-requires-clause-running g c = ap (λ b. b.over) c.self.view_is ∙ c.requires.running
 
 pub leave-requires-clause-concerned_room : goal.leave-requires-clause-concerned_room
 leave-requires-clause-concerned_room g c =
@@ -72,16 +75,18 @@ leave-requires-clause-hands_room g c =
 
 pub returns-clause-comes : goal.returns-clause-comes
 returns-clause-comes g c =
+    let M = machine_of g.P.Lat.PartialEq.eq g.P.Lat.Event.PartialEq.eq g.P.Lat.Event.Ord.cmp g.P.Lat.Lattice.least g.P.Lat.Lattice.joined g.P.Lat.Lattice.events_of g.P.Lat.Reads.answer_of (g.P.Program.functions g.J.Named.program) in
     let k = made g (goal.at.returns-clause-comes g c).After-ticket_of in
     let there = hands_there (task_names c.hand_with_room.new.core.table.tasks) c.tasks.result c.in-Some.name.now c.in-Ok.ensures.made.1.event (started g (goal.at.returns-clause-comes g c).After-ticket_of) in
     let was = c.in-Ok.ensures.made.1 in
-    let one : (e : g.row.P-Lat-Event.Denot) → IsNext g.P.Lat.Event.PartialEq.eq c.args.self.now.core.table c.in-Some.name.now e → was.event ≡ e = λ e comes.
-    handed_event _ _ _ _ _ _ was (c.hands_one_event.ensures.one g.J.Named.program) _ c.self.invariant.2.leads e (rw (← c.self.view_is) at comes) in
-    let longer = c.settle.ensures.trace ∙ written (task_names c.self.inside.core.table.tasks) (task_names c.hand_with_room.new.core.table.tasks) k.step.indices c.self.inside.trace.items c.hand_with_room.new.trace.items c.args.worker (HandStep c.tasks.result) c.self.invariant.1 c.in-Ok.ensures.written (Hand c.in-Some.name.now was.event) there
+    let can = was.moving.step.enabled in
+    let next = subst (λ z. IsNext g.P.Lat.Event.PartialEq.eq z.table c.in-Some.name.now was.event) (sym (seen_core c.self.view_is)) can.1 in
+    let held = subst (λ z. IsSome ((state M z).handlers c.in-Some.name.now)) (sym (seen_core c.self.view_is)) (hand_held M c.self.inside.core c.in-Some.name.now was.event can) in
+    let longer = written (task_names c.self.inside.core.table.tasks) (task_names c.hand_with_room.new.core.table.tasks) k.step.indices c.self.inside.trace.items c.hand_with_room.new.trace.items c.args.worker (HandStep c.tasks.result) c.self.invariant.1 c.in-Ok.ensures.written (Hand c.in-Some.name.now was.event) there
     ∙ ap (λ b. b.trace ++ entry_of c.args.worker (Hand c.in-Some.name.now was.event) ∷ []) c.self.view_is in
-    for_this _ _ _ c.in-Some.ensures.value (hand_next c.leave.new.works was.event one c.requires.running longer
-    (is_listed (c.waiting_tasks.ensures.until_touched g.J.Named.program) k (c.passes_at_its_spot.ensures g.J.Named.program) c.self.invariant.2.blocked c.leave.ensures.left (hand_tickets c.in-Some.name.now was.event c.in-Ok.moved c.ticket_of.result c.ticket_of.ensures.ticket) c.args.self.now c.settle.new.self (seen_core c.self.view_is) (seen_parked c.self.view_is) c.settle.ensures.core c.settle.ensures.parked)
-    (ap (λ z. label_at (task_names z.table.tasks) c.leave.new.works.step) c.settle.ensures.core ∙ ap (label_at _) c.leave.ensures.step ∙ there)
+    λ _. for_this _ _ _ c.in-Some.ensures.value (hand_next c.leave.new.works was.event next c.requires.running held (not_full c.requires.room) longer
+    (is_listed (c.waiting_tasks.ensures.until_touched g.J.Named.program) k (c.passes_at_its_spot.ensures g.J.Named.program) c.self.invariant.2.blocked c.leave.ensures.left (hand_tickets c.in-Some.name.now was.event c.in-Ok.moved c.ticket_of.result c.ticket_of.ensures.ticket) c.args.self.now _ (seen_core c.self.view_is) (seen_parked c.self.view_is) refl refl)
+    (ap (label_at _) c.leave.ensures.step ∙ there)
     c.leave.ensures.own)
 
 pub invariant_of-self : goal.invariant_of-self

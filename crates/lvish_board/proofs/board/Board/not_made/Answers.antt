@@ -6,4 +6,9 @@ pub park-requires-clause-blocked : goal.park-requires-clause-blocked
 park-requires-clause-blocked g c = for_this _ _ _ c.in-Some.ensures.value (λ can. true≢false (sym (c.can_go_on.ensures.1 can) ∙ c.if-can_go_on.false))
 
 pub returns : goal.returns
-returns g c = c.park.ensures
+returns g c = record {
+  trace = c.park.ensures.trace;
+  core = c.park.ensures.core;
+  came = λ a there room. c.park.ensures.came a there;
+  back = c.park.ensures.back;
+}

@@ -15,6 +15,12 @@ park-requires-clause-theirs g c = λ a e is i. theirs _ c.each_task_once.ensures
 pub park-requires-clause-once : goal.park-requires-clause-once
 park-requires-clause-once g c = c.self.invariant.2.once
 
+pub settle-requires-clause-program : goal.settle-requires-clause-program
+settle-requires-clause-program g c = c.self.invariant.2.program_is
+
+pub settle-requires-clause-running : goal.settle-requires-clause-running
+settle-requires-clause-running g c = ap (λ b. b.over) c.self.view_is ∙ c.requires.running
+
 pub invariant_of-self : goal.invariant_of-self
 invariant_of-self g c =
     let sound = c.self.invariant.2 in
@@ -24,4 +30,4 @@ invariant_of-self g c =
     let blocked = rw (← c.self.view_is) at (c.requires.blocked there.0 there.1) in
     let blocked_here = rw sound.program_is at blocked in
     let entries = λ (e : ℕ × TaskPlace g.row.P-Lat-Event.Denot g.row.P-Local.Denot) (i : IsAmong e c.park.new.self). c.park.ensures.entries there.0 e is i in
-    (c.self.invariant.0, c.self.invariant.1, kept_parked _ _ _ _ _ _ _ _ there.0 sound current blocked_here (c.in-Ok.ensures.ok there.0 is) c.park.ensures.once (ap (λ b. b.over) c.self.view_is ∙ c.requires.running), c.self.invariant.3, indexed_beside _ _ _ _ _ c.self.invariant.4 (rw (← c.self.view_is) at (c.requires.at there.0 there.1)) entries)
+    (c.self.invariant.0, c.self.invariant.1, kept_parked _ (c.waiting_tasks.ensures.ends g.J.Named.program) _ _ _ _ _ _ _ _ there.0 sound current blocked_here (c.in-Ok.ensures.ok there.0 is) c.park.ensures.once (ap (λ b. b.over) c.self.view_is ∙ c.requires.running) c.settle.ensures, c.self.invariant.3, indexed_beside _ _ _ _ _ c.self.invariant.4 (rw (← c.self.view_is) at (c.requires.at there.0 there.1)) entries)
