@@ -16,7 +16,7 @@ mod writing;
 pub use answering::{Output, answer_to};
 pub use order::{Order, Picks, Source, UsageFault};
 pub use performing::perform;
-pub use program::command;
+pub use program::{command, command_with};
 pub use reading::{MOST_READ, ReadFault, read_text};
 pub use status::Status;
 pub use words::order_of;

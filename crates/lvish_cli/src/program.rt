@@ -1,12 +1,16 @@
-ghost use Rattle.std.specs.Prelude.{◌≡◌, ◌≢◌, []};
+ghost use Rattle.std.specs.Prelude.{◌≡◌, ◌≢◌, [], None};
+ghost use Rattle.lvish_cli.specs.Commands.{IsCommanded, IsTold, given_at};
 ghost use Rattle.lvish_cli.specs.Orders.{IsInBounds};
+ghost use Rattle.lvish_cli.specs.Performs.{Performs};
 ghost use Rattle.lvish_cli.specs.Statuses.{status_number};
 
 use crate::order::{Order, Source, UsageFault};
 use crate::performing::performed;
 use crate::status::Status;
 use crate::words::order_of;
-use crate::writing::write_text;
+use crate::writing::write_answer;
+use lvish_run::RunMeaning;
+use lvish_syntax::Script;
 use std::convert::AsStr;
 use std::io::{ErrorKind, Read, Write};
 use std::rt::Files;
@@ -26,43 +30,67 @@ pub fn command<R: AllocGlobal + Files + Input + Print + Threads + Wait + Sync, S
     // Having no words is no misuse.
     ensures { words.now ≡ [] → status_number result ≢ 2 }
 {
-    let mut output = io::writer(rt);
+    command_with(rt, words, &mut rt.reader(), &mut io::writer(rt))
+}
+
+/// Does what [`command`] does, with any reader as standard input and any writer as standard output.
+/// Files are the system's, and what is in them isn't known.
+pub fn command_with<T: AllocGlobal + Files + Threads + Wait + Sync, S: AsStr, R: Read, W: Write>(
+    rt: &T,
+    words: &[S],
+    input: &mut R,
+    output: &mut W,
+) -> Status
+    ensures commanded { IsCommanded (R.remaining input.old) (W.contents output.old) (W.contents output.new)
+        ⟦<Script as RunMeaning>⟧ words.now result }
+    // Having no words is no misuse.
+    ensures usage { words.now ≡ [] → status_number result ≢ 2 }
+{
     match order_of(rt.alloc(), words) {
-        Ok((order, source)) => perform_from(rt, &order, &source, &mut output),
-        Err(UsageFault::Help(text)) => match write_text(&mut output, text.as_bytes()) {
-            Ok(()) => Status::Done,
-            Err(_) => Status::Unwritten,
-        },
-        Err(UsageFault::Refused(text)) => Status::Usage(text),
-        Err(UsageFault::Memory) => Status::Memory,
+        Ok((order, source)) => perform_from(rt, &order, &source, input, output),
+        Err(fault) => tell(output, fault),
+    }
+}
+
+/// Writes the help that was asked for. Of words that are refused the status tells.
+fn tell<W: Write>(output: &mut W, fault: UsageFault) -> Status
+    ensures { IsTold (W.contents output.old) (W.contents output.new) fault result }
+{
+    match fault {
+        UsageFault::Help(text) => write_answer(output, text.as_bytes(), Status::Done),
+        UsageFault::Refused(text) => Status::Usage(text),
+        UsageFault::Memory => Status::Memory,
     }
 }
 
 /// Does what the order asks of the script there.
-fn perform_from<R: AllocGlobal + Files + Input + Threads + Wait + Sync, W: Write>(
-    rt: &R,
+fn perform_from<T: AllocGlobal + Files + Threads + Wait + Sync, R: Read, W: Write>(
+    rt: &T,
     order: &Order,
     source: &Source,
+    input: &mut R,
     output: &mut W,
 ) -> Status
     requires { IsInBounds order.now }
-    ensures { status_number result ≢ 2 }
+    ensures { Performs ⟦<Script as RunMeaning>⟧ order.now (given_at (R.remaining input.old) source.now)
+        (W.contents output.old) (W.contents output.new) result }
 {
     match source {
-        Source::StandardInput => perform_last(rt, order, &mut rt.reader(), output),
+        Source::StandardInput => perform_last(rt, order, input, output),
         Source::File(path) => perform_file(rt, order, path.as_str(), output),
     }
 }
 
 /// Does what the order asks of the file at the path.
-fn perform_file<R: AllocGlobal + Files + Threads + Wait + Sync, W: Write>(
-    rt: &R,
+fn perform_file<T: AllocGlobal + Files + Threads + Wait + Sync, W: Write>(
+    rt: &T,
     order: &Order,
     path: &str,
     output: &mut W,
 ) -> Status
     requires { IsInBounds order.now }
-    ensures { status_number result ≢ 2 }
+    ensures { Performs ⟦<Script as RunMeaning>⟧ order.now None
+        (W.contents output.old) (W.contents output.new) result }
 {
     match fs::open(rt, path) {
         Ok(mut file) => perform_last(rt, order, &mut file, output),
@@ -81,7 +109,8 @@ fn perform_last<T: AllocGlobal + Threads + Wait + Sync, R: Read, W: Write>(
     writer: &mut W,
 ) -> Status
     requires { IsInBounds order.now }
-    ensures { status_number result ≢ 2 }
+    ensures { Performs ⟦<Script as RunMeaning>⟧ order.now (R.remaining reader.old)
+        (W.contents writer.old) (W.contents writer.new) result }
 {
     let (status, report) = performed(rt, rt.alloc(), order, reader, writer);
     mem::forget(report);
