@@ -5,7 +5,7 @@ A script is one of four kinds, and by its kind all its runs come to the same, or
 - calm: no run can err, and nothing is frozen.
 - frozen: no run can err, and variables are frozen, where nothing raises them any more.
 - alone: one task alone, without a fork or a handler, so there is one run. It may err, or go on for ever.
-- wild: anything that the language has. Runs may cross, err, and go on for ever.
+- wild: anything that the language has. Runs may freeze variables in different orders, err, and go on for ever.
 
 No run errs of a calm or frozen script by how it is made. What is put into one cell, or at one key of a map,
 is always the same number; what is put into a counter is within its range. Locals stay below a million: a

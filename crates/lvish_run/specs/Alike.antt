@@ -18,7 +18,7 @@ EndsAlikeIf {S} {E} {R} {A} {L} M variables r P = (ys : List (Label E)) (b : Sta
     → AreFinalStates variables b r.states × HasLive b r.blocked × (length ys ≡ r.steps)
 
 pub record EndsAlike {S E R A L : Type 0} (M : Machine S E R A L) (variables : ℕ) (r : Report S E) : Type 0 where
-  -- the runs don't cross
+  -- the runs freeze variables in the same order, that is, of ends, they don't cross (the law `order_decides` of lvish_calculus)
   pub uncrossed : EndsAlikeIf M variables r (λ xs ys. IsCrossed M xs ys → ⊥)
   -- one task asks for all freezes of both
   pub one_asks : EndsAlikeIf M variables r (λ xs ys. (t : Name E) × FreezesAllBy M t (Running (start M)) xs × FreezesAllBy M t (Running (start M)) ys)

@@ -26,7 +26,7 @@ pub record IsRunBy (script : Script) (workers budget : ℕ) (r : Report Any Even
   pub honest : IsHonest (script_machine script) (length (variables_of script.declarations)) workers budget r
   -- each handler is handed each event at most once, one task's in the order of its puts, none after the freeze, at the freeze and at an end exactly those below the state
   pub handed : IsWellHanded (script_machine script) (labels_of r.trace)
-  -- if it is of an end, all ends that don't cross it are alike
+  -- if it is of an end, all ends that freeze variables in its order are the same
   pub alike : IsAlike (script_machine script) (length (variables_of script.declarations)) r
 
 -- an honest report of the run of a script that takes, at each step, the label that its pick names
@@ -35,5 +35,5 @@ pub record IsPickedRun (script : Script) (picks : List ℕ) (budget : ℕ) (r : 
   pub picked : IsPicked event_order.cmp (script_machine script) picks [] (Running (start (script_machine script))) (labels_of r.trace)
   -- each handler is handed each event at most once, one task's in the order of its puts, none after the freeze, at the freeze and at an end exactly those below the state
   pub handed : IsWellHanded (script_machine script) (labels_of r.trace)
-  -- if it is of an end, all ends that don't cross it are alike
+  -- if it is of an end, all ends that freeze variables in its order are the same
   pub alike : IsAlike (script_machine script) (length (variables_of script.declarations)) r

@@ -26,12 +26,12 @@ pub trait RunMeaning {
     ghost use Rattle.lvish_report.specs.declared.report.Report.{Report};
 
     /// An honest report of a run of the script's nested statements by this many workers, within the
-    /// budget; of an end, that all ends that don't cross it are alike.
+    /// budget; of an end, that all ends that freeze variables in its order are the same.
     ghost is_run: { Self → ℕ → ℕ → Report Any Event → Type 0 };
 
     /// An honest report of the run of the script's nested statements that takes, at each step, the
     /// label that its pick names, or the first where the picks are used up; of an end, that all ends
-    /// that don't cross it are alike.
+    /// that freeze variables in its order are the same.
     ghost is_picked_run: { Self → List ℕ → ℕ → Report Any Event → Type 0 };
 
     /// After how many steps every run of the script has ended, without an error, as far as the run
