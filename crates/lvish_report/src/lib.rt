@@ -1,8 +1,8 @@
 //! Reports of runs, and their texts.
 //!
 //! A [`Report`] says what a run came to: its outcome, the state of each variable, the numbers of steps
-//! and of blocked tasks, its trace, and how many steps each worker made. [`report_text`] is the text
-//! that a user sees, and [`trace_text`] that of the trace.
+//! and of tasks that haven't ended, its trace, and how many steps each worker made. [`report_text`] is
+//! the text that a user sees, and [`trace_text`] that of the trace.
 //!
 //! ```text
 //! print(report_text(alloc, &script, &report, true)?);

@@ -127,7 +127,7 @@ IsHow M c Ended = (c.fault ≡ None) × IsStuck M c
 IsHow {E = E} M c Budget = (c.fault ≡ None) × ((l : Label E) × CanTake M c l)
 IsHow M c (ErrorOutcome kind v t) = c.fault ≡ Some (record { kind = kind; variable = v; task = t })
 
--- the states and the number of blocked tasks of a core whose steps came out like this, none after an error
+-- the states of a core whose steps came out like this and the number of its tasks that haven't ended, none after an error
 abbrev pub IsAccount : {P S E R A L : Type 0} → Machine S E R A L → ℕ → CoreView P S E L → Outcome E → List (FinalState S) → ℕ → Type 0
 IsAccount M variables c (ErrorOutcome kind v t) states blocked = (states ≡ []) × (blocked ≡ 0)
 IsAccount M variables c Ended states blocked = AreFinalStates variables (state M c) states × HasLive (state M c) blocked

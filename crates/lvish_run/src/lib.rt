@@ -3,9 +3,10 @@
 //! [`run`] runs a script by 1 to 8 workers, each at a deque of its own, round one board. [`run_picks`]
 //! makes the steps on one thread, taking at each step the enabled label that a list of picks names, and
 //! the first when the picks are used up.
-//! A [`Report`] is honest: its trace is a run of the script's nested statements, and its states, steps
-//! and blocked tasks are those of that run's last configuration. [`always_ends`] says beforehand after
-//! how many steps every run of a script has ended.
+//! A [`Report`] is honest: its trace is a run of the script's nested statements. Unless the run is in
+//! error, its states are those of the run's last configuration, and `blocked` counts the tasks that
+//! haven't ended there; at an end, all of them are blocked. [`always_ends`] says beforehand after how
+//! many steps every run of a script has ended.
 //!
 //! ```text
 //! let report = run(&rt, alloc, &script, 2, 100_000, &Open)?;
