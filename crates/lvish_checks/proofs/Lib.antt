@@ -9,6 +9,7 @@ pub mod Versions
 pub mod Forms
 pub mod Gathered
 pub mod Order
+pub mod Verdicts
 pub mod Numbers
 pub mod Stacks
 pub mod Values

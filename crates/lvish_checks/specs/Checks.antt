@@ -294,17 +294,36 @@ IsFirstOn test None = (l : ℕ) → test l ≡ false
 IsFirstOn test (Some l) = IsLowest test l
 
 -- the first check that fails, and the lowest line on which it does
-pub record IsFirstFault (p : Parts) (f : Fault) (l : ℕ) : Type 0 where
+pub record IsFirstOf (fails_on : Fault → ℕ → Bool) (f : Fault) (l : ℕ) : Type 0 where
   pub passed : List Fault
   pub rest : List Fault
   pub order : checks ≡ passed ++ f ∷ rest
-  pub earlier : AllByRecursion (Passes p) passed
-  pub lowest : IsLowest (fails f p) l
+  pub earlier : AllByRecursion (λ g. (m : ℕ) → fails_on g m ≡ false) passed
+  pub lowest : IsLowest (fails_on f) l
+
+-- what checks say, by the lines on which each fails
+abbrev pub IsVerdictBy : (Fault → ℕ → Bool) → Option ScriptFault → Type 0
+IsVerdictBy fails_on None = AllByRecursion (λ g. (m : ℕ) → fails_on g m ≡ false) checks
+IsVerdictBy fails_on (Some e) = IsFirstOf fails_on e.fault e.line
+
+abbrev pub IsFirstFault : Parts → Fault → ℕ → Type 0
+IsFirstFault p f l = IsFirstOf (λ g. fails g p) f l
 
 abbrev pub IsAccepted : Parts → Type 0
 IsAccepted p = AllByRecursion (Passes p) checks
 
 -- what the checks say of a text
 abbrev pub IsVerdict : Parts → Option ScriptFault → Type 0
-IsVerdict p None = IsAccepted p
-IsVerdict p (Some e) = IsFirstFault p e.fault e.line
+IsVerdict p found = IsVerdictBy (λ g. fails g p) found
+
+-- ---- a text that isn't too long, of whose words the place of the first bad number alone is known
+
+abbrev pub is_found : Option ℕ → ℕ → Bool
+is_found None l = false
+is_found (Some k) l = k == l
+
+-- whether a check fails on a line of such a text
+abbrev pub fails_beside : List (List ℕ) → List Line → Option ℕ → Fault → ℕ → Bool
+fails_beside lines said bad_number TooLong = λ l. false
+fails_beside lines said bad_number BadNumber = is_found bad_number
+fails_beside lines said bad_number f = fails f (record { bytes = []; lines = lines; words = []; said = said })

@@ -1,4 +1,4 @@
-ghost use Rattle.std.specs.Prelude.{◌≡◌, ◌++◌, ◌∷◌, [], List, IfOk, OnOk};
+ghost use Rattle.std.specs.Prelude.{◌≡◌, ◌++◌, ◌∷◌, [], List, IfOk, OnErr, OnOk};
 ghost use Rattle.lvish_checks.specs.declared.line.Line.{Line};
 ghost use Rattle.lvish_checks.specs.Checks.{is_variable, is_pool, is_procedure};
 ghost use Rattle.lvish_checks.specs.Known.{AreVariables, ArePools, AreProcedures, AreArities};
@@ -62,6 +62,7 @@ impl<'a> Declared<'a> {
         ensures variables { (before : List Line) → AreVariables self.old.variables before → OnOk result (AreVariables self.new.variables (before ++ line.now ∷ [])) }
         ensures pools { (before : List Line) → ArePools self.old.pools before → OnOk result (ArePools self.new.pools (before ++ line.now ∷ [])) }
         ensures procedures { (before : List Line) → AreProcedures self.old.procedures before → OnOk result (AreProcedures self.new.procedures (before ++ line.now ∷ [])) }
+        ensures refused { OnErr result (self.new ≡ self.old) }
     {
         match line {
             Line::Declare(declaration) => match declaration.get() {

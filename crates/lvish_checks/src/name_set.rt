@@ -1,4 +1,4 @@
-ghost use Rattle.std.specs.Prelude.{◌≡◌, ◌||◌, not, false, IfOk, OnOk};
+ghost use Rattle.std.specs.Prelude.{◌≡◌, ◌||◌, not, false, IfOk, OnErr, OnOk};
 ghost use Rattle.std.specs.Str.{bytes_eq};
 ghost use Rattle.lvish_syntax.specs.Words.{Word};
 ghost use Rattle.lvish_syntax.specs.Name.{has_name};
@@ -41,6 +41,7 @@ impl<'a> NameSet<'a> {
     pub fn add(&mut self, name: &'a Identifier) -> Result<bool, AllocError>
         ensures fresh { IfOk result (λ is_new. is_new ≡ not (has_name name.now self.old)) }
         ensures names { OnOk result ((q : Word) → has_name q self.new ≡ (bytes_eq name.now q || has_name q self.old)) }
+        ensures refused { OnErr result (self.new ≡ self.old) }
     {
         let (_, is_new) = self.names.insert_full(name.as_str())?;
         Ok(is_new)

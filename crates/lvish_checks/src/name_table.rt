@@ -1,4 +1,4 @@
-ghost use Rattle.std.specs.Prelude.{◌≡◌, None, Some, OnOk, if◌then◌else◌};
+ghost use Rattle.std.specs.Prelude.{◌≡◌, None, Some, OnErr, OnOk, if◌then◌else◌};
 ghost use Rattle.std.specs.Str.{bytes_eq};
 ghost use Rattle.std.specs.Option.{option_or};
 ghost use Rattle.lvish_syntax.specs.Words.{Word};
@@ -40,7 +40,8 @@ impl<'a, V: Copy> NameTable<'a, V> {
 
     /// Adds a value at a name, unless there is one.
     pub fn add(&mut self, name: &'a Identifier, value: V) -> Result<(), AllocError>
-        ensures { OnOk result ((q : Word) → value_at q self.new ≡ option_or (value_at q self.old) (if bytes_eq name.now q then Some value else None)) }
+        ensures added { OnOk result ((q : Word) → value_at q self.new ≡ option_or (value_at q self.old) (if bytes_eq name.now q then Some value else None)) }
+        ensures refused { OnErr result (self.new ≡ self.old) }
     {
         if !self.values.contains_key(name.as_str()) {
             self.values.insert(name.as_str(), value)?;

@@ -1,4 +1,4 @@
-ghost use Rattle.std.specs.Prelude.{◌≡◌, ◌==◌, IfOk, OnOk, map};
+ghost use Rattle.std.specs.Prelude.{◌≡◌, ◌==◌, IfOk, OnErr, OnOk, length, map, take};
 ghost use Rattle.std.specs.List.{slice_split};
 ghost use Rattle.lvish_checks.specs.Text.{lines_of, words_of, is_separator, is_comment, without_last_feed};
 
@@ -20,8 +20,10 @@ fn is_comment(word: &[u8]) -> bool
 }
 
 /// Puts the words of a line in place of other words, so that the lines of a text share their room.
+/// Where a growth is refused the first words of the line stand there, as many as found room.
 pub fn put_words<'a>(words: &mut Vec<&'a [u8]>, line: &'a [u8]) -> Result<(), AllocError>
-    ensures { OnOk result (map (λ w. w.now) words.new.items ≡ words_of line.now) }
+    ensures words { OnOk result (map (λ w. w.now) words.new.items ≡ words_of line.now) }
+    ensures refused { OnErr result (map (λ w. w.now) words.new.items ≡ take (length words.new.items) (words_of line.now)) }
 {
     words.clear();
     words.extend(

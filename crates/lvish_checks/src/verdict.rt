@@ -2,7 +2,7 @@ ghost use Rattle.std.specs.Prelude.{◌≡◌, ℕ, List, length, map, nat_lt, f
 ghost use Rattle.std.specs.List.{list_any};
 ghost use Rattle.lvish_syntax.specs.Words.{Word};
 ghost use Rattle.lvish_checks.specs.Form.{is_bad_number};
-ghost use Rattle.lvish_checks.specs.Checks.{fails, on_line, IsFirstOn, IsVerdict};
+ghost use Rattle.lvish_checks.specs.Checks.{on_line, fails_beside, IsFirstOn, IsVerdict, IsVerdictBy};
 
 use crate::check::{
     first_bad_line, first_compatible, first_double_name, first_no_main, first_not_ascii,
@@ -37,7 +37,7 @@ fn first_line(
     bad_number: Option<usize>,
     said: &[Line],
 ) -> Result<Option<usize>, AllocError>
-    ensures { (bytes : List ℕ) (words : List (List Word)) → nat_lt MOST_BYTES (length bytes) ≡ false → IsFirstOn (on_line (λ k ws. list_any is_bad_number ws) words) bad_number → IfOk result (λ found. IsFirstOn (fails fault (record { bytes = bytes; lines = map (λ w. w.now) lines.now; words = words; said = said.now })) found) }
+    ensures { IfOk result (λ found. IsFirstOn (fails_beside (map (λ w. w.now) lines.now) said.now bad_number fault) found) }
 {
     match fault {
         Fault::NotAscii => Ok(first_not_ascii(lines)),
@@ -56,14 +56,17 @@ fn first_line(
 }
 
 /// The first check that fails of a text that isn't too long, and the lowest line on which it does.
-/// Of the words it is given only the first line with a number word that is no number.
+/// Of the words it is given only the first line with a number word that is no number, and takes it at
+/// its word.
 pub fn first_fault(
     alloc: Global,
     lines: &[&[u8]],
     bad_number: Option<usize>,
     said: &[Line],
 ) -> Result<Option<ScriptFault>, AllocError>
-    ensures { IfOk result (λ found. (bytes : List ℕ) (words : List (List Word)) → nat_lt MOST_BYTES (length bytes) ≡ false → IsFirstOn (on_line (λ k ws. list_any is_bad_number ws) words) bad_number → IsVerdict (record { bytes = bytes; lines = map (λ w. w.now) lines.now; words = words; said = said.now }) found) }
+    ensures found { IfOk result (IsVerdictBy (fails_beside (map (λ w. w.now) lines.now) said.now bad_number)) }
+    // So it is the verdict on each text with these lines that has its first bad number there.
+    ensures verdict { IfOk result (λ found. (bytes : List ℕ) (words : List (List Word)) → nat_lt MOST_BYTES (length bytes) ≡ false → IsFirstOn (on_line (λ k ws. list_any is_bad_number ws) words) bad_number → IsVerdict (record { bytes = bytes; lines = map (λ w. w.now) lines.now; words = words; said = said.now }) found) }
 {
     for fault in CHECKS.as_slice() {
         if let Some(line) = first_line(alloc, *fault, lines, bad_number, said)? {

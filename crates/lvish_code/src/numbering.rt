@@ -1,4 +1,4 @@
-ghost use Rattle.std.specs.Prelude.{◌≡◌, OnOk, [], length};
+ghost use Rattle.std.specs.Prelude.{◌≡◌, OnErr, OnOk, [], length};
 ghost use Rattle.lvish_code.specs.Numbering.{name_number, with_name};
 
 use indexmap::IndexSet;
@@ -37,7 +37,8 @@ impl<'a> Numbering<'a> {
 
     /// Adds a name, unless it is there.
     pub fn add(&mut self, name: &'a Identifier) -> Result<(), AllocError>
-        ensures { OnOk result (self.new ≡ with_name self.old name.now) }
+        ensures added { OnOk result (self.new ≡ with_name self.old name.now) }
+        ensures refused { OnErr result (self.new ≡ self.old) }
     {
         self.names.insert_full(name.as_str())?;
         Ok(())

@@ -1,4 +1,4 @@
-ghost use Rattle.std.specs.Prelude.{◌≡◌, ◌++◌, ◌∷◌, [], OnOk};
+ghost use Rattle.std.specs.Prelude.{◌≡◌, ◌++◌, ◌∷◌, [], OnErr, OnOk};
 ghost use Rattle.lvish_script.specs.Spells.{statement_lines, body_lines};
 ghost use Rattle.lvish_syntax.specs.Nested.{statements};
 ghost use Rattle.lvish_script.specs.Nested.{block_lines, opener};
@@ -18,9 +18,10 @@ pub fn empty(alloc: Global) -> Block
     }
 }
 
-/// Adds a statement.
+/// Adds a statement. Where the growth is refused the block has the statements that it had.
 pub fn add_statement(block: &mut Block, statement: Statement) -> Result<(), AllocError>
-    ensures { OnOk result (body_lines (statements block.new) ≡ body_lines (statements block.old) ++ statement_lines statement) }
+    ensures added { OnOk result (body_lines (statements block.new) ≡ body_lines (statements block.old) ++ statement_lines statement) }
+    ensures refused { OnErr result (statements block.new ≡ statements block.old) }
 {
     if block.items.is_empty() {
         // A block is often one statement: no room for more is taken before there are more.
@@ -52,10 +53,11 @@ impl Drop for OpenBlock {
 }
 
 impl OpenBlock {
-    /// Adds a statement.
+    /// Adds a statement. Where the growth is refused the block has the lines that it had.
     pub fn add(&mut self, statement: Statement) -> Result<(), AllocError>
         ensures lines { OnOk result (block_lines self.new ≡ block_lines self.old ++ statement_lines statement) }
         ensures opener { OnOk result (opener self.new ≡ opener self.old) }
+        ensures refused { OnErr result ((block_lines self.new ≡ block_lines self.old) × (opener self.new ≡ opener self.old)) }
     {
         match self {
             OpenBlock::If(_, block) => add_statement(block, statement),

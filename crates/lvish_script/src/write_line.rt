@@ -1,3 +1,6 @@
+//! The words of lines, written behind what a text has. Where a growth is refused some of them stand
+//! there; `write_script`, whose text it is, drops it then.
+
 ghost use Rattle.std.specs.Prelude.{◌≡◌, ◌++◌, ◌∷◌, [], map, OnOk, string_bytes, codes};
 ghost use Rattle.std.specs.Fmt.{signed_decimal};
 ghost use Rattle.lvish_checks.specs.Spelling.{term_word, kind_word, operator_word, value_words, threshold_words, pool_words, command_words, declaration_words};

@@ -12,24 +12,24 @@ returns-then-is_too_long c = inr (too_long _ (sym c.is_too_long.ensures ∙ c.if
 
 pub returns-in-Some : goal.returns-in-Some
 returns-in-Some c =
-    let verdict = rw c.in-Some.is at c.in_ok-fault.ensures in
+    let verdict = rw c.in-Some.is at c.in_ok-fault.ensures.verdict in
     inr (of_parts c.args.text.now c.as_slice-lines.result.now _ c.as_slice-2.result.now (ap (map (λ w. w.now)) c.as_slice-lines.ensures.value ∙ c.in_ok-lines.ensures) refl (c.as_slice-2.ensures.value ∙ c.in_ok-said.ensures.lines) (λ p. IsFirstFault p c.in-Some.fault.fault c.in-Some.fault.line) (verdict c.args.text.now _ (sym c.is_too_long.ensures ∙ c.if-is_too_long.false) c.in_ok-said.ensures.bad_number))
 
 pub nest-requires-clause-placed : goal.nest-requires-clause-placed
 nest-requires-clause-placed c =
-    let verdict = rw c.in-None.is at c.in_ok-fault.ensures in
+    let verdict = rw c.in-None.is at c.in_ok-fault.ensures.verdict in
     let accepted = verdict c.args.text.now _ (sym c.is_too_long.ensures ∙ c.if-is_too_long.false) c.in_ok-said.ensures.bad_number in
     λ l. rw (sym c.as_slice-2.ensures.value) (lines_well_placed _ accepted l)
 
 pub nest-requires-clause-closed : goal.nest-requires-clause-closed
 nest-requires-clause-closed c =
-    let verdict = rw c.in-None.is at c.in_ok-fault.ensures in
+    let verdict = rw c.in-None.is at c.in_ok-fault.ensures.verdict in
     let accepted = verdict c.args.text.now _ (sym c.is_too_long.ensures ∙ c.if-is_too_long.false) c.in_ok-said.ensures.bad_number in
     λ l. rw (sym c.as_slice-2.ensures.value) (blocks_closed _ accepted l)
 
 pub of-requires : goal.of-requires
 of-requires c =
-    let verdict = rw c.in-None.is at c.in_ok-fault.ensures in
+    let verdict = rw c.in-None.is at c.in_ok-fault.ensures.verdict in
     let accepted = verdict c.args.text.now _ (sym c.is_too_long.ensures ∙ c.if-is_too_long.false) c.in_ok-said.ensures.bad_number in
     let heard = c.as_slice-2.result.now in
     let version = c.version_of-version.result in
@@ -42,7 +42,7 @@ of-requires c =
 
 pub returns : goal.returns
 returns c =
-    let verdict = rw c.in-None.is at c.in_ok-fault.ensures in
+    let verdict = rw c.in-None.is at c.in_ok-fault.ensures.verdict in
     let accepted = verdict c.args.text.now _ (sym c.is_too_long.ensures ∙ c.if-is_too_long.false) c.in_ok-said.ensures.bad_number in
     let heard = c.as_slice-2.result.now in
     let script = c.of.result in
