@@ -42,7 +42,7 @@ digits_number (d ∷ ds) e f =
     no_sign d true e = grind (arith, nat_tests)
     no_sign d false e = grind (arith, nat_tests)
 
-digits_word : (ds : List ℕ) → is_numeral ds ≡ true → is_number_word ds ≡ true
+pub digits_word : (ds : List ℕ) → is_numeral ds ≡ true → is_number_word ds ≡ true
 digits_word [] e = absurd cc
 digits_word (d ∷ ds) e = is_word d (all_ascii_digits ds) (d == 45 && not (length ds == 0)) (right_holds (not (length (d ∷ ds) == 0)) _ e)
   where

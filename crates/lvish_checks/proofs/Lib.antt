@@ -16,4 +16,6 @@ pub mod Values
 pub mod Decimals
 pub mod Meanings
 pub mod Spelled
+pub mod Names
+pub mod Respelled
 mod Beginnings

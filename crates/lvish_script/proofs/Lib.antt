@@ -19,3 +19,4 @@ pub mod Places
 pub mod Accepting
 pub mod Unique
 pub mod Worded
+pub mod Respelling

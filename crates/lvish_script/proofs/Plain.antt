@@ -1,6 +1,6 @@
 -- Words that can stand in a line: no separator, no line feed and no comment's beginning in them.
-use Rattle.std.proofs.Common.{◌≡◌, cond, ℕ, suc, Bool, true, false, not, ◌||◌, ◌&&◌, List, [], ◌∷◌, ◌++◌, length, map, Option, Some, refl, ap, ◌∙◌, arith}
-use Rattle.std.proofs.lemmas.Bool.{and_from, and_parts, or_from}
+use Rattle.std.proofs.Common.{◌≡◌, cond, ℕ, suc, Bool, true, false, not, ◌&&◌, List, [], ◌∷◌, ◌++◌, length, map, Option, Some, refl, ap, ◌∙◌, arith}
+use Rattle.std.proofs.lemmas.Bool.{and_from, or_from}
 use Rattle.std.specs.Prelude.{nat_le, ◌==◌, ℤ, pos, negsuc, filter, take_while}
 use Rattle.std.specs.List.{list_any, list_all, slice_split, onto_first}
 use Rattle.std.specs.Str.{all_ascii_digits}
@@ -11,15 +11,15 @@ use Rattle.std.proofs.lemmas.List.{append-nil}
 use Rattle.std.proofs.lemmas.List.Folds.{list_any-append}
 use Rattle.std.proofs.lemmas.List.Sums.{take_while-cons}
 use Rattle.std.proofs.lemmas.List.Splits.{slice_split-cons_yes, slice_split-cons_no}
-use Rattle.lvish_syntax.specs.declared.limits.TheConstants.{MOST_IN_NAME}
-use Rattle.lvish_syntax.specs.Words.{Word, is_name, is_name_byte, is_letter, is_digit, is_reserved}
+use Rattle.lvish_syntax.specs.Words.{Word, is_name, is_name_byte, is_letter}
 use Rattle.lvish_syntax.specs.Written.{is_within, is_term_written}
 use Rattle.lvish_script.specs.Vocabulary.{Term, Local, Number}
 use Rattle.lvish_checks.specs.Text.{is_separator, is_comment, is_foreign, words_of}
-use Rattle.lvish_checks.specs.Form.{is_number_word, is_numeral, value_of_number, number_word, term_of, is_bad_number, all_of}
+use Rattle.lvish_checks.specs.Form.{is_numeral, value_of_number, number_word, term_of, is_bad_number, all_of}
 use Rattle.lvish_checks.specs.Spelling.{term_word}
 use Rattle.lvish_script.specs.Canonical.{spaced, words_joined}
 use Rattle.lvish_checks.proofs.Cuts.{left_fails, right_fails, left_holds, right_holds}
+use Rattle.lvish_checks.proofs.Names.{name_parts, name_no_number}
 use Rattle.lvish_checks.proofs.Numbers.{own, length_some}
 use Rattle.lvish_checks.proofs.Decimals.{below, above, decimal_numeral, number_back, number_is_word}
 
@@ -44,26 +44,10 @@ name_bytes_plain (b ∷ w) e = and_from (is_plain_byte b) _ (name_byte_plain b (
 letter_begins : (b : ℕ) → is_letter b ≡ true → not (b == 35) ≡ true
 letter_begins b e = grind (arith, nat_tests)
 
-letter_no_number : (b : ℕ) (t : Bool) → is_letter b ≡ true → (is_digit b || (b == 45 && t)) ≡ false
-letter_no_number b true e = grind (arith, nat_tests)
-letter_no_number b false e = grind (arith, nat_tests)
-
-name_parts : (b : ℕ) (w : Word) → is_name (b ∷ w) ≡ true → (is_letter b ≡ true) × (list_all is_name_byte (b ∷ w) ≡ true)
-unfolding is_name
-name_parts b w e =
-    let all : (is_letter b && nat_le (length (b ∷ w)) MOST_IN_NAME && list_all is_name_byte (b ∷ w) && not (is_reserved (b ∷ w))) ≡ true = e in
-    let three = and_parts (is_letter b && nat_le (length (b ∷ w)) MOST_IN_NAME) _ (left_holds _ (not (is_reserved (b ∷ w))) all) in
-    (left_holds (is_letter b) _ three.0, three.1)
-
 pub name_plain : (w : Word) → is_name w ≡ true → is_plain w ≡ true
 unfolding is_name
 name_plain [] e = absurd cc
 name_plain (b ∷ w) e = let p = name_parts b w e in and_from (not (b == 35)) _ (letter_begins b p.0) (name_bytes_plain (b ∷ w) p.1)
-
-pub name_no_number : (w : Word) → is_name w ≡ true → is_number_word w ≡ false
-unfolding is_name
-name_no_number [] e = refl
-name_no_number (b ∷ w) e = letter_no_number b (not (length w == 0)) (name_parts b w e).0
 
 -- ---- numbers
 

@@ -237,10 +237,10 @@ procedures_own : (ps : List Procedure) → list_all is_own (flat_map procedure_l
 procedures_own [] = refl
 procedures_own (r ∷ ps) = join_all is_own (procedure_lines r) (flat_map procedure_lines ps) (join_all is_own (body_lines (statements r.body)) (line.End ∷ []) (inner_own (body_lines (statements r.body)) (inner (statements r.body))) refl) (procedures_own ps)
 
-all_own : (ds : List Declaration) (ps : List Procedure) → list_all is_own (script_lines ds ps) ≡ true
+pub all_own : (ds : List Declaration) (ps : List Procedure) → list_all is_own (script_lines ds ps) ≡ true
 all_own ds ps = join_all is_own (heads ds) (flat_map procedure_lines ps) (heads_own ds) (procedures_own ps)
 
-own_good : (l : Line) → is_own l ≡ true → is_good l ≡ true
+pub own_good : (l : Line) → is_own l ≡ true → is_good l ≡ true
 own_good line.Blank e = absurd cc
 own_good line.Bad e = absurd cc
 own_good line.Version e = absurd cc

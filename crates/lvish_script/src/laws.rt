@@ -1,11 +1,13 @@
 //! Laws of the definitions, as contracts of functions without code.
 
-ghost use Rattle.std.specs.Prelude.{◌≡◌, ◌≤◌, length, List, ℕ};
+ghost use Rattle.std.specs.Prelude.{◌≡◌, ◌≤◌, length, map, List, ℕ};
 ghost use Rattle.std.specs.List.{AllZip};
 ghost use Rattle.lvish_syntax.specs.declared.script.Script.{Script};
+ghost use Rattle.lvish_syntax.specs.Words.{Word};
 ghost use Rattle.lvish_checks.specs.Checks.{parts_of};
-ghost use Rattle.lvish_checks.specs.Spelling.{Agree};
-ghost use Rattle.lvish_script.specs.Spells.{Spells};
+ghost use Rattle.lvish_checks.specs.Form.{line_of};
+ghost use Rattle.lvish_checks.specs.Spelling.{line_words, Agree};
+ghost use Rattle.lvish_script.specs.Spells.{Spells, script_lines};
 ghost use Rattle.lvish_script.specs.Same.{IsSameProcedure};
 ghost use Rattle.lvish_script.specs.Canonical.{canonical_lines, text_of, text_words, script_words};
 
@@ -30,4 +32,10 @@ pub fn a_text_spells_one_script()
 /// others, except that a number may be written by another numeral, and that lines may be blank.
 pub fn a_text_has_the_words_of_its_script()
     ensures { (text : List ℕ) (s : Script) → Spells text s → AllZip Agree (text_words text) (script_words s) }
+{}
+
+/// Lines whose words agree with those of a script's declarations and procedures say just these lines,
+/// however their numbers are spelled.
+pub fn every_spelling_says_its_line()
+    ensures { (s : Script) (lines : List (List Word)) → AllZip Agree lines (map line_words (script_lines s.declarations s.procedures)) → map line_of lines ≡ script_lines s.declarations s.procedures }
 {}
