@@ -8,17 +8,19 @@ pub enum Fault {
     TooLong = 1,
     /// A byte is none of tab, line feed, carriage return and 32 to 126.
     NotAscii,
-    /// A line has none of the forms, or declares a variable below a `proc` line.
+    /// A line has none of the forms of the text's version, or a name that the version reserves; or it
+    /// declares a variable or a pool below a `proc` line, or is `lvish 2` below another line with words.
     BadLine,
     /// A number word is no number within 64 bits.
     BadNumber,
-    /// A variable or a procedure is declared again, or a parameter is named twice in one line.
+    /// A variable, a pool or a procedure is declared again, or a parameter is named twice in one line.
     DoubleName,
-    /// A variable or a procedure isn't declared, or a term is no local of its procedure.
+    /// A variable, a pool or a procedure isn't declared, a pool's variable isn't declared above it, or a
+    /// term is no local of its procedure.
     UnknownName,
-    /// A statement doesn't fit the kind of its variable.
+    /// A statement doesn't fit the kind of its variable, or names a pool of another variable.
     WrongKind,
-    /// A procedure gets another number of terms than it has parameters.
+    /// A procedure gets another number of terms than it has parameters; a handler's gets two.
     WrongCount,
     /// A line stands inside or outside a procedure where it may not, or a procedure is open at the end.
     OpenBlock,
@@ -26,7 +28,8 @@ pub enum Fault {
     Compatible,
     /// There is no procedure `main`, or it has parameters.
     NoMain,
-    /// There are more variables or procedures than 64.
+    /// There are more than 64 variables, pools or procedures, or more than 64 blocks are open within one
+    /// another, the procedure's among them.
     TooMany,
     /// There was no memory to read the text.
     Memory,
