@@ -1,3 +1,4 @@
+mod Compatible
 mod ReadFound
 mod Stored
 mod Inner

@@ -13,6 +13,7 @@ pub mod Stride
 pub mod CodeOf
 pub mod NoCode
 pub mod Pictures
+pub mod Compatible
 pub mod Fitting
 pub mod Freezing
 pub mod laws

@@ -1,15 +1,23 @@
 //! What the code of each script promises, as contracts of functions with no code.
 
-ghost use Rattle.std.specs.Prelude.{◌≡◌, false};
+ghost use Rattle.std.specs.Prelude.{◌≡◌, true, false, List, Option, Some, None};
+ghost use Rattle.lvish_lattice.specs.Lattice.{IsChecked};
+ghost use Rattle.lvish_compound.specs.AnyReads.{Member};
+ghost use Rattle.lvish_compound.specs.States.{joined};
 ghost use Rattle.lvish_calculus.specs.SameRuns.{IsMatch, HaveSameRuns};
 ghost use Rattle.lvish_calculus.specs.Laws.{AsksNoFreeze};
 ghost use Rattle.lvish_calculus.specs.Agreement.{NeverAsksFreeze};
 ghost use Rattle.lvish_syntax.specs.declared.script.Script.{Script};
+ghost use Rattle.lvish_syntax.specs.Words.{Word};
+ghost use Rattle.lvish_syntax.specs.Sound.{is_get_of_kind, is_get_apart};
+ghost use Rattle.lvish_syntax.specs.declared.command.Command.TheVariants.{Get, GetAt};
 ghost use Rattle.lvish_task.specs.declared.script_code.ScriptCode.{ScriptCode};
 ghost use Rattle.lvish_task.specs.CodeOf.{IsScriptCodeOf};
 ghost use Rattle.lvish_task.specs.Freezing.{code_freezes, has_freeze};
 ghost use Rattle.lvish_task.specs.Fitting.{KeepsFitting};
-ghost use Rattle.lvish_task.specs.Meaning.{script_functions};
+ghost use Rattle.lvish_task.specs.Vocabulary.{AnyRead, Declaration, Statement, Term, Threshold};
+ghost use Rattle.lvish_task.specs.Meaning.{Activation, Valuation, term_value, variable, getting, command_turn, script_functions};
+ghost use Rattle.lvish_task.specs.Compatible.{read_of_get};
 ghost use Rattle.lvish_task.specs.Pictures.{Pictures, BeginsOnTwo};
 
 use crate::meaning::ScriptMeaning;
@@ -52,3 +60,13 @@ pub fn asks_no_freeze()
 {
     same_runs();
 }
+
+/// A get that fits the kind of its variable reads by a checked read exactly where the check of
+/// compatible members accepts it. So what that check refuses has two members that are compatible.
+pub fn compatible_members_are_refused()
+    // Its read is the one by which the line waits.
+    ensures whole { (s : Script) (values : Valuation) (following : List Statement) (below : List Activation) (x v : Word) (r : Threshold) → command_turn s values following below (Get x v r) ≡ getting s (variable s v) (read_of_get s.declarations values v None r) }
+    ensures place { (s : Script) (values : Valuation) (following : List Statement) (below : List Activation) (x v : Word) (t : Term) (r : Threshold) → command_turn s values following below (GetAt x v t r) ≡ getting s (variable s v) (read_of_get s.declarations values v (Some t) r) }
+    ensures accepted { (ds : List Declaration) (values : Valuation) (v : Word) (at : Option Term) (r : Threshold) (read : AnyRead) → is_get_of_kind ds v at r ≡ true → is_get_apart ds v at r ≡ true → read_of_get ds values v at r ≡ Some read → IsChecked joined (Member read) }
+    ensures refused { (ds : List Declaration) (values : Valuation) (v : Word) (at : Option Term) (r : Threshold) → is_get_of_kind ds v at r ≡ true → is_get_apart ds v at r ≡ false → (read : AnyRead) × (read_of_get ds values v at r ≡ Some read) × (IsChecked joined (Member read) → ⊥) }
+{}

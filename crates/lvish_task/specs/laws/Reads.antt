@@ -24,7 +24,7 @@ use Rattle.lvish_task.specs.Run.{target_place, wanted_test}
 pub passes : {X : Type 0} (p : X → Bool) (xs : List X) → list_all p xs ≡ true → (x : X) → Contains xs x → p x ≡ true
 passes p xs e x (k, w, is) = ap p (sym is) ∙ AllPass-from_list_all p xs e k _ w
 
-one : (zs : List ℤ) → are_one zs ≡ true → (m n : ℤ) → Contains zs m → Contains zs n → m ≡ n
+pub one : (zs : List ℤ) → are_one zs ≡ true → (m n : ℤ) → Contains zs m → Contains zs n → m ≡ n
 one [] e m n (k, w, is) there = absurd (omega arith)
 one (z ∷ zs) e m n h k =
     let all : list_all (int_eq z) (z ∷ zs) ≡ true = and_from _ _ (int_eq_equiv.refl z) e in
