@@ -11,7 +11,7 @@ use Rattle.lvish_core.specs.CoreLaws.{HandsOneEvent, HandsWhatComes}
 use Rattle.lvish_core.specs.Labels.{AreLabels}
 use Rattle.lvish_board.specs.Acts.{entry_of}
 use Rattle.lvish_board.specs.Listed.{IsListed}
-use Rattle.lvish_board.specs.Vocabulary.{Work}
+use Rattle.lvish_board.specs.declared.work.Work.{Work}
 use Rattle.lvish_trace.specs.Traced.{labels_of}
 use Rattle.lvish_board.specs.Standing.{Standing, IsBoardSound, IsBlocked}
 use Rattle.lvish_board.specs.Place.{TaskPlace}

@@ -12,3 +12,8 @@ returns-in_ok-open_all-in-Some-clause-agenda g c = λ still.
     beside_after _ g.J.Named.program g.J.Named.budget c.args.board.now c.take_hand.new.board (Hand c.args.handler e) c.is_sound.ensures c.is_sound-in-Some.ensures c.requires.running made.entered still
     (c.lawful.ensures g.J.Named.program) (c.hands_one_event.ensures.open g.J.Named.program) (c.handed_next.ensures.below_the_end g.J.Named.program) (c.handed_next.ensures.held g.J.Named.program)
     g.P.Lat.Event.Ord.cmp (works_of c.in-Some.left) made.listed (open_in g.P.Lat.Event.Ord.cmp c.args.agenda.now) (open_in g.P.Lat.Event.Ord.cmp c.open_all.new.agenda) c.requires.beside c.in_ok-open_all-in-Some.ensures
+
+pub returns-in_ok-open_all-in-Some-clause-handed : goal.returns-in_ok-open_all-in-Some-clause-handed
+returns-in_ok-open_all-in-Some-clause-handed g c = λ e next.
+    let tried = rw c.in-Some.is at c.in_ok-left.ensures in
+    (tried e next).entered
