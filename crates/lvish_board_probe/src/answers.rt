@@ -2,7 +2,7 @@
 
 ghost use Rattle.std.specs.Prelude.{◌≡◌, ◌≤◌};
 
-use crate::board_desk::write_calls;
+use crate::board_desk::{write_calls, write_calls_after};
 use crate::calls::Calls;
 use crate::naming::{Naming, Of};
 use lvish_board::Place;
@@ -58,23 +58,44 @@ fn write_one(
     if budget > MOST_STEPS {
         return text.push_str("no such budget\n");
     }
-    let calls = Calls { lines: calls };
-    write_named::<Brand>(alloc, code, text, budget, &calls, Opened::new())
+    let calls = match calls.split_once("another board\n") {
+        Some((lines, others)) => Calls {
+            lines,
+            others: Some(others),
+        },
+        None => Calls {
+            lines: calls,
+            others: None,
+        },
+    };
+    let (here, there) = (Opened::new(), Opened::new());
+    write_named::<Brand, Brand>(alloc, code, text, budget, &calls, here, there)
 }
 
-/// Writes what it answers, under a name of its own.
-fn write_named<N: Naming>(
+/// Writes what it answers, under a name of its own, and then what another board answers, if calls are made
+/// of one: that has the work that this one has left.
+fn write_named<N: Naming, M: Naming>(
     alloc: Global,
     code: &ScriptCode,
     text: &mut String,
     budget: u64,
     calls: &Calls<'_>,
-    history: Opened<Place<ScriptCode>>,
+    here: Opened<Place<ScriptCode>>,
+    there: Opened<Place<ScriptCode>>,
 ) -> Result<(), AllocError>
     requires program { code.now ≡ N.code }
     requires budget { budget ≡ N.budget }
     requires bounded { N.budget ≤ MOST_STEPS }
-    requires history { history.seen.book ≡ N.book }
+    requires history { here.seen.book ≡ N.book }
+    requires other_program { code.now ≡ M.code }
+    requires other_budget { budget ≡ M.budget }
+    requires other_bounded { M.budget ≤ MOST_STEPS }
+    requires other_history { there.seen.book ≡ M.book }
 {
-    write_calls::<ScriptCode, Of<N>>(alloc, code, text, budget, calls.lines, history)
+    let left = write_calls::<ScriptCode, Of<N>>(alloc, code, text, budget, calls.lines, here)?;
+    let Some(lines) = calls.others else {
+        return Ok(());
+    };
+    text.push_str("another board -> opened\n")?;
+    write_calls_after::<ScriptCode, Of<M>, Of<N>>(alloc, code, text, budget, lines, left, there)
 }

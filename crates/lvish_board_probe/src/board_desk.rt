@@ -31,13 +31,37 @@ impl<'p, P: Program, J: Named<P>> Drop for BoardDesk<'p, P, J> {
     }
 }
 
-/// Writes what a board of the program answers to the calls, a line each.
+/// Writes what a board of the program answers to the calls, a line each. Answers the work that it has left.
 pub fn write_calls<P: Program, J: Named<P>>(
     alloc: Global,
     program: &P,
     text: &mut String,
     budget: u64,
     calls: &str,
+    history: Opened<Place<P>>,
+) -> Result<Vec<Work<P, J>>, AllocError>
+where
+    <P::Lat as Lattice>::Event: Numbered,
+    requires program { program.now ≡ J.program }
+    requires budget { budget ≡ J.budget }
+    requires bounded { J.budget ≤ MOST_STEPS }
+    requires history { history.seen.book ≡ J.book }
+{
+    let (board, work) = opened::<P, J>(alloc, program, budget, history)?;
+    let mut seat = Seat::new(alloc, BoardDesk { program, board }, work, Vec::new(alloc))?;
+    write_answers(alloc, text, calls, &mut seat)?;
+    Ok(seat.into_left())
+}
+
+/// Writes what a board of the program answers to the calls, which has beside its own the work that another
+/// board has left.
+pub fn write_calls_after<P: Program, J: Named<P>, K: Named<P>>(
+    alloc: Global,
+    program: &P,
+    text: &mut String,
+    budget: u64,
+    calls: &str,
+    left: Vec<Work<P, K>>,
     history: Opened<Place<P>>,
 ) -> Result<(), AllocError>
 where
@@ -47,26 +71,37 @@ where
     requires bounded { J.budget ≤ MOST_STEPS }
     requires history { history.seen.book ≡ J.book }
 {
-    let mut seat = seat_at_start::<P, J>(alloc, program, budget, history)?;
+    let (board, work) = opened::<P, J>(alloc, program, budget, history)?;
+    let others = adopted_all(alloc, &board, left)?;
+    let mut seat = Seat::new(alloc, BoardDesk { program, board }, work, others)?;
     write_answers(alloc, text, calls, &mut seat)
 }
 
-/// A board at the start with main's ticket.
-fn seat_at_start<'p, P: Program, J: Named<P>>(
+/// The work that another board has left, for this one.
+fn adopted_all<P: Program, J: Named<P>, K: Named<P>>(
     alloc: Global,
-    program: &'p P,
-    budget: u64,
-    history: Opened<Place<P>>,
-) -> Result<Seat<BoardDesk<'p, P, J>, Work<P, J>>, AllocError>
-where
-    <P::Lat as Lattice>::Event: Numbered,
-    requires program { program.now ≡ J.program }
-    requires budget { budget ≡ J.budget }
-    requires bounded { J.budget ≤ MOST_STEPS }
-    requires history { history.seen.book ≡ J.book }
-{
-    let (board, work) = opened(alloc, program, budget, history)?;
-    Seat::new(alloc, BoardDesk { program, board }, work)
+    board: &Board<'_, P, J>,
+    left: Vec<Work<P, K>>,
+) -> Result<Vec<Work<P, J>>, AllocError> {
+    let mut works = Vec::new(alloc);
+    for work in left {
+        if let Some(work) = adopted(board, work) {
+            works.push(work)?;
+        }
+    }
+    Ok(works)
+}
+
+/// Another board's work, for this one; none where it is no ticket and no handing.
+fn adopted<P: Program, J: Named<P>, K: Named<P>>(
+    board: &Board<'_, P, J>,
+    work: Work<P, K>,
+) -> Option<Work<P, J>> {
+    match work {
+        Work::Stretch(ticket) => Some(Work::Stretch(board.adopt(ticket))),
+        Work::Hand(handler) => Some(Work::Hand(handler)),
+        Work::Act(_) => None,
+    }
 }
 
 /// A board at the start and main's ticket; asked for again where a growth is refused.

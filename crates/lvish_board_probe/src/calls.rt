@@ -8,13 +8,15 @@ use std::alloc::{AllocError, Global};
 #[derive(Drop)]
 pub struct Calls<'c> {
     pub lines: &'c str,
+    /// The calls of another board, which is asked after this one.
+    pub others: Option<&'c str>,
 }
 
 /// Writes the calls, a line each, with what the board answers to it.
 ///
 /// A call is work that an earlier answer left, as `Stretch main`; `copy of ` and a ticket that was
-/// left, which stays; `First`, a copy of the first ticket; `Hand main/h1`, of any handler of main; or
-/// `over` or `machine`.
+/// left, which stays; `from there: ` and work that another board has left; `First`, a copy of the first
+/// ticket; `Hand main/h1`, of any handler of main; or `over` or `machine`.
 pub fn write_answers<D: Desk<W> + Drop, W: Drop>(
     alloc: Global,
     text: &mut String,

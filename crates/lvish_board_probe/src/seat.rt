@@ -4,12 +4,13 @@ use crate::desk::{Desk, Told};
 use crate::work_left::WorkLeft;
 use std::alloc::{AllocError, Global};
 
-/// A board, a copy of its first work, the work that it has left, the piece in hand, and what was answered
-/// last. So what is owned stands here, and what is written of it is borrowed.
+/// A board, a copy of its first work, the work that it has left and that another board has left, the piece
+/// in hand, and what was answered last. So what is owned stands here, and what is written of it is borrowed.
 pub struct Seat<D, W: Drop> {
     desk: D,
     first: Option<W>,
     left: WorkLeft<W>,
+    others: WorkLeft<W>,
     work: Option<W>,
     told: Told<W>,
 }
@@ -21,6 +22,7 @@ impl<D: Drop, W: Drop> Drop for Seat<D, W> {
             desk: _,
             first: _,
             left: _,
+            others: _,
             work: _,
             told: _,
         } = self;
@@ -28,12 +30,13 @@ impl<D: Drop, W: Drop> Drop for Seat<D, W> {
 }
 
 impl<D: Desk<W> + Drop, W: Drop> Seat<D, W> {
-    /// A board that was opened with this work.
-    pub fn new(alloc: Global, desk: D, work: W) -> Result<Seat<D, W>, AllocError> {
+    /// A board that was opened with this work, and what another one has left.
+    pub fn new(alloc: Global, desk: D, work: W, others: Vec<W>) -> Result<Seat<D, W>, AllocError> {
         let mut seat = Seat {
             desk,
             first: None,
-            left: WorkLeft::new(alloc),
+            left: WorkLeft::of(Vec::new(alloc)),
+            others: WorkLeft::of(others),
             work: None,
             told: Told::Parked,
         };
@@ -68,9 +71,14 @@ impl<D: Desk<W> + Drop, W: Drop> Seat<D, W> {
         }
     }
 
-    /// The place of the first piece of work that has this text.
-    fn place_of(&self, alloc: Global, wanted: &str) -> Result<Option<usize>, AllocError> {
-        for (place, work) in self.left.works().iter().enumerate() {
+    /// The place of the first of these pieces of work that has this text.
+    fn place_of(
+        &self,
+        alloc: Global,
+        works: &[W],
+        wanted: &str,
+    ) -> Result<Option<usize>, AllocError> {
+        for (place, work) in works.iter().enumerate() {
             if self.desk.text(alloc, work)?.as_str() == wanted {
                 return Ok(Some(place));
             }
@@ -88,7 +96,7 @@ impl<D: Desk<W> + Drop, W: Drop> Seat<D, W> {
 
     /// A copy of a ticket that was left; none where this is no such ticket.
     fn copied(&self, alloc: Global, wanted: &str) -> Result<Option<W>, AllocError> {
-        match self.place_of(alloc, wanted)? {
+        match self.place_of(alloc, self.left.works(), wanted)? {
             Some(place) => self.copy_of(alloc, self.left.works().get(place)),
             None => Ok(None),
         }
@@ -105,14 +113,17 @@ impl<D: Desk<W> + Drop, W: Drop> Seat<D, W> {
         }
     }
 
-    /// The work that a call names: a copy of a ticket, what was left, or a handing by any handler of
-    /// main.
+    /// The work that a call names: a copy of a ticket, what was left, here or by another board, or a
+    /// handing by any handler of main.
     fn named(&mut self, alloc: Global, call: &str) -> Result<Option<W>, AllocError> {
         if call == "First" {
             return self.copy_of(alloc, self.first.as_ref());
         }
         if let Some(ticket) = call.strip_prefix("copy of ") {
             return self.copied(alloc, ticket);
+        }
+        if let Some(other) = call.strip_prefix("from there: ") {
+            return self.take_other(alloc, other);
         }
         match self.take(alloc, call)? {
             Some(work) => Ok(Some(work)),
@@ -250,10 +261,31 @@ impl<D: Desk<W> + Drop, W: Drop> Seat<D, W> {
 
     /// Takes out the first piece of work that has this text.
     fn take(&mut self, alloc: Global, wanted: &str) -> Result<Option<W>, AllocError> {
-        match self.place_of(alloc, wanted)? {
+        match self.place_of(alloc, self.left.works(), wanted)? {
             Some(place) => Ok(self.left.take_at(place)),
             None => Ok(None),
         }
+    }
+
+    /// Takes out the first piece of work of another board that has this text.
+    fn take_other(&mut self, alloc: Global, wanted: &str) -> Result<Option<W>, AllocError> {
+        match self.place_of(alloc, self.others.works(), wanted)? {
+            Some(place) => Ok(self.others.take_at(place)),
+            None => Ok(None),
+        }
+    }
+
+    /// The work that the board has left.
+    pub fn into_left(self) -> Vec<W> {
+        let Seat {
+            desk: _,
+            first: _,
+            left,
+            others: _,
+            work: _,
+            told: _,
+        } = self;
+        left.into_works()
     }
 }
 

@@ -1,6 +1,6 @@
 //! Work that was left.
 
-use std::alloc::{AllocError, Global};
+use std::alloc::AllocError;
 
 /// Pieces of work, in the order in which they were left.
 pub struct WorkLeft<W: Drop> {
@@ -15,11 +15,15 @@ impl<W: Drop> Drop for WorkLeft<W> {
 }
 
 impl<W: Drop> WorkLeft<W> {
-    /// No work.
-    pub fn new(alloc: Global) -> WorkLeft<W> {
-        WorkLeft {
-            works: Vec::new(alloc),
-        }
+    /// These pieces.
+    pub fn of(works: Vec<W>) -> WorkLeft<W> {
+        WorkLeft { works }
+    }
+
+    /// The pieces in a list.
+    pub fn into_works(self) -> Vec<W> {
+        let WorkLeft { works } = self;
+        works
     }
 
     pub fn works(&self) -> &[W] {
