@@ -67,7 +67,7 @@ HasOne Any = ⊥
 HasOne (In xs) = (m n : ℤ) → Contains xs m → Contains xs n → m ≡ n
 HasOne (At n) = Unit {0}
 
--- a number stands for one state alone, or for none
+-- a number stands for this state; it stands for one alone, or for none (the number of a total stands for many: `HasTotal`)
 abbrev pub StandsFor : {S : Type 0} → (ℤ → Option S) → ℤ → S → Type 0
 StandsFor state n s = state n ≡ Some s
 

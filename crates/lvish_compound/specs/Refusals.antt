@@ -40,7 +40,7 @@ IsBeyondTotal n = (n <ℤ pos 0) ⊎ (pos HIGHEST_TOTAL <ℤ n)
 abbrev pub IsBeyondTotals : Test → Type 0
 IsBeyondTotals t = (n : ℤ) × Mentions t n × IsBeyondTotal n
 
--- A read is refused: of a counter or of one amount of a tally, by a number that no counter holds; of a tally's total, by a number that no total can be; of a side that does not exist, of a side as a map or a tally, and of a side as a counter by a number that no counter holds.
+-- A read is refused if a counter, an amount or a side that is a counter is to be compared with a number that no counter holds, or a total with a number that no total can be, or if its side isn't 1 or 2, or is to be a map or a tally.
 abbrev pub IsReadRefused : Place → Test → Type 0
 IsReadRefused place.Max t = IsBeyondCounters t
 IsReadRefused (place.Amount k) t = IsBeyondCounters t

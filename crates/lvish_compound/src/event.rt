@@ -7,8 +7,8 @@ use std::cmp::Ordering;
 
 /// An event of a script's variable.
 ///
-/// The key is the key of a map or the side of a pair, and else 0. Events are ordered by key, then
-/// kind, then number.
+/// The key is the key of a map or a tally or the side of a pair, and else 0. Events are ordered by
+/// key, then kind, then number.
 #[derive(Clone, Copy, Debug, PartialEq, Eq, PartialOrd, Ord, Hash)]
 pub struct Event {
     pub key: i64,

@@ -39,8 +39,8 @@ pub fn parts_join_to_top_where_they_clash()
 {}
 
 /// Two states of a script's variables join to top exactly where they clash: parts that do, maps
-/// with values that differ at some key, pairs with a side that clashes, and states of different
-/// kinds that aren't bottom.
+/// with values that differ at some key, pairs with a side that clashes, tallies whose greater amounts
+/// add up to more than the highest total, and states of different kinds that aren't bottom.
 pub fn states_join_to_top_where_they_clash()
     ensures { IsTopWhere ⟦<Any as Lattice>⟧.joined Clash }
 {

@@ -15,7 +15,7 @@ use std::hash::Hash;
 
 /// A set that only grows.
 ///
-/// It is stored as a tree, or as at most one element.
+/// It is stored as at most one element, as a row, or as a tree.
 pub struct GrowSet<V: Plain> {
     items: Elements<V>,
     ghost ascending: { IsStrictlySortedBy V.cmp items } by { IsStrictlySortedBy-prop V.cmp items },

@@ -157,7 +157,7 @@ is_put_sound ds v at = is_some (kind_there ds v at)
 abbrev pub is_get_of_kind : List Declaration → Word → Option Term → Threshold → Bool
 is_get_of_kind ds v at r = option_map_or (λ k. is_read_of k at r) (kind_of v ds) false
 
--- whether any two different members of the threshold are incompatible, where what is read has a simple kind; a total has no members
+-- whether any two different members of the threshold are incompatible, where what is read has a simple kind; a `total` lists nothing
 abbrev pub is_get_apart : List Declaration → Word → Option Term → Threshold → Bool
 is_get_apart ds v at r = option_map_or (λ k. is_apart k r) (kind_there ds v at) true
 

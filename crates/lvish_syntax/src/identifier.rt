@@ -7,7 +7,7 @@ use lvish_base::Items;
 use std::alloc::{AllocError, Global};
 use std::marker::Model;
 
-/// The name of a variable, a procedure or a local, seen as its bytes.
+/// The name of a variable, a pool, a procedure or a local, seen as its bytes.
 pub struct Identifier {
     text: ArrayString<MOST_IN_NAME>,
 }
