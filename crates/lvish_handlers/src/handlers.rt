@@ -119,6 +119,7 @@ impl<L: Lattice> Handlers<L> {
     /// Where the handler of this name is among the others, if there is one.
     pub fn find(&self, name: &HandlerName<L::Event>) -> Option<usize>
         ensures found { IfSome result (λ at. IsAt self.now.held name.now at) }
+        ensures missing { IsNone result → ¬ (IsHeld self.now.held name.now) }
         ensures none { IsNone result → (log : List (Entry L.Event)) → next_of L.Event.eq log self.now.held name.now ≡ None }
     {
         match place_of(&self.held, name) {
