@@ -23,8 +23,8 @@ for_this F x o same holds y there = subst F (ap (λ p. unwrap_or p x) (same ∙ 
 
 module _ {P S E R Ans L P1 J1 A1 W : Type 0} {cmp : E → E → Ordering} {M : Machine S E R Ans L} {Stands Can Full : Type 0} {worker : ℕ} {asked : TaskPlace E L} {old new : Standing P S E L} where
   -- the board is over, as it was or because the budget is used up
-  pub act_over : IsSome old.over ⊎ (Stands × Can × Full) → new.trace ≡ old.trace → new.core ≡ old.core → IsSome new.over → (IsSome old.over → new ≡ old) → ComesOfAct {P = P1} {J = J1} {A = A1} {W = W} cmp M Stands Can Full worker asked old new Over
-  act_over why trace core some before = record {
+  pub act_over : IsSome old.over ⊎ (Stands × Can × Full) → new.trace ≡ old.trace → new.core ≡ old.core → IsSome new.over → new.parked ≡ old.parked → (IsSome old.over → new ≡ old) → ComesOfAct {P = P1} {J = J1} {A = A1} {W = W} cmp M Stands Can Full worker asked old new Over
+  act_over why trace core some parked before = record {
     order = why;
     stays = λ _. (trace, core);
     step = λ e. absurd (false≢true e);
@@ -33,6 +33,7 @@ module _ {P S E R Ans L P1 J1 A1 W : Type 0} {cmp : E → E → Ordering} {M : M
     noted = tt;
     own = tt;
     over = λ _. some;
+    keeps = λ _. parked;
     done = λ e. (refl, before e);
     stale = λ e. absurd (false≢true e);
     parked = λ e. absurd (false≢true e);
@@ -50,6 +51,7 @@ module _ {P S E R Ans L P1 J1 A1 W : Type 0} {cmp : E → E → Ordering} {M : M
     noted = tt;
     own = tt;
     over = λ e. absurd (false≢true e);
+    keeps = λ e. absurd (false≢true e);
     done = not_over old.over none;
     stale = λ _. same;
     parked = λ e. absurd (false≢true e);
@@ -67,6 +69,7 @@ module _ {P S E R Ans L P1 J1 A1 W : Type 0} {cmp : E → E → Ordering} {M : M
     noted = noted;
     own = own;
     over = λ e. absurd (false≢true e);
+    keeps = λ e. absurd (false≢true e);
     done = not_over old.over order.0;
     stale = λ e. absurd (false≢true e);
     parked = λ e. absurd (false≢true e);
@@ -84,6 +87,7 @@ module _ {P S E R Ans L P1 J1 A1 W : Type 0} {cmp : E → E → Ordering} {M : M
     noted = noted;
     own = own;
     over = λ e. absurd (false≢true e);
+    keeps = λ e. absurd (false≢true e);
     done = not_over old.over order.0;
     stale = λ e. absurd (false≢true e);
     parked = λ e. absurd (false≢true e);
@@ -108,6 +112,7 @@ module _ {P S E R Ans L P1 J1 A1 W : Type 0} {cmp : E → E → Ordering} {M : M
     noted = tt;
     own = tt;
     over = λ e. absurd (false≢true e);
+    keeps = λ e. absurd (false≢true e);
     done = not_over old.over none;
     stale = λ e. absurd (false≢true e);
     parked = λ _. beside;
@@ -125,6 +130,7 @@ module _ {P S E R Ans L P1 J1 A1 W : Type 0} {cmp : E → E → Ordering} {M : M
     noted = tt;
     own = tt;
     over = λ e. absurd (false≢true e);
+    keeps = λ e. absurd (false≢true e);
     done = not_over old.over none;
     stale = λ e. absurd (false≢true e);
     parked = λ e. absurd (false≢true e);
@@ -133,7 +139,7 @@ module _ {P S E R Ans L P1 J1 A1 W : Type 0} {cmp : E → E → Ordering} {M : M
 
   -- no step was made of a task at its state
   pub act_unmade : (list : Works P1 J1 S L R A1 W E) (came : Came) → old.over ≡ None → Stands → new.trace ≡ old.trace → new.core ≡ old.core → ComesOfNoAct Can Full asked old new came → ComesOfAct cmp M Stands Can Full worker asked old new (with_work came (ActOn asked) list)
-  act_unmade list CameOver none stands trace core some = act_over (inr (stands, some.0, some.1)) trace core some.2 (not_over old.over none)
+  act_unmade list CameOver none stands trace core some = act_over (inr (stands, some.0, some.1)) trace core some.2 some.3 (not_over old.over none)
   act_unmade list CameParked none stands trace core kept = act_parked none stands kept.0 trace core kept.1
   act_unmade list CameMemory none stands trace core kept = act_memory none stands kept.0 kept.1
   act_unmade list CameStale none stands trace core never = absurd never

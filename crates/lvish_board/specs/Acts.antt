@@ -114,6 +114,7 @@ pub record ComesOfAct {P' P J S L R A W E Ans : Type 0} (cmp : E → E → Order
   pub noted : NotesStep (Act asked.task) new result
   pub own : HasOwn result
   pub over : is_over result ≡ true → IsSome new.over
+  pub keeps : is_over result ≡ true → new.parked ≡ old.parked
   pub done : IsSome old.over → (result ≡ Over) × (new ≡ old)
   pub stale : is_stale result ≡ true → new ≡ old
   pub parked : is_parked result ≡ true → IsParkedBeside old.parked asked new.parked
@@ -135,7 +136,7 @@ pub record ComesOfHand {P' P J S L R A W E Ans : Type 0} (cmp : E → E → Orde
 
 -- what comes of an act whose step isn't made, which leaves trace and core: Can says that it can be made, Full that the budget is used up
 abbrev pub ComesOfNoAct : {P S E L : Type 0} → (Can Full : Type 0) → TaskPlace E L → Standing P S E L → Standing P S E L → Came → Type 0
-ComesOfNoAct Can Full asked old new CameOver = Can × Full × IsSome new.over
+ComesOfNoAct Can Full asked old new CameOver = Can × Full × IsSome new.over × (new.parked ≡ old.parked)
 ComesOfNoAct Can Full asked old new CameParked = (Can → ⊥) × IsParkedBeside old.parked asked new.parked
 ComesOfNoAct Can Full asked old new CameMemory = (Can → Full → ⊥) × (new ≡ old)
 ComesOfNoAct Can Full asked old new _ = ⊥

@@ -1,4 +1,4 @@
-ghost use Rattle.std.specs.Prelude.{◌≡◌, ◌⊎◌, None, Some, IfOk, IfErr, MatchResult};
+ghost use Rattle.std.specs.Prelude.{◌≡◌, ◌⊎◌, None, Some, IfOk, IfErr, IfSome, MatchResult};
 ghost use Rattle.lvish_calculus.specs.declared.label.Label.TheVariants.{Act};
 
 use crate::named::Named;
@@ -87,6 +87,14 @@ impl<P: Program, J: Named<P>> Asked<P, J> {
         ensures { result.now ≡ self.now.from }
     {
         self.ticket.from()
+    }
+
+    /// The local state in which its step goes on, where it is known.
+    #[inline(always)]
+    pub fn at(&self) -> Option<&P::Local>
+        ensures { IfSome result (λ l. l.now ≡ (P.functions J.program).at self.now.from) }
+    {
+        self.at.as_ref()
     }
 
     /// What it asks for.

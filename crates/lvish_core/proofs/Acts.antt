@@ -1,5 +1,5 @@
 -- What each act of a task does, over any machine.
-use Rattle.std.proofs.Common.{◌≡◌, ◌≤◌, ◌<◌, ◌++◌, ℕ, suc, Bool, true, false, not, ◌&&◌, if◌then◌else◌, List, [], Option, Some, None, is_some, slice_get, unwrap_or, option_map, refl, sym, ap, subst, ◌∙◌, arith, length, length-set, append-nil}
+use Rattle.std.proofs.Common.{◌≡◌, ◌≤◌, ◌<◌, ◌++◌, ℕ, suc, Bool, true, false, not, ◌&&◌, if◌then◌else◌, List, [], ◌∷◌, Option, Some, None, is_some, slice_get, unwrap_or, option_map, refl, sym, ap, subst, ◌∙◌, arith, length, length-set, append-nil}
 use mathlib.Core.Path.{fun_ext}
 use Rattle.std.proofs.lemmas.Bool.{false_from_ne_true, false≢true}
 use Rattle.std.proofs.lemmas.Option.{same_Some}
@@ -26,7 +26,7 @@ use Rattle.lvish_core.specs.Kept.{IsKept}
 use Rattle.lvish_core.specs.laws.Runs.{content_at}
 use Rattle.lvish_core.proofs.Turns.{Start, Turn, nobody, child, on, off, live_some}
 use Rattle.lvish_core.proofs.Counting.{started, stopped, pool_variable_is}
-use Rattle.lvish_core.proofs.Goes.{Moves, acted, outcome_is, as_asked, same_log, written_log, was_live}
+use Rattle.lvish_core.proofs.Goes.{Moves, MovesTo, acted, outcome_is, as_asked, same_log, written_log, was_live}
 
 abbrev put_change : {S E L : Type 0} → Name E → Task L → ℕ → S → Change S E L
 put_change t k v d = record { own = Some (t, k); made = None; added = None; joined = Some (v, d); froze = None; handing = None }
@@ -173,8 +173,11 @@ module _ {P S E R A L : Type 0} {M : Machine S E R A L} (ok : IsLawful M) {varia
     abbrev freeze_makes : S → Change S E L
     freeze_makes s = record { own = Some (t, Live (M.resume at (Content s)) f a p); made = None; added = None; joined = None; froze = Some v; handing = None }
 
-    pub freezing : Moves ok kept (Act t) (freeze_makes x.state) frozen_table places Other
-    freezing = acted ok kept acts (freeze_makes x.state) frozen_table places Other refl room (record {
+    listed : (state M old).frozen v ≡ x.frozen
+    listed = ap (λ (q : Option (Variable S E)). unwrap_or (option_map (λ z. z.frozen) q) false) x_at
+
+    pub freezing : (freezes : List ℕ) → freezes ≡ (if x.frozen then old.freezes else old.freezes ++ v ∷ []) → MovesTo ok kept (Act t) (freeze_makes x.state) frozen_table places Other freezes
+    freezing freezes are = subst (λ fs. MovesTo ok kept (Act t) (freeze_makes x.state) frozen_table places Other fs) (ap (λ b. if b then old.freezes else old.freezes ++ v ∷ []) listed ∙ sym are) (acted ok kept acts (freeze_makes x.state) frozen_table places Other refl room (record {
       does = outcome_is acts ∙ ap (λ (o : Option (Variable S E)). Changes (freeze_makes (unwrap_or (option_map (λ z. z.state) o) M.bottom))) x_at;
       turn = on t acts.local _ f a p f a p acts.asking.live (omega arith) (omega arith) (omega arith);
       begins = nobody;
@@ -185,7 +188,7 @@ module _ {P S E R A L : Type 0} {M : Machine S E R A L} (ok : IsLawful M) {varia
       index = record { posts = kept.index.posts; own = kept.index.own };
       indices = sets.indices;
       last = λ x e. absurd (cc e);
-    })
+    }))
 
   -- ---- a get, a pause, a fork and an end, which change nothing but tasks and the counts of pools
 

@@ -52,7 +52,7 @@ index_other M variables n places later c k s = record {
 
 -- as a core stands after its handlers were handed out
 abbrev pub with_handlers : {P S E L : Type 0} → CoreView P S E L → List (Handlers E) → CoreView P S E L
-with_handlers c hss = record { program = c.program; table = record { variables = c.table.variables; handlers = hss; tasks = c.table.tasks }; steps = c.steps; fault = c.fault; touched = c.touched }
+with_handlers c hss = record { program = c.program; table = record { variables = c.table.variables; handlers = hss; tasks = c.table.tasks }; steps = c.steps; fault = c.fault; touched = c.touched; freezes = c.freezes }
 
 pub same_handlers : {P S E L : Type 0} (c : CoreView P S E L) {slice new : List (Handlers E)} {n : ℕ} → slice ≡ c.table.handlers → n ≡ length c.table.handlers → new ≡ slice → with_handlers c (take n (new ++ drop (length new) c.table.handlers)) ≡ c
 same_handlers c {slice} {new} {n} is len same = ap (with_handlers c) (sym (sym (same ∙ is) ∙ rewritten c.table.handlers new n len (ap length (same ∙ is))))

@@ -28,9 +28,9 @@ module _ {P S E R A L : Type 0} (M : Machine S E R A L) (ok : IsLawful M) (law :
     (xs : List (Variable S E)) (xs_is : xs ≡ replicate m (record { state = M.bottom; frozen = false; log = [] })) (hss : List (Handlers E)) (hss_is : hss ≡ replicate m (record { held = []; running = replicate pools 0 }))
     (known : (q v : ℕ) → M.pool_variable q ≡ Some v → q < pools)
     (ts : List (Name E × Task L)) (sets : Sets M.event_same [] main (Live M.start 0 0 0) ts)
-    (places : List (Handler E × HandlerPlace)) (no_places : places ≡ []) where
+    (places : List (Handler E × HandlerPlace)) (no_places : places ≡ []) (freezes : List ℕ) (no_freezes : freezes ≡ []) where
   abbrev first : CoreView P S E L
-  first = record { program = p; table = record { variables = xs; handlers = hss; tasks = ts }; steps = 0; fault = None; touched = None }
+  first = record { program = p; table = record { variables = xs; handlers = hss; tasks = ts }; steps = 0; fault = None; touched = None; freezes = freezes }
 
   begun_table : IsBegunTable M pools first.table
   begun_table = record {
@@ -41,12 +41,16 @@ module _ {P S E R A L : Type 0} (M : Machine S E R A L) (ok : IsLawful M) (law :
     tasks = sets.each;
   }
 
+  -- every log is empty
+  no_entry : (v : ℕ) (x : Variable S E) → slice_get first.table.variables v ≡ Some x → x.log ≡ []
+  no_entry v x e = ap (λ (z : Variable S E). z.log) (begun_table.variables v x e)
+
   pub begun : IsBegun M p first
   begun = let b = law pools first.table begun_table in record {
     program = refl;
     steps = refl;
     at_start = ap Running b.0;
-    leads = run_to M first [] refl b.1;
+    leads = run_to M first [] refl b.1 no_entry no_freezes;
     touched = refl;
   }
 
@@ -60,7 +64,7 @@ module _ {P S E R A L : Type 0} (M : Machine S E R A L) (ok : IsLawful M) (law :
   begins_kept =
       let b = law pools first.table begun_table in
       record {
-        reached = record { labels = []; count = refl; leads = run_to M first [] refl b.1 };
+        reached = record { labels = []; count = refl; leads = run_to M first [] refl b.1 no_entry no_freezes };
         standing = record { run = []; few = omega arith; pictured = b.1 };
         there = ap length xs_is ∙ length-replicate m _ ∙ m_is;
         counted = b.2;

@@ -5,6 +5,7 @@ use denote.Param.Send.{IsSend, IsSync, sendable, shr_send, view_send}
 use denote.Param.SendFields.{as_row_send, declared_send}
 use denote.RattleType.{RattleType}
 use denote.Ref.{NamedLft, ShrRef}
+use denote.Builtin.{usize}
 use denote.Struct.Field.{row_field, u64-field, usize-field}
 use Rattle.std.proofs.Crossing.{Vec-send, crosses}
 use Rattle.std.proofs.MapsCrossing as maps
@@ -35,6 +36,12 @@ use Rattle.lvish_core.specs.contracts.touched.Touched as Touched
 
 size_send : IsSend (as_row usize-field)
 size_send = search sendable depth 20
+
+index_send : IsSend usize
+index_send = search sendable depth 20
+
+freezes_send : IsSend (Vec.the_row usize Global.the_row ghosts)
+freezes_send = Vec-send _ index_send
 
 number_send : IsSend (as_row u64-field)
 number_send = search sendable depth 20
@@ -81,4 +88,4 @@ module _ (E : RattleType) (s : IsSend E) (y : IsSync E) where
           let places = as_row_send (Places.the_field E e1 e2 e3 e4) places_send in
           view_send (inside.the_row a P S L R A W E p s3 s1 s2 e1 e2 e3 e4 e5 w1 w2 w3 w4 l1) _ _ _ _
           (declared_send (inside.the_type a P S L R A W E p s3 s1 s2 e1 e2 e3 e4 e5 w1 w2 w3 w4 l1)
-          (program, (variables, (handlers, (tasks, (places, (seat_send, (size_send, (number_send, (fault_send, (touched_send, tt)))))))))))
+          (program, (variables, (handlers, (tasks, (places, (seat_send, (size_send, (number_send, (fault_send, (touched_send, (freezes_send, tt))))))))))))

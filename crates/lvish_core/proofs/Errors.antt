@@ -1,5 +1,5 @@
 -- A step that is an error, over any machine.
-use Rattle.std.proofs.Common.{◌≡◌, ◌⊎◌, inl, inr, take, drop, ◌+◌, ◌≤◌, ◌<◌, ◌++◌, ℕ, List, [], ◌∷◌, length, Option, Some, append_assoc, refl, sym, ap, subst, ◌∙◌, arith, length-append}
+use Rattle.std.proofs.Common.{◌≡◌, ◌⊎◌, inl, inr, take, drop, ◌+◌, ◌≤◌, ◌<◌, ◌++◌, ℕ, List, [], ◌∷◌, length, Option, Some, append_assoc, refl, sym, ap, subst, ◌∙◌, arith, append-nil, length-append}
 use Rattle.lvish_core.specs.Vocabulary.{MOST_STEPS, ErrorKind, Conflict, Frozen, Put, Label, Act, PutFault, PutConflict, PutFrozen, HandlerPlace, Other, ErrorStep}
 use Rattle.lvish_calculus.specs.Machine.{Machine}
 use Rattle.lvish_calculus.specs.Calculus.{State, Configuration, Running, Error, Changes, Fails, Nothing, Effect, IsEnabled, CanStep, IsRun, after, next, effect, start, step}
@@ -13,12 +13,16 @@ use Rattle.lvish_picture.specs.Steps.{IsErring}
 use Rattle.lvish_picture.specs.Laws.{ErrorsAreSteps}
 use Rattle.lvish_calculus.proofs.CoreRuns.{whole, within, cut}
 use Rattle.lvish_core.specs.Core.{CoreView, state, IsRunTo, IsStep}
-use Rattle.lvish_core.specs.Changes.{nothing_moved, moved_in, task_touches, brings}
+use Rattle.lvish_core.specs.Changes.{nothing_moved, moved_in, more_frozen, task_touches, brings}
+use Rattle.lvish_calculus.specs.FreezeOrder.{froze_by, freeze_order}
+use Rattle.lvish_core.specs.Puts.{brought_by_run}
 use Rattle.lvish_core.specs.Beside.{RefusedAt}
 use Rattle.lvish_core.specs.Acts.{IsActing, IsFailing, IsRefused, IsMoving}
 use Rattle.lvish_core.specs.Kept.{IsKept}
 use Rattle.lvish_core.proofs.Gets.{rewritten}
 use Rattle.lvish_core.specs.laws.Runs.{at_state, pictured_by}
+use Rattle.lvish_core.proofs.Puts.{brought_more}
+use Rattle.lvish_core.proofs.Freezes.{freezes_more}
 use Rattle.lvish_core.proofs.Goes.{same_log}
 
 module _ {S E R A L : Type 0} (M : Machine S E R A L) where
@@ -58,7 +62,7 @@ module _ {S E R A L : Type 0} (M : Machine S E R A L) where
 module _ {P S E R A L : Type 0} {M : Machine S E R A L} (law : ErrorsAreSteps M) {variables n : ℕ} {places : List (Handler E × HandlerPlace)} {old : CoreView P S E L}
     (kept : IsKept M variables n places old) {t : Name E} {kind : ErrorKind} {v : Option ℕ} (h : IsFailing M old t kind v) (room : old.steps < MOST_STEPS) where
   abbrev later : Name E → CoreView P S E L
-  later u = record { program = old.program; table = old.table; steps = old.steps + 1; fault = Some (record { kind = kind; variable = v; task = u }); touched = Some Other }
+  later u = record { program = old.program; table = old.table; steps = old.steps + 1; fault = Some (record { kind = kind; variable = v; task = u }); touched = Some Other; freezes = old.freezes }
 
   abbrev said : (xs : List (Label E)) → IsPictured M old.table xs → IsEnabled M (state M old) (Act t) × (step M (state M old) (Act t) ≡ Error kind v t)
       × IsRun M (Running (start M)) (xs ++ Act t ∷ []) (Error kind v t) × HandsOldestFirst M (xs ++ Act t ∷ [])
@@ -72,6 +76,10 @@ module _ {P S E R A L : Type 0} {M : Machine S E R A L} (law : ErrorsAreSteps M)
     reached = s.2;
     core = s.3;
     logs = λ u x at. order_kept M xs (Act t) kind v t s.2 (state M old) u (logged x.log) (r.logs u x at);
+    brings = λ u x at. r.brings u x at ∙ sym (brought_more M xs (state M old) (Act t) (pictured_by M old xs h.acting.no_fault r).reached u
+        ∙ ap (λ o. brought_by_run M (Running (start M)) xs u ++ brings M (state M old) u o) does ∙ append-nil (brought_by_run M (Running (start M)) xs u));
+    freezes = r.freezes ∙ sym (freezes_more M xs (state M old) (Act t) (pictured_by M old xs h.acting.no_fault r).reached
+        ∙ ap (λ o. more_frozen (freeze_order M xs) (state M old).frozen (froze_by o)) does);
     table = r.table;
   }
 
@@ -126,8 +134,8 @@ module _ {P S E R A L : Type 0} {M : Machine S E R A L} {old : CoreView P S E L}
 
   -- as the core stands after its slice was handed out
   pub refused : {at : L} {f a p v : ℕ} {d : S} → IsActing M old t at f a p (Put v d) → {slice new : List (Variable S E)} {n : ℕ} → slice ≡ old.table.variables → n ≡ length old.table.variables → new ≡ slice → (o : PutFault) → RefusedAt M.join d v slice o
-      → IsRefused M (record { program = old.program; table = record { variables = take n (new ++ drop (length new) old.table.variables); handlers = old.table.handlers; tasks = old.table.tasks }; steps = old.steps; fault = old.fault; touched = old.touched }) t v o
+      → IsRefused M (record { program = old.program; table = record { variables = take n (new ++ drop (length new) old.table.variables); handlers = old.table.handlers; tasks = old.table.tasks }; steps = old.steps; fault = old.fault; touched = old.touched; freezes = old.freezes }) t v o
   refused {at} {f} {a} {p} {v} {d} acts {slice} {new} {n} is len same o w =
-      subst (λ l. IsRefused M (record { program = old.program; table = record { variables = l; handlers = old.table.handlers; tasks = old.table.tasks }; steps = old.steps; fault = old.fault; touched = old.touched }) t v o)
+      subst (λ l. IsRefused M (record { program = old.program; table = record { variables = l; handlers = old.table.handlers; tasks = old.table.tasks }; steps = old.steps; fault = old.fault; touched = old.touched; freezes = old.freezes }) t v o)
       (sym (same ∙ is) ∙ rewritten old.table.variables new n len (ap length (same ∙ is)))
       (record { at = at; forks = f; adds = a; puts = p; put = d; acting = acts; why = subst (λ l. RefusedAt M.join d v l o) is w })

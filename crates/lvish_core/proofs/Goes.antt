@@ -3,7 +3,7 @@ use Rattle.std.proofs.Common.{◌≡◌, ◌+◌, ◌<◌, ◌≤◌, ℕ, List,
 use Rattle.std.proofs.lemmas.Option.{same_Some, slice_get_within}
 use Rattle.lvish_core.specs.Vocabulary.{MOST_STEPS, Label, Act, Request, Entry, HandlerPlace, Touched, DoneStep, Made}
 use Rattle.lvish_calculus.specs.Machine.{Machine, IsLawful}
-use Rattle.lvish_calculus.specs.Calculus.{Task, State, Configuration, IsLive, Change, Changes, CanStep, after, changed, next, effect, request_effect, task_effect, with_task}
+use Rattle.lvish_calculus.specs.Calculus.{Task, State, Configuration, IsLive, Running, Change, Changes, CanStep, after, changed, next, effect, request_effect, start, task_effect, with_task}
 use Rattle.lvish_names.specs.Names.{Name, Handler}
 use Rattle.lvish_calculus.specs.Live.{HasLive}
 use Rattle.lvish_variable.specs.Variable.{VariableView as Variable}
@@ -12,13 +12,17 @@ use Rattle.lvish_picture.specs.Steps.{AreTasks}
 use Rattle.lvish_picture.specs.Laws.{IsTableStep as TableStep}
 use Rattle.lvish_picture.specs.Counts.{CountsRunning}
 use Rattle.lvish_core.specs.Core.{CoreView, state, IsStep, HandsNext, says}
-use Rattle.lvish_core.specs.Changes.{brings, put_brings, local_of, made_as, moved_by, moved_in, task_touches, touched_by}
+use Rattle.lvish_core.specs.Changes.{brings, put_brings, local_of, made_as, moved_by, moved_in, more_frozen, task_touches, touched_by}
+use Rattle.lvish_calculus.specs.FreezeOrder.{froze_by, freeze_order}
+use Rattle.lvish_core.specs.Puts.{brought_by_run}
 use Rattle.lvish_core.specs.Places.{IsIndex}
 use Rattle.lvish_core.specs.Tasks.{IsAt, KeepsIndices, Sets}
 use Rattle.lvish_core.specs.Acts.{IsActing, IsMoving}
 use Rattle.lvish_core.specs.Kept.{IsKept, AreFew}
 use Rattle.lvish_core.specs.laws.Runs.{running_same, at_state, pictured_by, run_to}
-use Rattle.lvish_picture.proofs.Slots.{read, written, earlier}
+use Rattle.lvish_picture.proofs.Slots.{read, written, earlier, get_there}
+use Rattle.lvish_core.proofs.Puts.{brought_more}
+use Rattle.lvish_core.proofs.Freezes.{freezes_more}
 use Rattle.lvish_core.proofs.Turns.{Turn, Start, joined, left, live_is, no_more, live_after, few_after}
 
 -- a log that stays
@@ -47,9 +51,9 @@ made_of {S} {E} {L} ch m e = by ch.made refl e
     by None is e = absurd (cc e)
     by (Some x) is e = (x, is, named x (local_of x.1) e)
 
--- the core after a step: its table, and what the step concerned
-abbrev pub later : {P S E L : Type 0} → CoreView P S E L → Table S E L → Touched → CoreView P S E L
-later old table on = record { program = old.program; table = table; steps = old.steps + 1; fault = old.fault; touched = Some on }
+-- the core after a step: its table, what the step concerned, and the order of freezes
+abbrev pub later : {P S E L : Type 0} → CoreView P S E L → Table S E L → Touched → List ℕ → CoreView P S E L
+later old table on freezes = record { program = old.program; table = table; steps = old.steps + 1; fault = old.fault; touched = Some on; freezes = freezes }
 
 -- a task's step
 module _ {P S E R A L : Type 0} {M : Machine S E R A L} {old : CoreView P S E L} {t : Name E} {at : L} {f a p : ℕ} {r : Request S R L} (acts : IsActing M old t at f a p r) where
@@ -79,12 +83,36 @@ module _ {P S E R A L : Type 0} {M : Machine S E R A L} (ok : IsLawful M) {varia
     pub last : (x : Name E × Task L) → change.made ≡ Some x → IsAt new.tasks (length old.table.tasks) x.0
 
   -- a step that is no error moves what its change does, and the core keeps what it keeps
+  abbrev pub MovesTo : Label E → Change S E L → Table S E L → List (Handler E × HandlerPlace) → Touched → List ℕ → Type 0
+  MovesTo l change new more on freezes = IsMoving M old l (later old new on freezes) DoneStep (moved_by change) × IsKept M variables (left change.own (joined change.made n)) more (later old new on freezes)
+
   abbrev pub Moves : Label E → Change S E L → Table S E L → List (Handler E × HandlerPlace) → Touched → Type 0
-  Moves l change new more on = IsMoving M old l (later old new on) DoneStep (moved_by change) × IsKept M variables (left change.own (joined change.made n)) more (later old new on)
+  Moves l change new more on = MovesTo l change new more on (more_frozen old.freezes (state M old).frozen change.froze)
 
   module _ (l : Label E) (change : Change S E L) (new : Table S E L) (more : List (Handler E × HandlerPlace)) (on : Touched) (no_fault : old.fault ≡ None) (room : old.steps < MOST_STEPS) (takes : HandsNext M old l)
       (touches : on ≡ touched_by M (state M old) l) (g : Going l change new more) where
-    is_step : IsStep M old l (later old new on) DoneStep
+    -- each log grows by what the step brings
+    logs_brought : (ys : List (Label E)) → IsPictured M old.table ys → ((v : ℕ) (x : Variable S E) → slice_get old.table.variables v ≡ Some x → x.log ≡ brought_by_run M (Running (start M)) ys v)
+        → (v : ℕ) (y : Variable S E) → slice_get new.variables v ≡ Some y → y.log ≡ brought_by_run M (Running (start M)) (ys ++ l ∷ []) v
+    logs_brought ys before was v y at =
+        let lt = slice_get_within new.variables v y at in
+        let long : length new.variables ≡ length old.table.variables = g.long in
+        let x = get_there old.table.variables v (omega (arith, lt, long)) in
+        g.logs v x.0 y x.1 at
+        ∙ ap (λ q. q ++ put_brings M (state M old) v change.joined change.own) (was v x.0 x.1)
+        ∙ ap (λ o. brought_by_run M (Running (start M)) ys v ++ brings M (state M old) v o) (sym g.does)
+        ∙ sym (brought_more M ys (state M old) l before.reached v)
+
+    -- and the order of freezes by what it freezes
+    abbrev freezes_now : List ℕ
+    freezes_now = more_frozen old.freezes (state M old).frozen change.froze
+
+    freezes_are : (ys : List (Label E)) → IsPictured M old.table ys → old.freezes ≡ freeze_order M ys → freezes_now ≡ freeze_order M (ys ++ l ∷ [])
+    freezes_are ys before was = ap (λ fs. more_frozen fs (state M old).frozen change.froze) was
+        ∙ ap (λ o. more_frozen (freeze_order M ys) (state M old).frozen (froze_by o)) (sym g.does)
+        ∙ sym (freezes_more M ys (state M old) l before.reached)
+
+    is_step : IsStep M old l (later old new on freezes_now) DoneStep
     is_step =
         let s = g.steps kept.standing.run kept.standing.pictured in
         record {
@@ -92,9 +120,10 @@ module _ {P S E R A L : Type 0} {M : Machine S E R A L} (ok : IsLawful M) {varia
           program = refl;
           steps = refl;
           small = omega arith;
-          stepped = at_state M (later old new on) no_fault ∙ sym (ap (λ (q : Configuration S E L). next M q l) (at_state M old no_fault) ∙ s.stepped);
-          answer = subst (λ (q : Configuration S E L). says q DoneStep) (sym (at_state M (later old new on) no_fault)) tt;
-          leads = λ ys r. run_to M (later old new on) (ys ++ l ∷ []) no_fault ((g.steps ys (pictured_by M old ys no_fault r)).kept);
+          stepped = at_state M (later old new on freezes_now) no_fault ∙ sym (ap (λ (q : Configuration S E L). next M q l) (at_state M old no_fault) ∙ s.stepped);
+          answer = subst (λ (q : Configuration S E L). says q DoneStep) (sym (at_state M (later old new on freezes_now) no_fault)) tt;
+          leads = λ ys r. let before = pictured_by M old ys no_fault r in
+              run_to M (later old new on freezes_now) (ys ++ l ∷ []) no_fault (g.steps ys before).kept (logs_brought ys before r.brings) (freezes_are ys before r.freezes);
           logs = λ v x y a b. g.logs v x y a b ∙ ap (λ o. x.log ++ brings M (state M old) v o) (sym g.does);
           touched = ap Some touches;
           indices = g.indices;
@@ -102,10 +131,10 @@ module _ {P S E R A L : Type 0} {M : Machine S E R A L} (ok : IsLawful M) {varia
           shows_before = λ k e. let no_error : ⊥ = cc in absurd no_error;
         }
 
-    state_after : state M (later old new on) ≡ changed M change (state M old)
+    state_after : state M (later old new on freezes_now) ≡ changed M change (state M old)
     state_after = running_same (sym (sym (ap (λ o. after M (state M old) o) g.does) ∙ (g.steps kept.standing.run kept.standing.pictured).stepped))
 
-    is_kept : IsKept M variables (left change.own (joined change.made n)) more (later old new on)
+    is_kept : IsKept M variables (left change.own (joined change.made n)) more (later old new on freezes_now)
     is_kept =
         record {
           reached = record {

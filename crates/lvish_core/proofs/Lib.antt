@@ -8,6 +8,9 @@ pub mod Reading
 pub mod Repeats
 pub mod Numbering
 pub mod Turns
+pub mod PutCount
+pub mod Puts
+pub mod Freezes
 pub mod Goes
 pub mod Acts
 pub mod Errors
@@ -29,3 +32,4 @@ pub mod Waiting
 pub mod Spotted
 pub mod Staged
 pub mod After
+pub mod Worked

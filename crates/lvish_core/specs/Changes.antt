@@ -1,5 +1,5 @@
 -- What a step says of its change.
-use Rattle.std.specs.Prelude.{◌≡◌, ℕ, List, [], Option, Some, None, nat_eq, if◌then◌else◌, option_and_then, option_map}
+use Rattle.std.specs.Prelude.{◌≡◌, ℕ, Bool, List, [], ◌∷◌, ◌++◌, Option, Some, None, nat_eq, if◌then◌else◌, option_and_then, option_map}
 use Rattle.lvish_lattice.specs.Lattice.{fresh_of}
 use Rattle.lvish_core.specs.Vocabulary.{Label, Act, Hand, Entry, Touched, PutOn as Put, Handed, EndedIn, Other, Made, Moved}
 use Rattle.lvish_calculus.specs.Machine.{Machine}
@@ -55,6 +55,11 @@ module _ {S E R A L : Type 0} (M : Machine S E R A L) where
   -- the entries that the step with the label brings to v's log: a put's fresh events with the task and the number of this put, and no others
   abbrev pub brought : State S E L → Label E → ℕ → List (Entry E)
   brought s l v = brings s v (effect M s l)
+
+-- the variables in the order of their first freezes, after a step that freezes this variable, if it freezes one: a variable that was frozen before stands where it stood
+abbrev pub more_frozen : List ℕ → (ℕ → Bool) → Option ℕ → List ℕ
+more_frozen fs frozen None = fs
+more_frozen fs frozen (Some v) = if frozen v then fs else fs ++ v ∷ []
 
 -- the variable of a pool, where there is one
 abbrev pub touching : (ℕ → Touched) → Option ℕ → Touched

@@ -10,9 +10,11 @@ use Rattle.lvish_handlers.specs.Handlers.{HandlersView as Handlers, next_of}
 use Rattle.lvish_picture.specs.Logs.{IsInOrder}
 use Rattle.lvish_picture.specs.Picture.{Table, IsTable, table_picture}
 use Rattle.lvish_core.specs.Changes.{brought, moved_in, touched_by}
+use Rattle.lvish_calculus.specs.FreezeOrder.{freeze_order}
+use Rattle.lvish_core.specs.Puts.{brought_by_run}
 use Rattle.lvish_core.specs.Tasks.{IsAt, KeepsIndices}
 
--- what contracts see of a core: its program, the table of variables, handlers and tasks, the number of steps, the error, and what the last step concerned.
+-- what contracts see of a core: its program, the table of variables, handlers and tasks, the number of steps, the error, what the last step concerned, and the frozen variables in the order in which they were first frozen.
 -- After an error the table is the one before it
 pub record CoreView (P S E L : Type 0) : Type 0 where
   pub program : P
@@ -20,6 +22,7 @@ pub record CoreView (P S E L : Type 0) : Type 0 where
   pub steps : ℕ
   pub fault : Option (RunError E)
   pub touched : Option Touched
+  pub freezes : List ℕ
 
 -- the configuration that the table stands for
 abbrev pub state : {P S E R A L : Type 0} → Machine S E R A L → CoreView P S E L → State S E L
@@ -33,11 +36,13 @@ at_fault s (Some f) = Error f.kind f.variable f.task
 abbrev pub picture : {P S E R A L : Type 0} → Machine S E R A L → CoreView P S E L → Configuration S E L
 picture M c = at_fault (state M c) c.fault
 
--- the labels are a core run, which leads from the start to the picture; each log has that run's events in the order of their introduction, and `IsTable` holds
+-- the labels are a core run, which leads from the start to the picture; each log has that run's events in the order of their introduction, and is what the run's puts brought to it, with their tasks and numbers; the variables were first frozen in the run's order of freezes; and `IsTable` holds
 pub record IsRunTo {P S E R A L : Type 0} (M : Machine S E R A L) (c : CoreView P S E L) (xs : List (Label E)) : Type 0 where
   pub reached : IsRun M (Running (start M)) xs (picture M c)
   pub core : HandsOldestFirst M xs
   pub logs : (v : ℕ) (x : Variable S E) → slice_get c.table.variables v ≡ Some x → IsInOrder M xs (state M c) v (logged x.log)
+  pub brings : (v : ℕ) (x : Variable S E) → slice_get c.table.variables v ≡ Some x → x.log ≡ brought_by_run M (Running (start M)) xs v
+  pub freezes : c.freezes ≡ freeze_order M xs
   pub table : IsTable M c.table
 
 -- a core run of as many labels as the core's steps leads to it

@@ -1,11 +1,13 @@
--- Which labels a core can take, and what its runs hand to handlers.
-use Rattle.std.specs.Prelude.{◌≡◌, ◌↔◌, List, [], ◌∷◌, ◌++◌, None}
-use Rattle.lvish_core.specs.Vocabulary.{Label, Hand}
+-- Which labels a core can take, what its runs hand to handlers, and what its logs' entries say.
+use Rattle.std.specs.Prelude.{◌≡◌, ◌↔◌, ℕ, List, [], ◌∷◌, ◌++◌, Some, None, Contains, slice_get}
+use Rattle.lvish_core.specs.Vocabulary.{Label, Act, Hand, Entry}
 use Rattle.lvish_calculus.specs.Machine.{Machine}
 use Rattle.lvish_calculus.specs.Calculus.{CanStep}
-use Rattle.lvish_names.specs.Names.{Handler}
-use Rattle.lvish_calculus.specs.Handing.{HandsOldestFirst, HandsTo}
+use Rattle.lvish_names.specs.Names.{Name, Handler}
+use Rattle.lvish_calculus.specs.Handing.{HandsOldestFirst, HandsTo, Introduces}
+use Rattle.lvish_variable.specs.Variable.{VariableView as Variable}
 use Rattle.lvish_core.specs.Core.{CoreView, picture, IsRunTo, IsNext, CanTake}
+use Rattle.lvish_core.specs.Puts.{IsAtPut, IsBroughtAfter, IsOnlyEntry}
 
 module _ {S E R A L : Type 0} (P : Type 0) (M : Machine S E R A L) where
   -- a core that a run leads to can take just the labels that are enabled, and with which the run is a core run
@@ -31,3 +33,14 @@ module _ {S E R A L : Type 0} (P : Type 0) (M : Machine S E R A L) where
   abbrev pub HandsWhatComes : Type 0
   HandsWhatComes = (c : CoreView P S E L) (xs : List (Label E)) → IsRunTo M c xs → c.fault ≡ None
       → (h : Handler E) (e : E) → IsNext M.event_same c.table h e → CanTake M c (Hand h e)
+
+  -- in a run that leads to a core, each entry of a log was brought by a step of its task, at the put of its number
+  abbrev pub EntriesNameTheirPuts : Type 0
+  EntriesNameTheirPuts = (c : CoreView P S E L) (xs : List (Label E)) → IsRunTo M c xs → (v : ℕ) (x : Variable S E) → slice_get c.table.variables v ≡ Some x
+      → (entry : Entry E) → Contains x.log entry → (before : List (Label E)) × IsBroughtAfter M before xs v entry
+
+  -- each event that a step of the run introduces has one entry in its variable's log, with the task that made the step and the number of its put
+  abbrev pub PutsHaveTheirEntries : Type 0
+  PutsHaveTheirEntries = (c : CoreView P S E L) (xs : List (Label E)) → IsRunTo M c xs → (v : ℕ) (x : Variable S E) → slice_get c.table.variables v ≡ Some x
+      → (before after : List (Label E)) (t : Name E) (e : E) → xs ≡ before ++ Act t ∷ after → Introduces M before t v e
+      → (n : ℕ) × IsAtPut M before t n v × IsOnlyEntry x.log (record { event = e; task = t; number = n })

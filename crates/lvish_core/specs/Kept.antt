@@ -20,6 +20,7 @@ pub record IsStanding {S E R A L : Type 0} (M : Machine S E R A L) (c : Table S 
   pub few : length run ≤ n
   pub pictured : IsPictured M c run
 
+-- what every core keeps, with so many variables and running tasks, and its handlers at these places
 pub record IsKept {P S E R A L : Type 0} (M : Machine S E R A L) (variables running : ℕ) (places : List (Handler E × HandlerPlace)) (c : CoreView P S E L) : Type 0 where
   pub reached : IsReached M c
   -- also after an error, by the run before it

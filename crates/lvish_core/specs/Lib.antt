@@ -1,5 +1,6 @@
 pub mod Vocabulary
 pub mod Changes
+pub mod Puts
 pub mod Core
 pub mod Reads
 pub mod Labels
@@ -16,3 +17,4 @@ pub mod Spots
 pub mod After
 pub mod laws
 pub mod Seats
+pub mod Examples

@@ -1,6 +1,6 @@
 //! Changes to one variable, or to the handlers of one, among all.
 
-ghost use Rattle.std.specs.Prelude.{◌≡◌, ◌<◌, false, IfOk, IfErr, MatchResult, length};
+ghost use Rattle.std.specs.Prelude.{◌≡◌, ◌<◌, ◌++◌, ◌∷◌, [], false, if◌then◌else◌, IfOk, IfErr, MatchResult, length};
 ghost use Rattle.lvish_core.specs.Beside.{PutAt, RefusedAt, FrozenAt, AddedAt, HandedAt, CountsAt, CanCount, CanHand, IsPostedAt, CanAdd, one_more_in, one_less_in};
 
 use crate::handler_place::HandlerPlace;
@@ -34,6 +34,21 @@ pub(crate) fn freeze_at<L: Lattice>(variables: &mut [Variable<L>], number: usize
     ensures { FrozenAt number variables.old variables.new }
 {
     variables[number].mark();
+}
+
+/// Adds the variable of this number to the frozen ones, unless it is frozen already.
+pub(crate) fn list_freeze<L: Lattice>(
+    freezes: &mut Vec<usize>,
+    variable: &Variable<L>,
+    number: usize,
+) -> Result<(), AllocError>
+    ensures { MatchResult result (λ _. freezes.new.items ≡ (if variable.now.frozen then freezes.old.items else freezes.old.items ++ number ∷ [])) (λ _. freezes.new.items ≡ freezes.old.items) }
+{
+    if variable.is_frozen() {
+        return Ok(());
+    }
+    freezes.push(number)?;
+    Ok(())
 }
 
 /// Adds a handler on the variable, which isn't frozen.

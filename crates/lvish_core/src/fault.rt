@@ -35,7 +35,7 @@ pub enum Stepped {
 /// Why a step wasn't made.
 #[derive(Clone, Copy, Debug, PartialEq, Eq)]
 pub enum StepFault {
-    /// The label isn't enabled.
+    /// The label isn't enabled, or hands another event than the log's next.
     NotEnabled,
     /// 1,000,000 steps were made.
     Full,

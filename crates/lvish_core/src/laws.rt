@@ -1,7 +1,7 @@
 //! The laws of cores and their runs, as contracts of functions with no code.
 
 ghost use Rattle.lvish_core.specs.After.{OthersStay, StartsAsSaid};
-ghost use Rattle.lvish_core.specs.CoreLaws.{TakesCoreRuns, TakesSomething, HandsToEach, HandsOneEvent, HandsWhatComes};
+ghost use Rattle.lvish_core.specs.CoreLaws.{TakesCoreRuns, TakesSomething, HandsToEach, HandsOneEvent, HandsWhatComes, EntriesNameTheirPuts, PutsHaveTheirEntries};
 ghost use Rattle.lvish_core.specs.Spots.{PassesAtItsSpot};
 ghost use Rattle.lvish_core.specs.Waiting.{WaitsUntilTouched, EndsByCounts};
 
@@ -77,6 +77,18 @@ pub fn tasks_after<P: Program>()
 /// the get's variable.
 pub fn passes_at_its_spot<P: Program>()
     ensures { (p : P) → PassesAtItsSpot P (⟦<P as Meaning>⟧.machine p) P.Lat.spot_of P.Lat.watched }
+{
+    lawful::<P>();
+}
+
+/// Which put brought an entry of a log, in the run that led to a core, after any list of calls.
+pub fn entries_carry_their_puts<P: Program>()
+    // Each entry names its put: at a step of the run its task makes the put of its number, into
+    // this variable, and this step introduces its event.
+    ensures named { (p : P) → EntriesNameTheirPuts P (⟦<P as Meaning>⟧.machine p) }
+    // Each event that a step introduces has one entry, with the task that makes the step and the
+    // number of its put.
+    ensures each { (p : P) → PutsHaveTheirEntries P (⟦<P as Meaning>⟧.machine p) }
 {
     lawful::<P>();
 }

@@ -24,6 +24,7 @@ mod child;
 mod core_meaning;
 mod drained;
 mod ending;
+pub mod examples;
 mod fault;
 mod handler_place;
 pub mod laws;

@@ -53,6 +53,8 @@ pub struct Core<'p, P: Program> {
     steps: u64,
     fault: Option<RunError<<P::Lat as Lattice>::Event>>,
     touched: Option<Touched>,
+    // the frozen variables, in the order in which they were first frozen
+    freezes: Vec<usize>,
 }
 
 // Written out, so that it is proved once, and not at each exit of a function that owns one.
@@ -69,6 +71,7 @@ impl<'p, P: Program> Drop for Core<'p, P> {
             steps: _,
             fault: _,
             touched: _,
+            freezes: _,
         } = self;
     }
 }
@@ -80,9 +83,9 @@ impl<'p, P: Program> Model for Core<'p, P> {
 
     ghost Value = { CoreView P P.Lat P.Lat.Event P.Local };
 
-    ghost view = { λ c. record { program = c.program.now; table = record { variables = c.variables.items; handlers = c.handlers.items; tasks = c.tasks }; steps = c.steps; fault = c.fault; touched = c.touched } };
+    ghost view = { λ c. record { program = c.program.now; table = record { variables = c.variables.items; handlers = c.handlers.items; tasks = c.tasks }; steps = c.steps; fault = c.fault; touched = c.touched; freezes = c.freezes.items } };
 
-    ghost invariant = { λ c. IsKept (machine_of P.Lat.eq P.Lat.Event.eq P.Lat.Event.cmp P.Lat.least P.Lat.joined P.Lat.events_of P.Lat.answer_of (P.functions c.program.now)) (P.functions c.program.now).variables c.running c.places (record { program = c.program.now; table = record { variables = c.variables.items; handlers = c.handlers.items; tasks = c.tasks }; steps = c.steps; fault = c.fault; touched = c.touched }) };
+    ghost invariant = { λ c. IsKept (machine_of P.Lat.eq P.Lat.Event.eq P.Lat.Event.cmp P.Lat.least P.Lat.joined P.Lat.events_of P.Lat.answer_of (P.functions c.program.now)) (P.functions c.program.now).variables c.running c.places (record { program = c.program.now; table = record { variables = c.variables.items; handlers = c.handlers.items; tasks = c.tasks }; steps = c.steps; fault = c.fault; touched = c.touched; freezes = c.freezes.items }) };
 }
 
 impl<'p, P: Program> Core<'p, P> {
@@ -117,6 +120,7 @@ impl<'p, P: Program> Core<'p, P> {
             steps: 0,
             fault: None,
             touched: None,
+            freezes: Vec::new(alloc),
         })
     }
 

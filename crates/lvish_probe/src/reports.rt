@@ -42,9 +42,18 @@ fn report_line(alloc: Global, report: &Report<Any, Event>) -> Result<String, All
     let (steps, blocked) = (report.steps, report.blocked);
     let by_worker = report.by_worker.as_slice();
     let states = states_text(alloc, report.states.as_slice())?;
+    let freezes = freezes_text(alloc, report.freezes.as_slice())?;
     format!(in alloc;
-        "{outcome}, steps {steps}, blocked {blocked}, by worker {by_worker:?}{states}\n"
+        "{outcome}, steps {steps}, blocked {blocked}, by worker {by_worker:?}{states}{freezes}\n"
     )
+}
+
+/// The frozen variables by their numbers, in the order of their first freezes; nothing where there is none.
+fn freezes_text(alloc: Global, freezes: &[usize]) -> Result<String, AllocError> {
+    if freezes.is_empty() {
+        return Ok(String::new(alloc));
+    }
+    format!(in alloc; ", in the order {freezes:?}")
 }
 
 fn outcome_word(outcome: &Outcome<Event>) -> &'static str {

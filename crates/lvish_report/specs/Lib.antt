@@ -1,3 +1,4 @@
 pub mod StateText
 pub mod Text
 pub mod TraceText
+pub mod Told

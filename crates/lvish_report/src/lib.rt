@@ -10,12 +10,13 @@
 #![tactic(auto)]
 
 mod error_line;
+pub mod laws;
 mod number_text;
 mod report;
 mod state_text;
 mod text;
 mod trace_lines;
 
-pub use report::{Counts, FinalState, Report, States};
+pub use report::{Counts, FinalState, Freezes, Report, States};
 pub use text::report_text;
 pub use trace_lines::trace_text;

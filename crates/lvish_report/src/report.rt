@@ -23,6 +23,9 @@ pub type States<S> = Items<FinalState<S>>;
 /// Numbers by worker, in the order of the workers.
 pub type Counts = Items<u64>;
 
+/// Variables, each by its number.
+pub type Freezes = Items<usize>;
+
 /// What a run came to, over states `S` and events `E`.
 pub struct Report<S, E> {
     pub outcome: Outcome<E>,
@@ -36,6 +39,8 @@ pub struct Report<S, E> {
     pub trace: Trace<E>,
     /// How many steps each worker made, by its number.
     pub by_worker: Counts,
+    /// The frozen variables, in the order in which they were first frozen.
+    pub freezes: Freezes,
 }
 
 // Written out, so that it is proved once, and not at each exit of a function that owns one.
@@ -48,6 +53,7 @@ impl<S: Drop, E: Drop> Drop for Report<S, E> {
             blocked: _,
             trace: _,
             by_worker: _,
+            freezes: _,
         } = self;
     }
 }

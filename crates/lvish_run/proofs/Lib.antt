@@ -12,6 +12,12 @@ mod Accounts
 mod Counted
 mod VariableKinds
 mod Parts
+mod FreezesThere
 pub mod OfScript
 pub mod Once
 pub mod Ending
+mod SameOrder
+mod Least
+mod LeastThere
+mod SameReports
+mod OneScript

@@ -18,6 +18,11 @@ use Rattle.lvish_run.specs.Honest.{AreFinalStates, Comes, IsOutcome, IsHonest}
 use Rattle.lvish_trace.specs.Traced.{labels_of}
 use Rattle.lvish_run.specs.Picked.{ComesNext, IsNamed, IsPicked}
 use Rattle.lvish_run.specs.Alike.{EndsAlikeIf, IsAlike}
+use Rattle.lvish_run.specs.Least.{IsLeast, IsClosedEnd}
+use Rattle.lvish_task.specs.SamePlays.{HaveSamePlays}
+use Rattle.lvish_run.proofs.SameOrder.{same_order_uncrossed}
+use Rattle.lvish_run.proofs.FreezesThere.{freeze_order_there}
+use Rattle.lvish_run.proofs.LeastThere.{least_report_there, closed_report_there}
 
 abbrev back : {S E R A L K : Type 0} (B : Base S E R A) (f : Functions S E R A L) (g : Functions S E R A K) → HaveSameRuns (over B f) (over B g) → HaveSameRuns (over B g) (over B f)
 back B f g H = flip_runs (over B f) (over B g) H
@@ -60,6 +65,12 @@ module _ {S E R A L K : Type 0} (B : Base S E R A) (f : Functions S E R A L) (g 
       let k = comes_there variables r h.0 in
       (k.0, h.1, (h.2.0, enabled_there B f g H.pools h.0.last k.0.last k.1 h.2.0 h.2.1))
 
+  -- the configuration to which the run of an honest report leads
+  run_of : (variables budget : ℕ) (r : Report S E) (o : Outcome E) → IsOutcome (over B f) variables budget r o → (last : Configuration S E L) × IsRun (over B f) (Running (start (over B f))) (labels_of r.trace) last
+  run_of variables budget r Ended h = (Running h.0.last, h.0.reached)
+  run_of variables budget r (ErrorOutcome kind v t) h = (Error kind v t, h.0)
+  run_of variables budget r Budget h = (Running h.0.last, h.0.reached)
+
   -- an honest report is one of the other
   pub honest_there : (variables workers budget : ℕ) (r : Report S E) → IsHonest (over B f) variables workers budget r → IsHonest (over B g) variables workers budget r
   honest_there variables workers budget r h = record {
@@ -68,6 +79,7 @@ module _ {S E R A L K : Type 0} (B : Base S E R A) (f : Functions S E R A L) (g 
     within = h.within;
     outcome = outcome_there variables budget r r.outcome h.outcome;
     by_worker = h.by_worker;
+    freezes = let run = run_of variables budget r r.outcome h.outcome in h.freezes ∙ freeze_order_there B f g H (labels_of r.trace) run.0 run.1;
   }
 
   -- the same labels come next
@@ -97,12 +109,6 @@ module _ {S E R A L K : Type 0} (B : Base S E R A) (f : Functions S E R A L) (g 
   )
   picked_from cmp picks xs (Running c) (Error k v t) (l ∷ ls) last b run p = absurd b.same
   picked_from cmp picks xs (Error k v t) D (l ∷ ls) last b run p = absurd run
-
-  -- the configuration to which the run of an honest report leads
-  run_of : (variables budget : ℕ) (r : Report S E) (o : Outcome E) → IsOutcome (over B f) variables budget r o → (last : Configuration S E L) × IsRun (over B f) (Running (start (over B f))) (labels_of r.trace) last
-  run_of variables budget r Ended h = (Running h.0.last, h.0.reached)
-  run_of variables budget r (ErrorOutcome kind v t) h = (Error kind v t, h.0)
-  run_of variables budget r Budget h = (Running h.0.last, h.0.reached)
 
   -- the picks name the same labels
   pub picked_there : (cmp : E → E → Ordering) (picks : List ℕ) (variables workers budget : ℕ) (r : Report S E) → IsHonest (over B f) variables workers budget r
@@ -144,6 +150,8 @@ module _ {S E R A L K : Type 0} (B : Base S E R A) (f : Functions S E R A L) (g 
       let run = run_of B f g H variables budget r r.outcome honest.outcome in
       let a = alike ended in
       record {
+        same_order = λ ys b reach end same. alike_if (Apart (over B f)) (Apart (over B g)) a.uncrossed (λ zs d z apart crossed. apart (crossed_there B f g H trace zs run.0 (Running d) run.1 z crossed)) ys b reach end
+            (same_order_uncrossed (over B g) trace ys same);
         uncrossed = alike_if (Apart (over B f)) (Apart (over B g)) a.uncrossed (λ ys b reach apart crossed. apart (crossed_there B f g H trace ys run.0 (Running b) run.1 reach crossed));
         one_asks = alike_if (OneAsks (over B f)) (OneAsks (over B g)) a.one_asks (λ ys b reach q. (q.0, freezes_back trace run.0 run.1 q.0 q.1, freezes_back ys (Running b) reach q.0 q.2));
         no_error = alike_if (NoError (over B f)) (NoError (over B g)) a.no_error (λ ys b reach never. never_there (over B g) (over B f) (back B f g H) never);
@@ -166,6 +174,11 @@ module _ {S E R A L K : Type 0} (same : S → S → Bool) (event_same : E → E 
     handed_there base f g H (labels_of r.trace) handed,
     alike_there base f g H variables workers budget r honest alike,
   )
+
+  pub models_there : HaveSamePlays (machine_of same event_same cmp bottom join events answer f) (machine_of same event_same cmp bottom join events answer g)
+      → IsLeast (machine_of same event_same cmp bottom join events answer f) r → IsClosedEnd (machine_of same event_same cmp bottom join events answer f) r
+      → IsLeast (machine_of same event_same cmp bottom join events answer g) r × IsClosedEnd (machine_of same event_same cmp bottom join events answer g) r
+  models_there plays least closed = (least_report_there base f g H plays r least, closed_report_there base f g H plays r closed)
 
   pub picks_there : (order : E → E → Ordering) (picks : List ℕ) → IsPicked order (machine_of same event_same cmp bottom join events answer f) picks [] (Running (start (machine_of same event_same cmp bottom join events answer f))) (labels_of r.trace)
       → IsPicked order (machine_of same event_same cmp bottom join events answer g) picks [] (Running (start (machine_of same event_same cmp bottom join events answer g))) (labels_of r.trace)

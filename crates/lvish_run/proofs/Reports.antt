@@ -7,6 +7,7 @@ use Rattle.lvish_calculus.specs.declared.label.Label.{Label}
 use Rattle.lvish_calculus.specs.Machine.{Machine}
 use Rattle.lvish_calculus.specs.Calculus.{Configuration, Running, Error, CanStep, IsRun, IsEnd, IsEnded, start}
 use Rattle.lvish_names.specs.Names.{Name}
+use Rattle.lvish_calculus.specs.FreezeOrder.{freeze_order}
 use Rattle.lvish_calculus.specs.Laws.{IsCrossed, FreezesAllBy, NeverErrs, SameEndIf}
 use Rattle.lvish_core.specs.declared.fault.RunError.{RunError}
 use Rattle.lvish_calculus.specs.Handing.{HandsOldestFirst, IsWellHanded, HandingKept}
@@ -26,8 +27,10 @@ use Rattle.lvish_trace.specs.Traced.{labels_of}
 use Rattle.lvish_board.specs.Standing.{Standing, OverIs, IsBoardSound}
 use Rattle.lvish_calculus.specs.Live.{HasLive}
 use Rattle.lvish_run.specs.Alike.{EndsAlikeIf, IsAlike, IsTold}
+use Rattle.lvish_run.specs.Least.{IsLeast, IsClosedEnd}
 use Rattle.lvish_run.specs.Walk.{IsStuck, IsWalked, IsAccount, IsHow}
 use Rattle.lvish_picture.proofs.Slots.{among}
+use Rattle.lvish_run.proofs.SameOrder.{same_order_uncrossed}
 
 -- ---- the counts of one worker
 
@@ -133,10 +136,10 @@ module _ {P S E R A L : Type 0} (M : Machine S E R A L) (variables budget : ℕ)
   outcome_is Budget h a = let none = able M s.core h.1.0 h.1.1 in (comes none a, steps ∙ h.0, (h.1.0, subst (λ f. CanStep M (at_fault (state M s.core) f) h.1.0) none h.1.1.0))
   outcome_is (ErrorOutcome kind v t) h a = (at (Some (record { kind = kind; variable = v; task = t })) h, a.0, a.1)
 
-module _ {P S E R A L : Type 0} (machine : P → Machine S E R A L) (variables : P → ℕ) (p : P) (budget : ℕ) (s : Standing P S E L) (core : CoreView P S E L) (trace : List (TraceEntry E)) (o q : Outcome E) (states : List (FinalState S)) (steps blocked : ℕ) (by_worker : List ℕ) (r : Report S E)
+module _ {P S E R A L : Type 0} (machine : P → Machine S E R A L) (variables : P → ℕ) (p : P) (budget : ℕ) (s : Standing P S E L) (core : CoreView P S E L) (trace : List (TraceEntry E)) (o q : Outcome E) (states : List (FinalState S)) (steps blocked : ℕ) (by_worker freezes : List ℕ) (r : Report S E)
     (sound : IsBoardSound (machine p) p budget s) (core_is : core ≡ s.core) (trace_is : trace ≡ s.trace) (over : OverIs (machine p) budget s (Some o)) (same : q ≡ o)
     (account : IsAccount (machine core.program) (variables core.program) core q states blocked) (long : steps ≡ length trace)
-    (made : r ≡ record { outcome = q; states = states; steps = steps; blocked = blocked; trace = trace; by_worker = by_worker }) where
+    (made : r ≡ record { outcome = q; states = states; steps = steps; blocked = blocked; trace = trace; by_worker = by_worker; freezes = freezes }) where
   pub told_trace : r.trace ≡ s.trace
   told_trace = ap (λ x. x.trace) made ∙ trace_is
 
@@ -149,13 +152,14 @@ module _ {P S E R A L : Type 0} (machine : P → Machine S E R A L) (variables :
       (subst (λ x. IsAccount (machine p) (variables p) s.core x.outcome x.states x.blocked) (sym made)
       (subst (λ x. IsAccount (machine x) (variables x) s.core q states blocked) sound.program_is (subst (λ (x : CoreView P S E L). IsAccount (machine x.program) (variables x.program) x q states blocked) core_is account)))
 
-  pub told_honest : (workers : ℕ) → IsCountByWorker workers s.trace by_worker → IsHonest (machine p) (variables p) workers budget r
-  told_honest workers tally = record {
+  pub told_honest : (workers : ℕ) → IsCountByWorker workers s.trace by_worker → freezes ≡ core.freezes → IsHonest (machine p) (variables p) workers budget r
+  told_honest workers tally listed = record {
     core_run = subst (λ t. HandsOldestFirst (machine p) (labels_of t)) (sym told_trace) sound.leads.core;
     steps = told_steps;
     within = omega (arith, told_steps, ap length told_trace, sound.within);
     outcome = told_outcome;
     by_worker = subst (λ x. IsCountByWorker workers x.trace x.by_worker) (sym made) (subst (λ t. IsCountByWorker workers t by_worker) (sym trace_is) tally);
+    freezes = ap (λ x. x.freezes) made ∙ listed ∙ ap (λ (x : CoreView P S E L). x.freezes) core_is ∙ sound.leads.freezes ∙ ap (λ t. freeze_order (machine p) (labels_of t)) (sym told_trace);
   }
 
   alike_if : (Q : List (Label E) → List (Label E) → Type 0) → SameEndIf (machine p) Q → r.outcome ≡ Ended → EndsAlikeIf (machine p) (variables p) r Q
@@ -171,6 +175,7 @@ module _ {P S E R A L : Type 0} (machine : P → Machine S E R A L) (variables :
       → SameEndIf (machine p) (λ xs ys. (t : Name E) × FreezesAllBy (machine p) t (Running (start (machine p))) xs × FreezesAllBy (machine p) t (Running (start (machine p))) ys)
       → SameEndIf (machine p) (λ xs ys. NeverErrs (machine p)) → IsAlike (machine p) (variables p) r
   told_alike uncrossed one_asks no_error ended = record {
+    same_order = λ ys b reached end same. alike_if _ uncrossed ended ys b reached end (same_order_uncrossed (machine p) (labels_of r.trace) ys same);
     uncrossed = alike_if _ uncrossed ended;
     one_asks = alike_if _ one_asks ended;
     no_error = alike_if _ no_error ended;
@@ -192,11 +197,11 @@ well_handed M variables workers budget r kept h =
 pub by_workers : {S E R A L : Type 0} (M : Machine S E R A L) (variables n workers budget : ℕ) (r : Report S E) → n ≡ workers → IsHonest M variables n budget r → IsHonest M variables workers budget r
 by_workers M variables n workers budget r same h = subst (λ k. IsHonest M variables k budget r) same h
 
--- what three clauses say of a report
+-- what five clauses say of a report
 pub is_told : {S E R A L X : Type 0} (M : Machine S E R A L) (variables workers budget : ℕ) (r : Result (Report S E) X) → IfOk r (λ x. IsHonest M variables workers budget x)
-    → IfOk r (λ x. IsWellHanded M (labels_of x.trace)) → IfOk r (λ x. IsAlike M variables x) → IfOk r (λ x. IsTold M variables workers budget x)
-is_told M variables workers budget (Ok x) h k a = record { honest = h; handed = k; alike = a }
-is_told M variables workers budget (Err e) h k a = tt
+    → IfOk r (λ x. IsWellHanded M (labels_of x.trace)) → IfOk r (λ x. IsAlike M variables x) → IfOk r (λ x. IsLeast M x) → IfOk r (λ x. IsClosedEnd M x) → IfOk r (λ x. IsTold M variables workers budget x)
+is_told M variables workers budget (Ok x) h k a l c = record { honest = h; handed = k; alike = a; least = l; closed = c }
+is_told M variables workers budget (Err e) h k a l c = tt
 
 -- what two clauses say of a good answer
 pub both_ok : {T X : Type 0} (P Q : T → Type 0) (r : Result T X) → IfOk r P → IfOk r Q → IfOk r (λ x. P x × Q x)

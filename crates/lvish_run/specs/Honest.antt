@@ -4,6 +4,7 @@ use Rattle.lvish_calculus.specs.declared.label.Label.{Label}
 use Rattle.lvish_calculus.specs.Machine.{Machine}
 use Rattle.lvish_calculus.specs.Calculus.{State, Running, Error, IsEnabled, IsRun, IsEnd, start}
 use Rattle.lvish_calculus.specs.Laws.{Reaches}
+use Rattle.lvish_calculus.specs.FreezeOrder.{freeze_order}
 use Rattle.lvish_calculus.specs.Handing.{HandsOldestFirst}
 use Rattle.lvish_calculus.specs.Live.{HasLive}
 use Rattle.lvish_trace.specs.Traced.{labels_of}
@@ -46,3 +47,5 @@ pub record IsHonest {S E R A L : Type 0} (M : Machine S E R A L) (variables work
   pub outcome : IsOutcome M variables budget r r.outcome
   -- each worker's number of steps
   pub by_worker : IsCountByWorker workers r.trace r.by_worker
+  -- the variables in the order in which this run first freezes them
+  pub freezes : r.freezes ≡ freeze_order M (labels_of r.trace)

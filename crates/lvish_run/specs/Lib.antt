@@ -1,4 +1,5 @@
 pub mod Honest
+pub mod Least
 pub mod Alike
 pub mod Picked
 pub mod Agenda
@@ -6,3 +7,5 @@ pub mod Walk
 pub mod Scripts
 pub mod Crew
 pub mod Ends
+pub mod SameReports
+pub mod OneScript

@@ -13,6 +13,7 @@ use Rattle.lvish_compound.specs.contracts.event.EventOrd.TheImpl.{ghosts as even
 use Rattle.lvish_report.specs.declared.report.Report.{Report}
 use Rattle.lvish_run.specs.Alike.{IsAlike}
 use Rattle.lvish_run.specs.Honest.{IsHonest}
+use Rattle.lvish_run.specs.Least.{IsLeast, IsClosedEnd}
 use Rattle.lvish_trace.specs.Traced.{labels_of}
 use Rattle.lvish_run.specs.Picked.{IsPicked}
 use Rattle.lvish_report.specs.Text.{variables_of}
@@ -28,6 +29,10 @@ pub record IsRunBy (script : Script) (workers budget : ℕ) (r : Report Any Even
   pub handed : IsWellHanded (script_machine script) (labels_of r.trace)
   -- if it is of an end, all ends that freeze variables in its order are the same
   pub alike : IsAlike (script_machine script) (length (variables_of script.declarations)) r
+  -- its contents are at or below those of each model of the script's statements with what its run froze
+  pub least : IsLeast (script_machine script) r
+  -- if it is of an end that no task leaves at a freeze of a frozen variable, its contents are closed
+  pub closed : IsClosedEnd (script_machine script) r
 
 -- an honest report of the run of a script that takes, at each step, the label that its pick names
 pub record IsPickedRun (script : Script) (picks : List ℕ) (budget : ℕ) (r : Report Any Event) : Type 0 where
@@ -37,3 +42,7 @@ pub record IsPickedRun (script : Script) (picks : List ℕ) (budget : ℕ) (r : 
   pub handed : IsWellHanded (script_machine script) (labels_of r.trace)
   -- if it is of an end, all ends that freeze variables in its order are the same
   pub alike : IsAlike (script_machine script) (length (variables_of script.declarations)) r
+  -- its contents are at or below those of each model of the script's statements with what its run froze
+  pub least : IsLeast (script_machine script) r
+  -- if it is of an end that no task leaves at a freeze of a frozen variable, its contents are closed
+  pub closed : IsClosedEnd (script_machine script) r

@@ -9,7 +9,7 @@ use lvish_calculus::{Meaning, Program};
 use lvish_core::{Core, RunError};
 use lvish_lattice::{Lattice, Plain};
 use lvish_names::TaskName;
-use lvish_report::{Counts, FinalState, Report, States};
+use lvish_report::{Counts, FinalState, Freezes, Report, States};
 use lvish_variable::{Entry, Variable};
 use std::alloc::{AllocError, Global};
 
@@ -22,6 +22,8 @@ pub struct Account<S, E> {
     pub names: Vec<TaskName<E>>,
     /// The logs of the variables, none after an error.
     pub logs: Vec<Vec<Entry<E>>>,
+    /// The frozen variables, in the order in which they were first frozen.
+    pub freezes: Freezes,
 }
 
 // Written out, so that it is proved once, and not at each exit of a function that owns one.
@@ -33,6 +35,7 @@ impl<S: Drop, E: Drop> Drop for Account<S, E> {
             blocked: _,
             names: _,
             logs: _,
+            freezes: _,
         } = self;
     }
 }
@@ -41,7 +44,7 @@ impl<S, E> Account<S, E> {
     /// The report of these steps of its tasks.
     pub fn report(self, steps: u64, noted: Vec<Noted>, by_worker: Counts) -> Report<S, E>
         requires { AllByRecursion (IsNoted self.names.items) noted.items }
-        ensures { result ≡ record { outcome = self.outcome; states = self.states; steps = steps; blocked = self.blocked; trace = entries_of self.names.items noted.items; by_worker = by_worker } }
+        ensures { result ≡ record { outcome = self.outcome; states = self.states; steps = steps; blocked = self.blocked; trace = entries_of self.names.items noted.items; by_worker = by_worker; freezes = self.freezes } }
     {
         let Account {
             outcome,
@@ -49,6 +52,7 @@ impl<S, E> Account<S, E> {
             blocked,
             names,
             logs,
+            freezes,
         } = self;
         Report {
             outcome,
@@ -57,6 +61,7 @@ impl<S, E> Account<S, E> {
             blocked,
             trace: Trace::new(noted, names, logs),
             by_worker,
+            freezes,
         }
     }
 }
@@ -133,9 +138,11 @@ pub fn account_of<P: Program>(
     ensures outcome { IfOk result (λ a. a.outcome ≡ outcome) }
     ensures account { IfOk result (λ a. IsAccount (⟦<P as Meaning>⟧.machine core.entry.program) (P.functions core.entry.program).variables core.entry a.outcome a.states a.blocked) }
     ensures names { IfOk result (λ a. a.names.items ≡ task_names core.entry.table.tasks) }
+    ensures freezes { IfOk result (λ a. a.freezes ≡ core.entry.freezes) }
 {
     let blocked = core.running() as u64;
-    let (variables, names) = core.into_parts();
+    let (variables, names, freezes) = core.into_parts();
+    let freezes = Freezes::from(freezes);
     match &outcome {
         Outcome::Error { .. } => Ok(Account {
             outcome,
@@ -143,6 +150,7 @@ pub fn account_of<P: Program>(
             blocked: 0,
             names,
             logs: Vec::new(alloc),
+            freezes,
         }),
         Outcome::Ended | Outcome::Budget => {
             let (states, logs) = final_states(alloc, variables)?;
@@ -152,6 +160,7 @@ pub fn account_of<P: Program>(
                 blocked,
                 names,
                 logs,
+                freezes,
             })
         }
     }

@@ -6,10 +6,12 @@ ghost use Rattle.lvish_run.specs.Honest.{IsCountByWorker, IsHonest};
 ghost use Rattle.lvish_trace.specs.Traced.{labels_of};
 ghost use Rattle.lvish_board.specs.Standing.{OverIs};
 ghost use Rattle.lvish_run.specs.Alike.{IsAlike, IsTold};
+ghost use Rattle.lvish_run.specs.Least.{IsLeast, IsClosedEnd};
 
 use crate::account::account_of;
 use crate::count_by_worker::count_by_worker;
 use crate::fault::RunFault;
+use crate::laws::honest_contents;
 use lvish_board::{Board, Named, Outcome};
 use lvish_calculus::laws::{handing_kept, same_end};
 use lvish_calculus::{Meaning, Program};
@@ -50,6 +52,7 @@ pub(crate) fn told<P: Program, J: Named<P>>(
 {
     handing_kept::<P>();
     same_end::<P>();
+    honest_contents::<P>();
     let (core, noted) = board.into_parts();
     let account = account_of(alloc, core, outcome)?;
     Ok(account.report(noted.len() as u64, noted, by_worker))
@@ -71,6 +74,10 @@ pub fn report_of<P: Program, J: Named<P>>(
     ensures handed { IfOk result (λ r. IsWellHanded (⟦<P as Meaning>⟧.machine J.program) (labels_of r.trace)) }
     // What it says of all other runs that end without an error.
     ensures alike { IfOk result (λ r. IsAlike (⟦<P as Meaning>⟧.machine J.program) (P.functions J.program).variables r) }
+    // Its contents are at or below those of each model with what its run froze.
+    ensures least { IfOk result (λ r. IsLeast (⟦<P as Meaning>⟧.machine J.program) r) }
+    // At an end that no task leaves at a freeze of a frozen variable they are closed.
+    ensures closed { IfOk result (λ r. IsClosedEnd (⟦<P as Meaning>⟧.machine J.program) r) }
     ensures not_stopped { result ≢ Err RunFault.Stopped }
     ensures all_there { result ≢ Err RunFault.NoThread }
 {

@@ -10,9 +10,10 @@ use lvish_task::laws::{asks_no_freeze, same_runs};
 use std::alloc::{AllocError, Global};
 
 /// After how many steps every run of the script has ended, whatever the schedule and the number of
-/// workers: then none errs and none is longer, so by the law `same_end` all that go on to their end
-/// come to the same states. `None` where one run doesn't show it: the script has the line `freeze`,
-/// or the run that takes the first enabled label at each step errs, or doesn't end within the budget.
+/// workers: then none errs and none is longer, and each report within a budget of so many steps is of
+/// that end (the law [`bound_decides`](crate::laws::bound_decides)). `None` where one run doesn't show
+/// it: the script has the line `freeze`, or the run that takes the first enabled label at each step
+/// errs, or doesn't end within the budget.
 ///
 /// # Errors
 ///

@@ -9,6 +9,7 @@ ghost use Rattle.lvish_run.specs.Agenda.{open_in, NoTask, IsBeside, IsFor};
 ghost use Rattle.lvish_run.specs.Honest.{IsHonest};
 ghost use Rattle.lvish_run.specs.Picked.{IsPicked};
 ghost use Rattle.lvish_run.specs.Alike.{IsAlike};
+ghost use Rattle.lvish_run.specs.Least.{IsLeast, IsClosedEnd};
 ghost use Rattle.lvish_run.specs.Walk.{IsStuck, IsDrawn, IsFirstHandler, IsTurn, IsWalked};
 
 use crate::account::outcome_of;
@@ -263,6 +264,10 @@ pub fn run_program<P: Program, J: Named<P>>(
     ensures handed { IfOk result (λ r. IsWellHanded (⟦<P as Meaning>⟧.machine J.program) (labels_of r.trace)) }
     // What it says of all other runs that end without an error.
     ensures alike { IfOk result (λ r. IsAlike (⟦<P as Meaning>⟧.machine J.program) (P.functions J.program).variables r) }
+    // Its contents are at or below those of each model with what its run froze.
+    ensures least { IfOk result (λ r. IsLeast (⟦<P as Meaning>⟧.machine J.program) r) }
+    // At an end that no task leaves at a freeze of a frozen variable they are closed.
+    ensures closed { IfOk result (λ r. IsClosedEnd (⟦<P as Meaning>⟧.machine J.program) r) }
 {
     takes_something::<P>();
     let board = walked::<P, J>(alloc, program, picks, budget, history)?;

@@ -14,7 +14,7 @@ use lvish_history::Opened;
 use lvish_report::Report;
 use lvish_syntax::Script;
 use lvish_task::ScriptCode;
-use lvish_task::laws::same_runs;
+use lvish_task::laws::{same_models, same_runs};
 use std::alloc::{AllocError, Global};
 use std::marker::Brand;
 
@@ -66,6 +66,7 @@ pub fn run_picks(
     ensures { IfOk result (λ r. ⟦<Script as RunMeaning>⟧.is_picked_run script.now picks.now budget r) }
 {
     same_runs();
+    same_models();
     let code = ScriptCode::new(alloc, script)?;
     run_named::<Brand>(alloc, &code, picks, budget, Opened::new())
 }

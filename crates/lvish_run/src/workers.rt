@@ -20,7 +20,7 @@ use lvish_history::Opened;
 use lvish_report::Report;
 use lvish_syntax::Script;
 use lvish_task::ScriptCode;
-use lvish_task::laws::same_runs;
+use lvish_task::laws::{same_models, same_runs};
 use std::alloc::Global;
 use std::marker::Brand;
 use std::sync::atomic::AtomicBool;
@@ -51,6 +51,7 @@ pub fn run<R: Threads + Wait + Sync, G: Gate>(
     ensures alone { workers ≡ 1 → result ≢ Err RunFault.NoThread }
 {
     same_runs();
+    same_models();
     let code = ScriptCode::new(alloc, script)?;
     run_named::<Brand, R, G>(rt, alloc, &code, workers, budget, gate, Opened::new())
 }

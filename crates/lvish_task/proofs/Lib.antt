@@ -13,3 +13,5 @@ mod Left
 mod ByNumbers
 mod Changes
 mod AtOnce
+pub mod SamePlays
+pub mod SameModels

@@ -16,4 +16,5 @@ pub mod Pictures
 pub mod Compatible
 pub mod Fitting
 pub mod Freezing
+pub mod SamePlays
 pub mod laws

@@ -7,6 +7,7 @@ ghost use Rattle.lvish_compound.specs.States.{joined};
 ghost use Rattle.lvish_calculus.specs.SameRuns.{IsMatch, HaveSameRuns};
 ghost use Rattle.lvish_calculus.specs.Laws.{AsksNoFreeze};
 ghost use Rattle.lvish_calculus.specs.Agreement.{NeverAsksFreeze};
+ghost use Rattle.lvish_calculus.specs.LeastModel.{EndsAreClosed, RunsAreLeast, FrozenDecides};
 ghost use Rattle.lvish_syntax.specs.declared.script.Script.{Script};
 ghost use Rattle.lvish_syntax.specs.Words.{Word};
 ghost use Rattle.lvish_syntax.specs.Sound.{is_get_of_kind, is_get_apart};
@@ -19,9 +20,11 @@ ghost use Rattle.lvish_task.specs.Vocabulary.{AnyRead, Declaration, Statement, T
 ghost use Rattle.lvish_task.specs.Meaning.{Activation, Valuation, term_value, variable, getting, command_turn, script_functions};
 ghost use Rattle.lvish_task.specs.Compatible.{read_of_get};
 ghost use Rattle.lvish_task.specs.Pictures.{Pictures, BeginsOnTwo};
+ghost use Rattle.lvish_task.specs.SamePlays.{HaveSamePlays};
 
 use crate::meaning::ScriptMeaning;
 use crate::script_code::ScriptCode;
+use lvish_calculus::laws::least_model;
 use lvish_calculus::{Meaning, Program};
 use lvish_syntax::Script;
 
@@ -42,6 +45,22 @@ pub fn code_means()
 pub fn same_runs()
     ensures { (s : Script) (c : ScriptCode) → IsScriptCodeOf s c → HaveSameRuns (⟦<ScriptCode as Meaning>⟧.machine c) (⟦<Script as ScriptMeaning>⟧.machine s) }
 {}
+
+/// Against any contents the same plays of the code and of the script's nested statements: the same
+/// tasks, after as many forks and adds, at the same requests. So they have the same models, and what
+/// the calculus says of models holds of the nested statements.
+pub fn same_models()
+    ensures plays { (s : Script) (c : ScriptCode) → IsScriptCodeOf s c → HaveSamePlays (⟦<ScriptCode as Meaning>⟧.machine c) (⟦<Script as ScriptMeaning>⟧.machine s) }
+    // The contents at an end that no task leaves at a freeze of a frozen variable are closed.
+    ensures closed { (s : Script) (c : ScriptCode) → IsScriptCodeOf s c → EndsAreClosed (⟦<Script as ScriptMeaning>⟧.machine s) }
+    // Whatever contents a run reaches are at or below those of each model with what it froze.
+    ensures least { (s : Script) (c : ScriptCode) → IsScriptCodeOf s c → RunsAreLeast (⟦<Script as ScriptMeaning>⟧.machine s) }
+    // Two such ends with the same frozen contents have the same contents.
+    ensures frozen_decides { (s : Script) (c : ScriptCode) → IsScriptCodeOf s c → FrozenDecides (⟦<Script as ScriptMeaning>⟧.machine s) }
+{
+    same_runs();
+    least_model::<ScriptCode>();
+}
 
 /// From a local state that fits, an ask, a fork and a reply lead to local states that fit, and each
 /// task starts in one. A local state that doesn't fit asks End, and a reply gives it back.

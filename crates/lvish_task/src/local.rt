@@ -1,8 +1,9 @@
-ghost use Rattle.std.specs.Prelude.{◌≡◌, IfOk, IfSome};
+ghost use Rattle.std.specs.Prelude.{◌≤◌, ◌≡◌, IfOk, IfSome};
 ghost use Rattle.std.specs.Borrow.{LendsIf, sem};
 ghost use Rattle.lvish_task.specs.contracts.local.Local.{the_row};
 ghost use Rattle.lvish_task.specs.contracts.stack.Stack.{the_row as stack_row};
 
+use crate::limits::TURNS;
 use crate::stack::Stack;
 use std::alloc::{AllocError, Global};
 use std::marker::Model;
@@ -58,6 +59,14 @@ impl Local {
     {
         let stack = Arc::new(alloc, stack)?;
         Ok(Local { stack })
+    }
+
+    /// How many local statements its task has run since its last request, at most.
+    #[inline(always)]
+    pub fn statements(&self) -> usize
+        ensures { result ≤ TURNS }
+    {
+        TURNS.saturating_sub(self.stack().left)
     }
 
     /// What it holds.

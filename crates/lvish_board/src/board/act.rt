@@ -40,6 +40,8 @@ impl<'p, P: Program, J: Named<P>> Board<'p, P, J> {
         ensures own { HasOwn result }
         // A board that is over stays as it is.
         ensures over { is_over result ≡ true → IsSome self.new.over }
+        // Also where the budget makes it over, every task that is parked stays so.
+        ensures keeps { is_over result ≡ true → self.new.parked ≡ self.old.parked }
         ensures done { IsSome self.old.over → (result ≡ Acted.Over) × (self.new ≡ self.old) }
         ensures stale { is_stale result ≡ true → self.new ≡ self.old }
         ensures parked { is_parked result ≡ true → IsParkedBeside self.old.parked asked self.new.parked }

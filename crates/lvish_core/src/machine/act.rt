@@ -1,6 +1,6 @@
 //! A task's action, by its request.
 
-ghost use Rattle.std.specs.Prelude.{◌≡◌, ◌<◌, ◌⊎◌, Some};
+ghost use Rattle.std.specs.Prelude.{◌≡◌, ◌≢◌, ◌<◌, ◌⊎◌, IfErr, Some};
 ghost use Rattle.lvish_core.specs.Acts.{IsAsked, ActsIfReady};
 ghost use Rattle.lvish_core.specs.Tasks.{IsAt};
 
@@ -31,6 +31,7 @@ impl<'p, P: Program> Core<'p, P> {
         requires there { IsAt self.old.table.tasks numbers.index name.now }
         ensures acts { ActsIfReady (⟦<P as Meaning>⟧.machine self.old.program) self.old name.now request.now self.new result }
         ensures left { (left.new ≡ Some at) ⊎ (left.new ≡ left.old) }
+        ensures unused { IfErr result (λ e. e ≢ StepFault.Memory → left.new ≡ Some at) }
     {
         match request {
             Request::Put(variable, state) => {

@@ -1,6 +1,6 @@
 //! A task's step.
 
-ghost use Rattle.std.specs.Prelude.{◌≡◌, ◌⊎◌, MatchResult, IfOk, IfErr, IsSome, Some, None};
+ghost use Rattle.std.specs.Prelude.{◌≡◌, ◌≢◌, ◌⊎◌, MatchResult, IfOk, IfErr, IsSome, Some, None};
 ghost use Rattle.lvish_calculus.specs.declared.label.Label.TheVariants.{Act};
 
 use super::Core;
@@ -76,7 +76,8 @@ impl<'p, P: Program> Core<'p, P> {
     ///
     /// # Errors
     ///
-    /// As `step` with the task's label.
+    /// As `step` with the task's label. The local state is left as it was, but at `Memory`: a put, a fork
+    /// or another act may have used it up by then, and the task asks anew.
     pub fn step_live(
         &mut self,
         alloc: Global,
@@ -92,6 +93,8 @@ impl<'p, P: Program> Core<'p, P> {
         ensures stepped { MatchResult result (λ s. ⟦<P as CoreMeaning>⟧.is_step self.old (Act name.now) self.new s.0) (λ e. ⟦<P as CoreMeaning>⟧.is_refused self.old (Act name.now) e × (self.new ≡ self.old)) }
         ensures moved { IfOk result (λ s. ⟦<P as CoreMeaning>⟧.is_moved self.old (Act name.now) s.1) }
         ensures left { (at.new ≡ at.old) ⊎ (at.new ≡ None) }
+        // A step that can't be made, or would be one too many, uses nothing up.
+        ensures unused { IfErr result (λ e. e ≢ StepFault.Memory → at.new ≡ at.old) }
     {
         if self.fault.is_some() {
             return Err(StepFault::NotEnabled);

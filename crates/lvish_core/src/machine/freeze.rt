@@ -6,7 +6,7 @@ ghost use Rattle.lvish_core.specs.Acts.{IsActing, Acts};
 ghost use Rattle.lvish_core.specs.Tasks.{IsAt};
 
 use super::Core;
-use crate::beside::freeze_at;
+use crate::beside::{freeze_at, list_freeze};
 use crate::ending::close;
 use crate::fault::{StepFault, Stepped};
 use crate::limits::MOST_STEPS;
@@ -39,8 +39,9 @@ impl<'p, P: Program> Core<'p, P> {
         lawful::<P>();
         freeze_kept::<P>();
         counts_kept::<P>();
-        let content = self.variables[variable].state();
-        let (stage, own) = resumed_on(self.program, alloc, at, content, numbers)?;
+        let to_freeze = &self.variables[variable];
+        let (stage, own) = resumed_on(self.program, alloc, at, to_freeze.state(), numbers)?;
+        list_freeze(&mut self.freezes, to_freeze, variable)?;
         freeze_at(&mut self.variables, variable);
         close(
             &mut self.tasks,

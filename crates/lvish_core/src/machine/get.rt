@@ -1,6 +1,6 @@
 //! A get.
 
-ghost use Rattle.std.specs.Prelude.{◌≡◌, ◌<◌, ◌⊎◌, Some};
+ghost use Rattle.std.specs.Prelude.{◌≡◌, ◌≢◌, ◌<◌, ◌⊎◌, IfErr, Some};
 ghost use Rattle.lvish_calculus.specs.declared.request.Request.TheVariants.{Get};
 ghost use Rattle.lvish_core.specs.Acts.{IsAsked, ActsIfReady};
 ghost use Rattle.lvish_core.specs.Tasks.{IsAt};
@@ -33,6 +33,7 @@ impl<'p, P: Program> Core<'p, P> {
         requires there { IsAt self.old.table.tasks numbers.index name.now }
         ensures acts { ActsIfReady (⟦<P as Meaning>⟧.machine self.old.program) self.old name.now (Get variable read.now) self.new result }
         ensures left { (left.new ≡ Some at) ⊎ (left.new ≡ left.old) }
+        ensures unused { IfErr result (λ e. e ≢ StepFault.Memory → left.new ≡ Some at) }
     {
         match self.variables[variable].read(read) {
             Some(answer) => self.go_on(alloc, name, at, numbers, Reply::Answer(answer)),

@@ -38,7 +38,8 @@ impl<'p, P: Program> Core<'p, P> {
     }
 
     /// Makes the index of the tasks' names whole, so that the calls that find a task by its name don't
-    /// look at each task that came since. Where there is no room for it, they still find each task.
+    /// look at each task that came since. Where there is no room for it, they still find each task. What
+    /// it brings is time alone, which no contract sees.
     pub fn index_names(&mut self)
         ensures { self.new ≡ self.old }
     {
@@ -206,16 +207,25 @@ impl<'p, P: Program> Core<'p, P> {
         }
     }
 
-    /// The variables, and the names of the tasks, each at its task's index, without a copy; where
-    /// there is an error, as they were before it.
+    /// The frozen variables, in the order in which they were first frozen.
+    pub fn freezes(&self) -> &[usize]
+        ensures { result.now ≡ self.now.freezes }
+    {
+        &self.freezes
+    }
+
+    /// The variables, the names of the tasks, each at its task's index, and the frozen variables in the
+    /// order of their first freezes, without a copy; where there is an error, as they were before it.
     pub fn into_parts(
         self,
     ) -> (
         Vec<Variable<P::Lat>>,
         Vec<TaskName<<P::Lat as Lattice>::Event>>,
+        Vec<usize>,
     )
         ensures states { ⟦<P as CoreMeaning>⟧.are_states self.entry result.0.items }
         ensures names { result.1.items ≡ task_names self.entry.table.tasks }
+        ensures freezes { result.2.items ≡ self.entry.freezes }
     {
         let Core {
             program: _,
@@ -228,9 +238,10 @@ impl<'p, P: Program> Core<'p, P> {
             steps: _,
             fault: _,
             touched: _,
+            freezes,
         } = self;
         let names = tasks.into_names();
-        (variables, names)
+        (variables, names, freezes)
     }
 
     /// The number of steps made.

@@ -15,3 +15,9 @@ returns-clause-handed g c = c.in_ok-told.ensures.told.handed
 
 pub returns-clause-alike : goal.returns-clause-alike
 returns-clause-alike g c = c.in_ok-told.ensures.told.alike
+
+pub returns-clause-least : goal.returns-clause-least
+returns-clause-least g c = c.in_ok-told.ensures.told.least
+
+pub returns-clause-closed : goal.returns-clause-closed
+returns-clause-closed g c = c.in_ok-told.ensures.told.closed

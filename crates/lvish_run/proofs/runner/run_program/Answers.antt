@@ -25,3 +25,9 @@ returns-clause-handed g c = IfOk-weaker c.told.result _ _ (λ r z. z.handed) c.t
 
 pub returns-clause-alike : goal.returns-clause-alike
 returns-clause-alike g c = IfOk-weaker c.told.result _ _ (λ r z. z.alike) c.told.ensures.told
+
+pub returns-clause-least : goal.returns-clause-least
+returns-clause-least g c = IfOk-weaker c.told.result _ _ (λ r z. z.least) c.told.ensures.told
+
+pub returns-clause-closed : goal.returns-clause-closed
+returns-clause-closed g c = IfOk-weaker c.told.result _ _ (λ r z. z.closed) c.told.ensures.told

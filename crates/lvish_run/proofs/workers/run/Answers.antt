@@ -2,7 +2,7 @@ use Rattle.std.proofs.Common.{◌∙◌, ap, length}
 use Rattle.std.proofs.lemmas.Result.{IfOk-weaker}
 use Rattle.lvish_task.specs.Meaning.{script_functions}
 use Rattle.lvish_task.specs.Run.{functions}
-use Rattle.lvish_run.proofs.OfScript.{said_there}
+use Rattle.lvish_run.proofs.OfScript.{said_there, models_there}
 use Rattle.lvish_run.proofs.VariableKinds.{kinds_count}
 use Rattle.lvish_run.proofs.workers.run.Goals as goal
 
@@ -13,5 +13,6 @@ returns-clause-honest g c =
     IfOk-weaker c.run_named.result _ _
     (λ r z.
     let said = said_there _ _ _ _ _ _ _ (functions c.in_ok-code.code) (script_functions c.args.script.now) same _ _ _ r (rw many at z.honest) z.handed (rw many at z.alike) in
-    record { honest = said.0; handed = said.1; alike = said.2 })
+    let models = models_there _ _ _ _ _ _ _ (functions c.in_ok-code.code) (script_functions c.args.script.now) same _ _ _ r (rw many at z.honest) (c.same_models.ensures.plays c.args.script.now c.in_ok-code.code c.in_ok-code.ensures) z.least z.closed in
+    record { honest = said.0; handed = said.1; alike = said.2; least = models.0; closed = models.1 })
     c.run_named.ensures.told

@@ -15,6 +15,7 @@ returns g c =
       noted = k.noted;
       own = k.own;
       over = k.over;
+      keeps = k.keeps;
       done = k.done;
       stale = k.stale;
       parked = k.parked;

@@ -10,7 +10,7 @@ use Rattle.lvish_board.proofs.board.Board.act_indexed.Goals as goal
 pub returns-then-is_some-clause-comes : goal.returns-then-is_some-clause-comes
 returns-then-is_some-clause-comes g c =
     let some : IsSome c.args.self.now.over = rw (← c.self.view_is) (sym c.is_some.ensures ∙ c.if-is_some.true) in
-    λ a there. act_over (inl some) refl refl some (λ _. refl)
+    λ a there. act_over (inl some) refl refl some refl (λ _. refl)
 
 pub returns-in_default-current-clause-comes : goal.returns-in_default-current-clause-comes
 returns-in_default-current-clause-comes g c =

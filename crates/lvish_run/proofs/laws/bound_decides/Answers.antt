@@ -1,0 +1,8 @@
+use Rattle.lvish_run.proofs.OneScript.{enough, too_few}
+use Rattle.lvish_run.proofs.laws.bound_decides.Goals as goal
+
+pub returns-clause-enough : goal.returns-clause-enough
+returns-clause-enough c = λ s b n budget r bound is. enough s b n bound budget r is
+
+pub returns-clause-too_few : goal.returns-clause-too_few
+returns-clause-too_few c = λ s b n budget r bound is. too_few s b n bound budget r is
