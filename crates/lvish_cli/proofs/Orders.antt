@@ -37,7 +37,7 @@ module _ (of : runs.Ghosts Script) (order : Order) (given old new : Option (List
         at s e up = subst (Performs of order given old new) (sym e) (up (text, record { input = input; read = read; answer = subst (λ q. IsAnswer of order input q text) e answer }, put))
 
         by_script : (script : Script) (q : Order) → IsScriptAnswer of script q status text → Performs of order given old new status
-        by_script script (Check ends budget) h = at Done h.0 (λ w. w)
+        by_script script (Check ends alike budget) h = at Done h.0 (λ w. w)
         by_script script (Run workers budget all) h = at (outcome_status h.0.blocked h.0.outcome) h.2.0 (by_outcome h.0.blocked h.0.outcome)
         by_script script (Pick picks budget all) h = at (outcome_status h.0.blocked h.0.outcome) h.2.1.0 (by_outcome h.0.blocked h.0.outcome)
 

@@ -16,11 +16,12 @@ use Rattle.lvish_run.specs.declared.scripts.RunMeaning as runs
 use Rattle.lvish_trace.specs.Traced.{labels_of}
 use Rattle.lvish_report.specs.Text.{variables_of, report_text}
 use Rattle.lvish_report.specs.TraceText.{trace_lines}
+use Rattle.lvish_alike.specs.Alike.{ShowsAlike}
 use Rattle.lvish_cli.specs.declared.order.Order.{Order}
 use Rattle.lvish_cli.specs.declared.order.Order.TheVariants.{Check, Run, Pick}
 use Rattle.lvish_cli.specs.declared.status.Status.{Status}
 use Rattle.lvish_cli.specs.declared.status.Status.TheVariants.{Done, Blocked, Refused, Error, Budget}
-use Rattle.lvish_cli.specs.Lines.{ok_text, bound_text, refusal_text}
+use Rattle.lvish_cli.specs.Lines.{ok_text, bound_text, alike_text, refusal_text}
 
 -- the key and the number by which an event is printed
 abbrev pub event_key : Event → ℤ
@@ -54,9 +55,15 @@ abbrev pub IsEndsText : (Script → ℕ → Option ℕ → Type 0) → Script �
 IsEndsText is_bound script false budget rest = rest ≡ []
 IsEndsText is_bound script true budget rest = (bound : Option ℕ) × is_bound script budget bound × (rest ≡ bound_text bound)
 
+-- what is printed behind that: nothing, or where it is asked for, whether all ends of the script are the same
+abbrev pub IsAlikeText : Script → Bool → List ℕ → Type 0
+IsAlikeText script false rest = rest ≡ []
+IsAlikeText script true rest = (alike : Bool) × ShowsAlike script alike × (rest ≡ alike_text alike)
+
 -- the answer to a script that is checked
-abbrev pub IsCheckAnswer : (Script → ℕ → Option ℕ → Type 0) → Script → Bool → ℕ → Status → List ℕ → Type 0
-IsCheckAnswer is_bound script ends budget status text = (status ≡ Done) × ((rest : List ℕ) × IsEndsText is_bound script ends budget rest × (text ≡ ok_text ++ rest))
+abbrev pub IsCheckAnswer : (Script → ℕ → Option ℕ → Type 0) → Script → (ends alike : Bool) → ℕ → Status → List ℕ → Type 0
+IsCheckAnswer is_bound script ends alike budget status text =
+    (status ≡ Done) × ((rest : List ℕ) × (last : List ℕ) × IsEndsText is_bound script ends budget rest × IsAlikeText script alike last × (text ≡ ok_text ++ rest ++ last))
 
 -- the answer to a script that so many workers run
 abbrev pub IsRunAnswer : (Script → ℕ → ℕ → Report Any Event → Type 0) → Script → (workers budget : ℕ) → Bool → Status → List ℕ → Type 0
@@ -71,7 +78,7 @@ IsPickAnswer is_picked_run script picks budget all status text =
 module _ (of : runs.Ghosts Script) where
   -- the answer to an order about a script
   abbrev pub IsScriptAnswer : Script → Order → Status → List ℕ → Type 0
-  IsScriptAnswer script (Check ends budget) status text = IsCheckAnswer of.is_bound script ends budget status text
+  IsScriptAnswer script (Check ends alike budget) status text = IsCheckAnswer of.is_bound script ends alike budget status text
   IsScriptAnswer script (Run workers budget all) status text = IsRunAnswer of.is_run script workers budget all status text
   IsScriptAnswer script (Pick picks budget all) status text = IsPickAnswer of.is_picked_run script picks budget all status text
 
@@ -81,7 +88,7 @@ module _ (of : runs.Ghosts Script) where
 
 -- the order asks for a run by at least this many workers
 abbrev pub AsksWorkers : ℕ → Order → Type 0
-AsksWorkers least (Check ends budget) = ⊥
+AsksWorkers least (Check ends alike budget) = ⊥
 AsksWorkers least (Run workers budget all) = least ≤ workers
 AsksWorkers least (Pick picks budget all) = ⊥
 

@@ -1,11 +1,12 @@
 ghost use Rattle.std.specs.Prelude.{◌≤◌, ◌≡◌, IfErr, IfOk, string_bytes};
 ghost use Rattle.lvish_cli.specs.Orders.{IsInBounds};
-ghost use Rattle.lvish_cli.specs.Answers.{IsAnswer, IsUnanswered, CanMeet, IsScriptAnswer, IsCheckAnswer, IsRefusalAnswer};
+ghost use Rattle.lvish_cli.specs.Answers.{IsAnswer, IsUnanswered, CanMeet, IsScriptAnswer, IsCheckAnswer, IsEndsText, IsAlikeText, IsRefusalAnswer};
 
-use crate::lines::{bound_line, ok_line, refusal_line};
+use crate::lines::{alike_line, bound_line, ok_line, refusal_line};
 use crate::order::Order;
 use crate::running::{pick_answer, run_answer};
 use crate::status::Status;
+use lvish_alike::ends_alike;
 use lvish_compound::{Any, Event};
 use lvish_run::{MOST_STEPS, Report, RunFault, RunMeaning, always_ends};
 use lvish_script::{Fault, ScriptFault, read_script};
@@ -59,7 +60,11 @@ fn script_answer<R: Threads + Wait + Sync>(
     ensures err { IfErr result (λ fault. CanMeet order.now fault) }
 {
     match order {
-        Order::Check { ends, budget } => Ok(check_answer(alloc, script, *ends, *budget)?),
+        Order::Check {
+            ends,
+            alike,
+            budget,
+        } => Ok(check_answer(alloc, script, *ends, *alike, *budget)?),
         Order::Run {
             workers,
             budget,
@@ -76,22 +81,46 @@ fn check_answer(
     alloc: Global,
     script: &Script,
     ends: bool,
+    alike: bool,
     budget: u64,
 ) -> Result<Output, AllocError>
     requires { budget ≤ MOST_STEPS }
     ensures { IfOk result (λ answer.
-        IsCheckAnswer ⟦<Script as RunMeaning>⟧.is_bound script.now ends budget answer.status (string_bytes answer.text)) }
+        IsCheckAnswer ⟦<Script as RunMeaning>⟧.is_bound script.now ends alike budget answer.status (string_bytes answer.text)) }
 {
     let mut text = ok_line(alloc)?;
-    if ends {
-        let bound = always_ends(alloc, script, budget)?;
-        text.push_str(bound_line(alloc, bound)?.as_str())?;
-    }
+    let ends = ends_text(alloc, script, ends, budget)?;
+    let alike = alike_text(alloc, script, alike)?;
+    text.push_str(ends.as_str())?;
+    text.push_str(alike)?;
     Ok(Output {
         status: Status::Done,
         text,
         report: None,
     })
+}
+
+/// Whether all runs of the script end, where it is asked for.
+fn ends_text(alloc: Global, script: &Script, ends: bool, budget: u64) -> Result<String, AllocError>
+    requires { budget ≤ MOST_STEPS }
+    ensures { IfOk result (λ text. IsEndsText ⟦<Script as RunMeaning>⟧.is_bound script.now ends budget (string_bytes text)) }
+{
+    if !ends {
+        return Ok(String::new(alloc));
+    }
+    let bound = always_ends(alloc, script, budget)?;
+    bound_line(alloc, bound)
+}
+
+/// Whether all its ends are alike, where it is asked for.
+fn alike_text(alloc: Global, script: &Script, alike: bool) -> Result<&'static str, AllocError>
+    ensures { IfOk result (λ text. IsAlikeText script.now alike text.now) }
+{
+    if !alike {
+        return Ok("");
+    }
+    let alike = ends_alike(alloc, script)?;
+    Ok(alike_line(alike))
 }
 
 /// The answer to a text that is no script.

@@ -30,7 +30,7 @@ pub fn program<'a>(alloc: Global) -> Result<Command<'a>, AllocError> {
 }
 
 const PROGRAM_USAGE: &str = "lvish
-       lvish check FILE [--ends] [--steps N]
+       lvish check FILE [--ends] [--alike] [--steps N]
        lvish run FILE [--workers N] [--steps N] [--all]
        lvish pick FILE [--steps N] [--all] [N]...";
 
@@ -58,6 +58,7 @@ fn check<'a>(alloc: Global) -> Result<Command<'a>, AllocError> {
         .after_help(CHECK_HELP)
         .arg(file(alloc))?
         .arg(ends(alloc))?
+        .arg(alike(alloc))?
         .arg(tries(alloc))
 }
 
@@ -69,9 +70,13 @@ and the number of workers, never errs and never takes more than N steps, and tha
 goes on to its end has the same report; else it is `unknown`. One run shows it, which --steps
 limits; of a script with a line `freeze` none does.
 
+With --alike a line `ends alike` follows where all runs that end without an error have the same
+report, as far as the lines of the script show it: its tasks freeze one variable at most, or no
+task but `main` freezes. Else it is `unknown`.
+
 Examples:
   lvish check first.lvish
-  lvish check first.lvish --ends
+  lvish check first.lvish --ends --alike
 
 Statuses: 0 a script, 3 unreadable, 4 refused, 7 memory, 8 another fault";
 
@@ -151,6 +156,13 @@ fn ends<'a>(alloc: Global) -> Arg<'a> {
     Arg::new(alloc, "ends")
         .long("ends")
         .help("Say as well whether all runs of the script end")
+        .action(ArgAction::SetTrue)
+}
+
+fn alike<'a>(alloc: Global) -> Arg<'a> {
+    Arg::new(alloc, "alike")
+        .long("alike")
+        .help("Say as well whether all ends of the script are the same")
         .action(ArgAction::SetTrue)
 }
 

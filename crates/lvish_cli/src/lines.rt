@@ -1,5 +1,5 @@
 ghost use Rattle.std.specs.Prelude.{◌≡◌, IfOk, string_bytes};
-ghost use Rattle.lvish_cli.specs.Lines.{ok_text, bound_text, refusal_text};
+ghost use Rattle.lvish_cli.specs.Lines.{ok_text, bound_text, alike_text, refusal_text};
 
 use std::alloc::{AllocError, Global};
 
@@ -18,6 +18,13 @@ pub fn bound_line(alloc: Global, bound: Option<u64>) -> Result<String, AllocErro
         Some(steps) => format!(in alloc; "always ends {steps}\n"),
         None => String::from_str(alloc, "unknown\n"),
     }
+}
+
+/// `ends alike`, for a script of which all ends without an error are the same, or `unknown`.
+pub fn alike_line(alike: bool) -> &'static str
+    ensures { result.now ≡ alike_text alike }
+{
+    if alike { "ends alike\n" } else { "unknown\n" }
 }
 
 /// `refused NUMBER NAME line L`, for a script's fault and the line on which it is.

@@ -14,7 +14,9 @@ pub enum Order {
     Check {
         /// Whether to say as well whether all runs of it end, and after how many steps at most.
         ends: bool,
-        /// As far as a run of this many steps shows it.
+        /// Whether to say as well whether all ends of it are the same.
+        alike: bool,
+        /// That all runs end is said as far as a run of this many steps shows it.
         budget: u64,
     },
     /// Run the script and print the report.
@@ -41,7 +43,11 @@ pub enum Order {
 impl Drop for Order {
     fn drop(self) {
         match self {
-            Order::Check { ends: _, budget: _ } => {}
+            Order::Check {
+                ends: _,
+                alike: _,
+                budget: _,
+            } => {}
             Order::Run {
                 workers: _,
                 budget: _,

@@ -51,6 +51,7 @@ fn check_of(words: &ArgMatches<'_>) -> Order
 {
     Order::Check {
         ends: words.get_flag("ends"),
+        alike: words.get_flag("alike"),
         budget: budget_of(words),
     }
 }

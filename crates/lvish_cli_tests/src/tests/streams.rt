@@ -53,6 +53,7 @@ fn end<T: Threads + Wait + Sync, R: Read>(
         StreamsAsked::Check => {
             let order = Order::Check {
                 ends: true,
+                alike: true,
                 budget: 100,
             };
             perform(rt, alloc, &order, reader, writer)
