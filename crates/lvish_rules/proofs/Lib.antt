@@ -1,0 +1,5 @@
+pub mod Plays
+pub mod Unerring
+pub mod Reaching
+pub mod Solved
+pub mod Tops

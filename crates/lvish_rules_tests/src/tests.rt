@@ -1,0 +1,69 @@
+//! Graphs whose successors are listed by node, walked from a root.
+
+use lvish_lattice::{GrowSet, Items};
+use lvish_rules::{Answer, Graph, Ruled, SolveFault, solve};
+use std::alloc::{AllocError, Global};
+use std::fmt::Write;
+use std::test::Fail;
+
+fn nodes(alloc: Global, numbers: &[i64]) -> Result<Items<i64>, AllocError> {
+    Ok(Items::new(Vec::from_slice(alloc, numbers)?))
+}
+
+/// 0 leads to 1 and 2, 1 to 3, 3 back to 0 and to 7, of which no successors are listed; 4 leads to 5.
+fn graph(alloc: Global, root: i64) -> Result<Graph, AllocError> {
+    let mut next = Vec::new(alloc);
+    next.push(nodes(alloc, &[1, 2])?)?;
+    next.push(nodes(alloc, &[3])?)?;
+    next.push(nodes(alloc, &[])?)?;
+    next.push(nodes(alloc, &[0, 7])?)?;
+    next.push(nodes(alloc, &[5])?)?;
+    Ok(Graph {
+        root,
+        next: Items::new(next),
+    })
+}
+
+/// The nodes of the answer, whether they are all, and the steps.
+fn text_of(alloc: Global, answer: &Answer<GrowSet<i64>>) -> Result<String, AllocError> {
+    let mut text = String::new(alloc);
+    if let Some(set) = answer.state(0) {
+        for node in set.items() {
+            write!(text, "{node} ")?;
+        }
+    }
+    let word = if answer.is_whole() {
+        "whole"
+    } else {
+        "stopped"
+    };
+    write!(text, "{word} after {}", answer.steps())?;
+    Ok(text)
+}
+
+fn reached(alloc: Global, root: i64, budget: u64) -> Result<String, SolveFault> {
+    let analysis = Ruled {
+        rules: graph(alloc, root)?,
+    };
+    let answer = solve(alloc, &analysis, budget)?;
+    Ok(text_of(alloc, &answer)?)
+}
+
+#[test]
+fn what_can_be_reached_is_found(rt: HostRuntime) -> Result<(), Fail> {
+    let alloc = rt.alloc();
+    let rows = [
+        (0, 1000, "0 1 2 3 7 whole after 18"),
+        (0, 18, "0 1 2 3 7 whole after 18"),
+        (0, 17, "0 1 2 3 7 stopped after 17"),
+        (0, 0, "stopped after 0"),
+        (4, 1000, "4 5 whole after 8"),
+        (9, 1000, "9 whole after 5"),
+        (-1, 1000, "-1 whole after 5"),
+    ];
+    for (root, budget, text) in rows {
+        let said = reached(alloc, root, budget)?;
+        assert_eq!(rt; said.as_str(), text);
+    }
+    Ok(())
+}
