@@ -117,6 +117,6 @@ def rows_of(path):
 
 def all_files():
     """Returns the files of rows and of examples in this repository."""
-    folders = (("rows", ".rows"), ("examples", ".expected"))
+    folders = (("rows", ".rows"), ("examples", ".expected"), ("examples/tutorial", ".expected"))
     found = [f"{kit.ROOT}/{at}/{it}" for at, end in folders for it in sorted(os.listdir(f"{kit.ROOT}/{at}")) if it.endswith(end)]
     return found or sys.exit("there are no files of rows")
