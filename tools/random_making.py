@@ -268,5 +268,5 @@ class Script:
 
     def row(self, is_counted):
         """The row of a file; where its steps are counted, every answer is printed, since none is expected."""
-        answer = "" if is_counted else " 5 traces replayed" + ", alike" * self.is_alike
+        answer = "" if is_counted else " 8 traces replayed" + ", alike" * self.is_alike
         return "\n".join([f"== {self.kind} {self.name}", *self.lines, f"$ {self.question(is_counted)} => 0{answer}", ""])

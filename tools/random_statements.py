@@ -230,6 +230,16 @@ class Statements:
         self.block(at, self.rng.randint(0, 2))
         at.line("end")
 
+    def long_loop(self, at):
+        """Some hundred or thousand local statements, for which its task pauses up to 6 times."""
+        at.loops += 1
+        count, bound = self.assigned(at, f"i{at.loops}"), self.rng.randint(100, 2500)
+        at.line("let", count, bound)
+        at.line("while", count)
+        at.line("  let", count, count, "-", 1)
+        at.line("end")
+        at.acts(1 + bound * 2 // 1000)
+
     def rising(self, at, count, test, bound):
         at.line("let", count, 0)
         at.line("let", test, count, "<", bound)
@@ -307,7 +317,7 @@ class Statements:
     def statement(self, at):
         choices = [(self.let, 3), (self.put, 4), (self.get, 10 * at.reads)]
         if at.depth < 4:
-            choices += [(self.condition, 1), (self.loop, 1)]
+            choices += [(self.condition, 1), (self.loop, 1), (self.long_loop, 0.2)]
         choices += [(self.call, 1)]
         if not at.is_plain:
             choices += [(self.fork, 1.5), (self.handle, 1.5)]

@@ -1,6 +1,6 @@
 -- Counting each worker's noted steps, worker by worker.
-use Rattle.std.proofs.Common.{◌≡◌, ◌+◌, ◌==◌, ℕ, List, cond, [], ◌∷◌, ◌++◌, map, length, sum, count_by, Some, slice_get, sym, ap, ap₂, ◌∙◌, arith}
-use Rattle.std.specs.List.{range_with_len}
+use Rattle.std.proofs.Common.{◌≡◌, ◌+◌, ◌==◌, ◌<◌, ◌≤◌, ℕ, List, cond, [], ◌∷◌, ◌++◌, map, length, sum, count_by, Some, slice_get, zero, suc, sym, ap, ap₂, ◌∙◌, arith, refl}
+use Rattle.std.specs.List.{AllByRecursion, range_with_len}
 use Rattle.std.proofs.lemmas.List.FromFn.{length-map-range_with_len, get_or-map-range_with_len, map-range_with_len_more}
 use Rattle.std.proofs.lemmas.List.{length-map}
 use Rattle.std.proofs.lemmas.List.Folds.{fold-map}
@@ -12,6 +12,7 @@ use Rattle.lvish_trace.specs.declared.trace_entry.TraceEntry.{TraceEntry}
 use Rattle.lvish_trace.specs.Noted.{entry_at, entries_of}
 use Rattle.lvish_run.specs.Crew.{AreCounts}
 use Rattle.lvish_run.specs.Honest.{IsCountByWorker}
+use Rattle.lvish_run.proofs.Told.{told, told_at_most, all_told as all_of_them}
 
 module _ (noted : List Noted) where
   -- the numbers of the first k workers' steps
@@ -25,6 +26,29 @@ module _ (noted : List Noted) where
     ap sum grown ∙ sum_by-append (λ x. x) xs (n ∷ []) ∙ omega arith,
   )
 
+  -- their sum is how many steps the first k workers made
+  pub sum_told : (k : ℕ) → sum (counts_of k) ≡ told (λ n. n.worker) k noted
+  sum_told zero = refl
+  sum_told (suc k) =
+      let n = count_by (λ (n : Noted). n.worker == k) noted in
+      let more = one_more (counts_of k) (counts_of k ++ n ∷ []) n k refl refl refl in
+      let next : k + 1 ≡ suc k = omega arith in
+      ap (λ j. sum (counts_of j)) (sym next) ∙ ap sum (sym more.0) ∙ more.1 ∙ ap (λ s. s + n) (sum_told k)
+
+  -- with the next worker's number they are at most all
+  pub never_over : (xs : List ℕ) (n k : ℕ) → xs ≡ counts_of k → n ≡ count_by (λ n. n.worker == k) noted → sum xs + n ≤ length noted
+  never_over xs n k are is =
+      let more = one_more xs (xs ++ n ∷ []) n k are is refl in
+      let all : sum (xs ++ n ∷ []) ≡ told (λ n. n.worker) (k + 1) noted = ap sum more.0 ∙ sum_told (k + 1) in
+      let most = told_at_most (λ n. n.worker) (k + 1) noted in
+      omega (arith, all, most, more.1)
+
+  -- they are all where all are these workers'
+  pub none_is_left : (xs : List ℕ) (k workers : ℕ) → xs ≡ counts_of k → workers ≤ k → AllByRecursion (λ n. n.worker < workers) noted → k ≤ workers → sum xs ≡ length noted
+  none_is_left xs k workers are past all small =
+      let same : k ≡ workers = omega (arith, past, small) in
+      ap sum (are ∙ ap counts_of same) ∙ sum_told workers ∙ all_of_them (λ n. n.worker) workers noted all
+
   -- all workers' numbers
   pub all_told : (counts : List ℕ) (workers : ℕ) → counts ≡ counts_of workers → sum counts ≡ length noted → AreCounts workers noted counts
   all_told counts workers are adds_up = record {
@@ -35,6 +59,14 @@ module _ (noted : List Noted) where
     where
       f : ℕ → ℕ
       f w = count_by (λ (n : Noted). n.worker == w) noted
+
+  -- where all entries of the trace are these workers', so are the steps
+  pub of_entries : {E : Type 0} (names : List (Name E)) (workers : ℕ) → AllByRecursion (λ e. e.worker < workers) (entries_of names noted) → AllByRecursion (λ n. n.worker < workers) noted
+  of_entries names workers all = by_each noted all
+    where
+      by_each : (xs : List Noted) → AllByRecursion (λ e. e.worker < workers) (entries_of names xs) → AllByRecursion (λ n. n.worker < workers) xs
+      by_each [] a = tt
+      by_each (x ∷ xs) a = (a.0, by_each xs a.1)
 
   -- they are those of the trace that the steps are by the names of their tasks
   pub counted : {E : Type 0} (names : List (Name E)) (counts : List ℕ) (workers : ℕ) → AreCounts workers noted counts → IsCountByWorker workers (entries_of names noted) counts

@@ -9,9 +9,12 @@ mod Turns
 mod Walks
 mod Reports
 mod Accounts
+mod Made
+mod Seats
+mod Leaving
+mod Told
 mod Counted
 mod VariableKinds
-mod Parts
 mod FreezesThere
 pub mod OfScript
 pub mod Once

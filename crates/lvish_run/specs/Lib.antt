@@ -6,6 +6,7 @@ pub mod Agenda
 pub mod Walk
 pub mod Scripts
 pub mod Crew
+pub mod Waiting
 pub mod Ends
 pub mod SameReports
 pub mod OneScript

@@ -1,6 +1,7 @@
 //! The report of a board that is over.
 
-ghost use Rattle.std.specs.Prelude.{◌≡◌, ◌≢◌, IfOk, Some, length};
+ghost use Rattle.std.specs.Prelude.{◌≡◌, ◌≢◌, ◌⊎◌, ◌<◌, IfOk, None, Some, length};
+ghost use Rattle.std.specs.List.{AllByRecursion};
 ghost use Rattle.lvish_calculus.specs.Handing.{IsWellHanded};
 ghost use Rattle.lvish_run.specs.Honest.{IsCountByWorker, IsHonest};
 ghost use Rattle.lvish_trace.specs.Traced.{labels_of};
@@ -78,6 +79,8 @@ pub fn report_of<P: Program, J: Named<P>>(
     ensures least { IfOk result (λ r. IsLeast (⟦<P as Meaning>⟧.machine J.program) r) }
     // At an end that no task leaves at a freeze of a frozen variable they are closed.
     ensures closed { IfOk result (λ r. IsClosedEnd (⟦<P as Meaning>⟧.machine J.program) r) }
+    // The board isn't over, or has steps of other workers.
+    ensures mixed { result ≡ Err RunFault.Mixed → (board.entry.over ≡ None) ⊎ (AllByRecursion (λ e. e.worker < workers) board.entry.trace → ⊥) }
     ensures not_stopped { result ≢ Err RunFault.Stopped }
     ensures all_there { result ≢ Err RunFault.NoThread }
 {
@@ -95,6 +98,7 @@ fn looked_at<P: Program, J: Named<P>>(
     ensures over { IfOk result (λ r. OverIs (⟦<P as Meaning>⟧.machine J.program) J.budget board.now (Some r.0)) }
     ensures workers { IfOk result (λ r. length r.1 ≡ workers) }
     ensures counts { IfOk result (λ r. IsCountByWorker (length r.1) board.now.trace r.1) }
+    ensures mixed { result ≡ Err RunFault.Mixed → (board.now.over ≡ None) ⊎ (AllByRecursion (λ e. e.worker < workers) board.now.trace → ⊥) }
     ensures not_stopped { result ≢ Err RunFault.Stopped }
     ensures all_there { result ≢ Err RunFault.NoThread }
 {

@@ -1,4 +1,5 @@
-ghost use Rattle.std.specs.Prelude.{◌≡◌, ◌≢◌, ◌==◌, IfOk, count_by};
+ghost use Rattle.std.specs.Prelude.{◌≡◌, ◌≢◌, ◌==◌, ◌<◌, IfOk, count_by};
+ghost use Rattle.std.specs.List.{AllByRecursion};
 ghost use Rattle.lvish_run.specs.Crew.{AreCounts};
 
 use crate::fault::RunFault;
@@ -16,9 +17,10 @@ fn made_by(noted: &[Noted], worker: usize) -> u64
         .count() as u64
 }
 
-/// How many of the noted steps each worker made; `Mixed` where they don't add up to all.
+/// How many of the noted steps each worker made; `Mixed` where some were made by others.
 pub fn count_by_worker(alloc: Global, noted: &[Noted], workers: usize) -> Result<Counts, RunFault>
     ensures counts { IfOk result (λ counts. AreCounts workers noted.now counts) }
+    ensures mixed { result ≡ Err RunFault.Mixed → AllByRecursion (λ n. n.worker < workers) noted.now → ⊥ }
     ensures not_stopped { result ≢ Err RunFault.Stopped }
     ensures all_there { result ≢ Err RunFault.NoThread }
 {

@@ -1,7 +1,7 @@
 use lvish_compound::Event;
 use lvish_names::TaskName;
 
-/// What a worker passes before each stretch of a task and on each idle turn, with no lock held.
+/// What a worker passes before each stretch of a task and, in a crew, on each idle turn, with no lock held.
 pub trait Gate: Sync {
     ghost use Rattle.std.specs.Prelude.{◌≡◌, Bool, true};
 
@@ -11,9 +11,15 @@ pub trait Gate: Sync {
     /// Called by the worker before it runs local statements of the task.
     fn enter(&self, worker: usize, task: &TaskName<Event>);
 
-    /// Called by the worker when it has found no work. `false` stops the run.
+    /// Called by a worker of a crew when it has found no work. `false` stops the run.
     fn idle(&self, worker: usize) -> bool
         ensures { patient ≡ true → result ≡ true };
+
+    /// Whether a call may hold its worker until another one is there: then all workers are, from the first
+    /// turn on.
+    fn holds(&self) -> bool {
+        true
+    }
 }
 
 /// A gate that never stops.
@@ -29,5 +35,9 @@ impl Gate for Open {
 
     fn idle(&self, _worker: usize) -> bool {
         true
+    }
+
+    fn holds(&self) -> bool {
+        false
     }
 }

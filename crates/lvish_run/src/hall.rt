@@ -1,161 +1,153 @@
-//! The workers on their threads.
+//! What the workers of a crew share.
 
-ghost use Rattle.std.specs.Prelude.{◌≡◌, ◌≢◌, ◌↔◌, ◌+◌, IfOk, IsTrue, All, true, false, [], length, suc};
-ghost use Rattle.std.specs.List.{list_any};
-ghost use Rattle.lvish_run.specs.Crew.{IsFault, IsPart, lacked_memory, was_stopped};
-ghost use Rattle.lvish_run.specs.declared.own_steps.Why.TheVariants.{Stopped};
-
-use crate::fault::RunFault;
-use crate::gate::Gate;
-use crate::own_steps::OwnSteps;
-use crate::piece::Piece;
-use crate::worker::work;
-use lvish_board::{Board, Named, Noted};
+use crate::naming::Staff;
+use crate::seek::find;
+use crate::staffed::Staffed;
+use crossbeam_utils::{Backoff, CachePadded};
+use lvish_board::{Named, Work};
 use lvish_deal::Seat;
 use lvish_task::ScriptCode;
-use std::alloc::{AllocError, Global};
-use std::marker::PhantomData;
-use std::sync::atomic::{AtomicBool, Ordering};
-use std::sync::{Mutex, Wait};
-use std::thread;
-use std::thread::{Promise, PromisedHandle, Threads};
+use std::alloc::Global;
+use std::sync::atomic::{AtomicBool, AtomicUsize, Ordering};
+use std::sync::{Condvar, Mutex, MutexGuard, Wait};
 
-/// A worker at a patient gate doesn't leave as stopped.
+/// How often a worker that finds the board taken tries to take it before it sleeps.
+const TRIES: usize = 12;
+
+/// How often a worker without work looks whether there is some before it sleeps.
+const LOOKS: usize = 40;
+
+/// How many workers sleep without a piece of work for them, and how many pieces there are for sleepers.
 #[derive(Drop)]
-pub struct Patience<G: Gate> {
-    of: PhantomData<G>,
+struct Sleepers {
+    asking: usize,
+    served: usize,
 }
 
-impl<G: Gate> Promise<OwnSteps> for Patience<G> {
-    ghost use Rattle.std.specs.Prelude.{◌≡◌, ◌≢◌, true};
-    ghost use Rattle.lvish_run.specs.declared.own_steps.Why.TheVariants.{Stopped};
-
-    ghost kept_by = { λ p r. G.patient ≡ true → r.why ≢ Stopped };
+/// The board, what is left behind, and who sleeps.
+///
+/// A worker without work asks for a piece and sleeps until there is one for it, or somebody has left. It looks
+/// for work once more when nobody else can be told of any. So no piece stays where it is while its worker
+/// sleeps: who sleeps has none, and who has some is awake.
+#[derive(Drop)]
+pub struct Hall<'p, J: Named<ScriptCode> + Staff> {
+    // (on cache lines of its own, since each step writes in it, and the others read the rest at each turn)
+    board: CachePadded<Mutex<Staffed<'p, ScriptCode, J>>>,
+    // the work that workers have left behind
+    pub rest: Mutex<Vec<Work<ScriptCode, J>>>,
+    // whether one has left
+    left: AtomicBool,
+    // how many workers ask, and how many pieces there are for sleepers, as the others see it
+    asking: AtomicUsize,
+    served: AtomicUsize,
+    sleepers: Mutex<Sleepers>,
+    bell: Condvar,
 }
 
-/// What all workers give back, and whether a thread couldn't be started.
-pub struct Crew {
-    pub owns: Vec<OwnSteps>,
-    pub missing: bool,
-}
+impl<'p, J: Named<ScriptCode> + Staff> Hall<'p, J> {
+    /// What a crew shares that begins with this board.
+    pub fn new(alloc: Global, board: Staffed<'p, ScriptCode, J>) -> Hall<'p, J> {
+        Hall {
+            board: CachePadded::new(Mutex::new(board)),
+            rest: Mutex::new(Vec::new(alloc)),
+            left: AtomicBool::new(false),
+            asking: AtomicUsize::new(0),
+            served: AtomicUsize::new(0),
+            sleepers: Mutex::new(Sleepers {
+                asking: 0,
+                served: 0,
+            }),
+            bell: Condvar::new(),
+        }
+    }
 
-// Written out, so that it is proved once, and not at each exit of a function that owns one.
-impl Drop for Crew {
-    fn drop(self) {
-        let Crew {
-            owns: _,
-            missing: _,
+    /// The board, and the work that workers have left behind.
+    pub fn into_parts(self) -> (Staffed<'p, ScriptCode, J>, Vec<Work<ScriptCode, J>>) {
+        let Hall {
+            board,
+            rest,
+            left: _,
+            asking: _,
+            served: _,
+            sleepers: _,
+            bell: _,
         } = self;
+        (board.into_inner().into_inner(), rest.into_inner())
     }
-}
 
-impl Crew {
-    /// Why there is no report of the steps that a board noted.
-    pub fn fault(&self, noted: &[Noted]) -> Option<RunFault>
-        ensures { IsFault self.now.missing self.now.owns.items noted.now result }
-    {
-        if self.missing {
-            return Some(RunFault::NoThread);
+    /// Takes the board. Where another has it, that is for one step, so a worker mostly spins until then.
+    pub fn take<R: Wait>(&self, rt: &R) -> MutexGuard<'_, Staffed<'p, ScriptCode, J>> {
+        if let Some(board) = self.board.try_lock() {
+            return board;
         }
-        if some_lacked_memory(&self.owns) {
-            return Some(RunFault::Memory);
-        }
-        if some_was_stopped(&self.owns) {
-            return Some(RunFault::Stopped);
-        }
-        if are_parts(&self.owns, noted) {
-            None
-        } else {
-            Some(RunFault::Mixed)
-        }
-    }
-}
-
-/// Whether some worker left for want of memory.
-fn some_lacked_memory(owns: &[OwnSteps]) -> bool
-    ensures { result ≡ list_any lacked_memory owns.now }
-{
-    owns.iter().any(|own| own.lacked_memory())
-}
-
-/// Whether some worker was stopped.
-fn some_was_stopped(owns: &[OwnSteps]) -> bool
-    ensures { result ≡ list_any was_stopped owns.now }
-{
-    owns.iter().any(|own| own.was_stopped())
-}
-
-/// Whether each worker's own list is just its steps among those that a board noted.
-fn are_parts(owns: &[OwnSteps], noted: &[Noted]) -> bool
-    ensures { IsTrue result ↔ All (IsPart noted.now) owns.now }
-{
-    owns.iter().all(|own| own.is_part(noted))
-}
-
-/// Runs the worker of the first seat on this thread and those of the others on threads of their own,
-/// and joins them.
-pub fn together<J: Named<ScriptCode> + Send + Sync, R: Threads + Wait + Sync, G: Gate>(
-    rt: &R,
-    alloc: Global,
-    mine: Seat<Piece<J>>,
-    others: Vec<Seat<Piece<J>>>,
-    code: &ScriptCode,
-    board: &Mutex<Board<'_, ScriptCode, J>>,
-    left: &AtomicBool,
-    gate: &G,
-) -> Result<Crew, AllocError>
-    requires code { code.now ≡ J.program }
-    ensures patient { IfOk result (λ crew. G.patient ≡ true → All (λ own. own.why ≢ Stopped) crew.owns.items) }
-    ensures alone { IfOk result (λ crew. others.items ≡ [] → crew.missing ≡ false) }
-    ensures joined { IfOk result (λ crew. crew.missing ≡ false → length crew.owns.items ≡ suc (length others.items)) }
-{
-    let mut others = others;
-    let mut handles = Vec::with_capacity(alloc, others.len())?;
-    let mut owns = Vec::with_capacity(alloc, others.len() + 1)?;
-    thread::scope(
-        thread::scope_env(),
-        rt,
-        |scope| -> Result<Crew, AllocError>
-            requires code { code.now ≡ J.program }
-            requires fresh { owns.items ≡ [] }
-            requires empty { handles.items ≡ [] }
-            ensures patient { IfOk result (λ crew. G.patient ≡ true → All (λ own. own.why ≢ Stopped) crew.owns.items) }
-            ensures alone { IfOk result (λ crew. others.entry.items ≡ [] → crew.missing ≡ false) }
-            ensures joined { IfOk result (λ crew. crew.missing ≡ false → length crew.owns.items ≡ suc (length others.entry.items)) }
-        {
-            let mut missing = false;
-            while let Some(seat) = others.pop() {
-                let theirs = move || -> OwnSteps
-                    requires { code.now ≡ J.program }
-                    ensures { G.patient ≡ true → result.why ≢ Stopped }
-                { work(rt, alloc, seat, code, board, left, gate) };
-                match scope.spawn_with(Patience::<G> { of: PhantomData }, theirs) {
-                    Ok(handle) => handles.push(handle)?,
-                    Err(_refused) => {
-                        missing = true;
-                        left.store(true, Ordering::SeqCst);
-                    }
-                }
+        let spins = Backoff::new();
+        for _ in 0..TRIES {
+            spins.snooze();
+            if let Some(board) = self.board.try_lock() {
+                return board;
             }
-            owns.push(work(rt, alloc, mine, code, board, left, gate))?;
-            let owns = join_all(rt, handles, owns)?;
-            Ok(Crew { owns, missing })
-        },
-    )
-}
-
-/// Joins the threads, and adds what they give back.
-fn join_all<R: Threads, G: Gate>(
-    rt: &R,
-    handles: Vec<PromisedHandle<OwnSteps, Patience<G>>>,
-    mut owns: Vec<OwnSteps>,
-) -> Result<Vec<OwnSteps>, AllocError>
-    requires { G.patient ≡ true → All (λ own. own.why ≢ Stopped) owns.items }
-    ensures patient { IfOk result (λ v. G.patient ≡ true → All (λ own. own.why ≢ Stopped) v.items) }
-    ensures all { IfOk result (λ v. length v.items ≡ length owns.items + length handles.items) }
-{
-    for handle in handles {
-        owns.push(handle.join(rt))?;
+        }
+        self.board.lock(rt)
     }
-    Ok(owns)
+
+    /// Whether a worker has left.
+    #[inline(always)]
+    pub fn is_left(&self) -> bool {
+        self.left.load(Ordering::Acquire)
+    }
+
+    /// Sends all workers away.
+    pub fn close<R: Wait>(&self, rt: &R) {
+        let sleepers = self.sleepers.lock(rt);
+        self.left.store(true, Ordering::SeqCst);
+        drop(sleepers);
+        self.bell.notify_all();
+    }
+
+    /// Whether a worker asks for a piece of work.
+    #[inline(always)]
+    pub fn is_asked(&self) -> bool {
+        self.asking.load(Ordering::Relaxed) > 0
+    }
+
+    /// Tells one worker that asks, if there is still one, of a piece of work on a deque.
+    pub fn serve<R: Wait>(&self, rt: &R) {
+        let mut sleepers = self.sleepers.lock(rt);
+        if sleepers.asking == 0 {
+            return;
+        }
+        sleepers.asking -= 1;
+        sleepers.served = sleepers.served.saturating_add(1);
+        self.asking.store(sleepers.asking, Ordering::Relaxed);
+        self.served.store(sleepers.served, Ordering::Relaxed);
+        drop(sleepers);
+        self.bell.notify_one();
+    }
+
+    /// Asks for a piece of work, and sleeps until there is one for the worker of this seat, or another has left. Where
+    /// it finds one on the deques after all, it doesn't sleep.
+    pub fn sleep<R: Wait, T>(&self, rt: &R, seat: &mut Seat<T>) -> Option<T> {
+        let mut sleepers = self.sleepers.lock(rt);
+        if let Some(found) = find(seat) {
+            return Some(found);
+        }
+        sleepers.asking = sleepers.asking.saturating_add(1);
+        self.asking.store(sleepers.asking, Ordering::Relaxed);
+        drop(sleepers);
+        let spins = Backoff::new();
+        for _ in 0..LOOKS {
+            if self.served.load(Ordering::Relaxed) > 0 || self.is_left() {
+                break;
+            }
+            spins.snooze();
+        }
+        let mut sleepers = self
+            .bell
+            .wait_while(rt, self.sleepers.lock(rt), |sleepers| {
+                sleepers.served == 0 && !self.is_left()
+            });
+        sleepers.served = sleepers.served.saturating_sub(1);
+        self.served.store(sleepers.served, Ordering::Relaxed);
+        None
+    }
 }

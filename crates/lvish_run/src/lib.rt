@@ -1,6 +1,6 @@
 //! Runs of scripts, and their reports.
 //!
-//! [`run`] runs a script by 1 to 8 workers, each at a deque of its own, round one board. [`run_picks`]
+//! [`run`] runs a script by 1 to 8 workers round one board: by one alone, and by all where that pays. [`run_picks`]
 //! makes the steps on one thread, taking at each step the enabled label that a list of picks names, and
 //! the first when the picks are used up.
 //! A [`Report`] is honest: its trace is a run of the script's nested statements. Unless the run is in
@@ -16,10 +16,10 @@
 
 mod account;
 mod agenda;
-mod alone;
 mod boxed_asked;
 mod closing;
 mod count_by_worker;
+mod crew;
 mod ends;
 mod fault;
 mod gate;
@@ -28,15 +28,19 @@ pub mod laws;
 mod limits;
 mod naming;
 mod opening;
-mod own_queue;
-mod own_steps;
-mod pause;
+mod order;
+mod own;
+mod pace;
 mod picks;
-mod piece;
 mod queue;
+mod rank;
 mod runner;
 mod scripts;
+mod seek;
+mod shared;
+mod staffed;
 mod turn;
+mod why;
 mod worker;
 mod workers;
 

@@ -1,86 +1,114 @@
-//! What a step leaves, beside its task's own next ticket, waits in a queue.
+//! Where the work of one worker waits.
 
-use crate::piece::Piece;
-use lvish_board::{Asked, Named, Works};
-use lvish_compound::Event;
-use lvish_deal::Seat;
+ghost use Rattle.std.specs.Prelude.{◌≡◌, ◌++◌, ◌∷◌, ◌==◌, [], OnOk, true};
+
+use lvish_board::{Asked, Named, Ticket, Work, Works};
+use lvish_calculus::Program;
+use lvish_lattice::Lattice;
 use lvish_names::HandlerName;
-use lvish_task::ScriptCode;
 use std::alloc::{AllocError, Global};
+use std::collections::VecDeque;
 
-/// Where work waits until a worker takes it up: the deque of a seat, or a list of a lone worker's own.
-pub trait Queue<T> {
-    /// Adds an item at the back.
+/// The work that waits for one worker, which takes up what came last: the tasks that its steps woke, then
+/// the other tasks, then the handlers.
+pub struct Queue<P: Program, J: Named<P>> {
+    woken: Vec<Asked<P, J>>,
+    tickets: VecDeque<Ticket<P, J>>,
+    hands: Vec<HandlerName<<P::Lat as Lattice>::Event>>,
+}
+
+// Written out, so that it is proved once, and not at each exit of a function that owns one.
+impl<P: Program, J: Named<P>> Drop for Queue<P, J> {
+    fn drop(self) {
+        let Queue {
+            woken: _,
+            tickets: _,
+            hands: _,
+        } = self;
+    }
+}
+
+impl<P: Program, J: Named<P>> Queue<P, J> {
+    ghost use Rattle.std.specs.Prelude.{Option};
+    ghost use Rattle.lvish_run.specs.Waiting.{IsAdded, IsLeft, IsPutOff, IsTaken};
+
+    /// No work.
+    pub fn new(alloc: Global) -> Queue<P, J> {
+        Queue {
+            woken: Vec::new(alloc),
+            tickets: VecDeque::new(alloc),
+            hands: Vec::new(alloc),
+        }
+    }
+
+    /// Whether no work waits.
+    pub fn is_empty(&self) -> bool {
+        self.woken.is_empty() && self.tickets.is_empty() && self.hands.is_empty()
+    }
+
+    /// Adds a piece of work, which is taken up before others of its kind.
     ///
     /// # Errors
     ///
     /// Where there is no room for it.
-    fn push(&mut self, item: T) -> Result<(), AllocError>;
-}
-
-impl<T: Drop> Queue<T> for Seat<T> {
-    #[inline(always)]
-    fn push(&mut self, item: T) -> Result<(), AllocError> {
-        match self.push(item) {
-            Ok(()) => Ok(()),
-            Err(_item) => Err(AllocError),
+    pub fn push(&mut self, work: Work<P, J>) -> Result<(), AllocError>
+        ensures { OnOk result (IsAdded work self.old self.new) }
+    {
+        match work {
+            Work::Stretch(ticket) => Ok(self.tickets.push_back(ticket)?),
+            Work::Act(asked) => Ok(self.woken.push(asked)?),
+            Work::Hand(handler) => Ok(self.hands.push(handler)?),
         }
     }
-}
 
-impl<T: Drop> Queue<T> for Vec<T> {
+    /// Takes out the work that came last.
     #[inline(always)]
-    fn push(&mut self, item: T) -> Result<(), AllocError> {
-        match self.push(item) {
-            Ok(()) => Ok(()),
-            Err(_refused) => Err(AllocError),
+    pub fn pop(&mut self) -> Option<Work<P, J>>
+        ensures { IsTaken result self.old self.new }
+    {
+        if let Some(asked) = self.woken.pop() {
+            return Some(Work::Act(asked));
         }
+        if let Some(ticket) = self.tickets.pop_back() {
+            return Some(Work::Stretch(ticket));
+        }
+        let handler = self.hands.pop()?;
+        Some(Work::Hand(handler))
+    }
+
+    /// Takes out the task that came first, else other work, for another worker.
+    pub fn pop_oldest(&mut self) -> Option<Work<P, J>>
+        ensures { IsTaken result self.old self.new }
+    {
+        match self.tickets.pop_front() {
+            Some(ticket) => Some(Work::Stretch(ticket)),
+            None => self.pop(),
+        }
+    }
+
+    /// Leaves the work here that a step left. The task that the step made goes on first, and the acting
+    /// one after it.
+    ///
+    /// # Errors
+    ///
+    /// Where there is no room for it.
+    #[inline(never)]
+    pub fn leave(&mut self, works: &mut Works<P, J>) -> Result<(), AllocError>
+        ensures { OnOk result (IsLeft self.old works.old self.new works.new) }
+    {
+        self.woken.append(&mut works.woken)?;
+        self.hands.append(&mut works.hands)?;
+        if let Some(made) = works.made.take() {
+            if let Some(own) = works.own.replace(made) {
+                self.tickets.push_back(own)?;
+            }
+        }
+        Ok(())
     }
 }
 
 /// Whether a step left more than the next ticket of its task.
 #[inline(always)]
-pub fn leaves_more<J: Named<ScriptCode>>(works: &Works<ScriptCode, J>) -> bool {
+pub fn leaves_more<P: Program, J: Named<P>>(works: &Works<P, J>) -> bool {
     works.made.is_some() || !works.woken.is_empty() || !works.hands.is_empty()
-}
-
-/// Leaves the work beside the task's own on the queue, in this order.
-#[inline(never)]
-pub fn leave<J: Named<ScriptCode>, Q: Queue<Piece<J>>>(
-    alloc: Global,
-    queue: &mut Q,
-    works: &mut Works<ScriptCode, J>,
-) -> Result<(), AllocError> {
-    if let Some(ticket) = works.made.take() {
-        queue.push(Piece::Stretch(ticket))?;
-    }
-    if !works.woken.is_empty() {
-        leave_woken(alloc, queue, &mut works.woken)?;
-    }
-    leave_hands(queue, &mut works.hands)
-}
-
-/// Leaves the next handing of each of these handlers on the queue, in their order.
-pub fn leave_hands<J: Named<ScriptCode>, Q: Queue<Piece<J>>>(
-    queue: &mut Q,
-    hands: &mut Vec<HandlerName<Event>>,
-) -> Result<(), AllocError> {
-    hands.reverse();
-    while let Some(handler) = hands.pop() {
-        queue.push(Piece::Hand(handler))?;
-    }
-    Ok(())
-}
-
-/// Leaves what these tasks ask for on the queue, in their order.
-fn leave_woken<J: Named<ScriptCode>, Q: Queue<Piece<J>>>(
-    alloc: Global,
-    queue: &mut Q,
-    woken: &mut Vec<Asked<ScriptCode, J>>,
-) -> Result<(), AllocError> {
-    woken.reverse();
-    while let Some(asked) = woken.pop() {
-        queue.push(Piece::Act(Box::new(alloc, asked)?))?;
-    }
-    Ok(())
 }

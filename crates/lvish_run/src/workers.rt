@@ -1,21 +1,26 @@
-ghost use Rattle.std.specs.Prelude.{◌≡◌, ◌≢◌, ◌≤◌, ◌<◌, IfOk, All, true, false};
-ghost use Rattle.lvish_run.specs.Alike.{IsTold};
-ghost use Rattle.lvish_run.specs.declared.own_steps.Why.TheVariants.{Memory as LackedMemory, Stopped};
+//! Runs of scripts by workers: by one alone, and by a crew where that pays.
 
-use crate::alone::work_alone;
-use crate::closing::report_of;
+ghost use Rattle.std.specs.Prelude.{◌≡◌, ◌≢◌, ◌≤◌, ◌<◌, IfOk, IsSome, true};
+ghost use Rattle.lvish_run.specs.Alike.{IsTold};
+
+use crate::crew::together;
 use crate::fault::RunFault;
 use crate::gate::Gate;
-use crate::hall::{Crew, together};
+use crate::hall::Hall;
 use crate::limits::{MOST_STEPS, MOST_WORKERS};
-use crate::naming::{Naming, Of};
-use crate::own_steps::Why;
-use crate::piece::Piece;
+use crate::naming::{Naming, Of, Staff};
+use crate::order::Order;
+use crate::own::OwnSite;
+use crate::pace::{GRAIN, LEAST_GRAIN, Pace};
+use crate::queue::Queue;
+use crate::rank::Rank;
 use crate::scripts::RunMeaning;
+use crate::staffed::Staffed;
+use crate::worker::Worker;
 use lvish_board::{Board, Named, Place};
 use lvish_calculus::{Meaning, Program};
 use lvish_compound::{Any, Event};
-use lvish_deal::{Seat, deal};
+use lvish_deal::deal;
 use lvish_history::Opened;
 use lvish_report::Report;
 use lvish_syntax::Script;
@@ -23,18 +28,17 @@ use lvish_task::ScriptCode;
 use lvish_task::laws::{same_models, same_runs};
 use std::alloc::Global;
 use std::marker::Brand;
-use std::sync::atomic::AtomicBool;
-use std::sync::{Mutex, Wait};
+use std::sync::Wait;
 use std::thread::Threads;
 
-/// Runs the script by this many workers, each at a deque of its own: worker 0 on this thread, the
-/// others on threads of their own.
+/// Runs the script by this many workers: worker 0 on this thread, the others on threads of their own.
+///
+/// It is run by worker 0 alone as long as more workers wouldn't pay, unless the gate may hold one.
 ///
 /// # Errors
 ///
 /// `NoThread` where a thread couldn't be started, else `Memory` where a growth or a push was refused,
-/// else `Stopped` where some `idle` of the gate answered false, else `Mixed` where the workers' own
-/// lists of steps differ from the trace, or the board isn't over.
+/// else `Stopped` where some `idle` of the gate answered false, which a lone worker does not ask.
 pub fn run<R: Threads + Wait + Sync, G: Gate>(
     rt: &R,
     alloc: Global,
@@ -48,7 +52,8 @@ pub fn run<R: Threads + Wait + Sync, G: Gate>(
     requires bounded { budget ≤ MOST_STEPS }
     ensures honest { IfOk result (λ r. ⟦<Script as RunMeaning>⟧.is_run script.now workers budget r) }
     ensures patient { G.patient ≡ true → result ≢ Err RunFault.Stopped }
-    ensures alone { workers ≡ 1 → result ≢ Err RunFault.NoThread }
+    ensures alone { workers ≡ 1 → (result ≢ Err RunFault.NoThread) × (result ≢ Err RunFault.Stopped) }
+    ensures whole { result ≢ Err RunFault.Mixed }
 {
     same_runs();
     same_models();
@@ -71,126 +76,146 @@ fn run_named<N: Naming + Send + Sync, R: Threads + Wait + Sync, G: Gate>(
     requires bounded { budget ≤ MOST_STEPS }
     requires code { code.now ≡ N.code }
     requires budget { budget ≡ N.budget }
+    requires workers { workers ≡ N.workers }
     requires history { history.seen.book ≡ N.book }
     ensures told { IfOk result (λ r. IsTold (⟦<ScriptCode as Meaning>⟧.machine N.code) (⟦<ScriptCode as Program>⟧.functions N.code).variables workers N.budget r) }
     ensures patient { G.patient ≡ true → result ≢ Err RunFault.Stopped }
-    ensures alone { workers ≡ 1 → result ≢ Err RunFault.NoThread }
+    ensures alone { workers ≡ 1 → (result ≢ Err RunFault.NoThread) × (result ≢ Err RunFault.Stopped) }
+    ensures whole { result ≢ Err RunFault.Mixed }
 {
     let Ok((board, first)) = Board::<ScriptCode, Of<N>>::new(alloc, code, budget, history) else {
         return Err(RunFault::Memory);
     };
-    let first = Piece::of(alloc, first)?;
-    if workers == 1 {
-        return run_alone(rt, alloc, code, board, first, gate);
-    }
-    run_together(rt, alloc, code, board, first, workers, gate)
+    let mut queue = Queue::new(alloc);
+    queue.push(first)?;
+    let order = Order {
+        rt,
+        alloc,
+        code,
+        gate,
+        workers,
+    };
+    let board = work_off(&order, Staffed::new(board), queue)?;
+    board.report(alloc, workers)
 }
 
-/// Runs the code by one worker, from the first piece of work on.
-fn run_alone<J: Named<ScriptCode>, R: Wait, G: Gate>(
-    rt: &R,
-    alloc: Global,
-    code: &ScriptCode,
-    board: Board<'_, ScriptCode, J>,
-    first: Piece<J>,
-    gate: &G,
-) -> Result<Report<Any, Event>, RunFault>
-    requires code { code.now ≡ J.program }
-    ensures told { IfOk result (λ r. IsTold (⟦<ScriptCode as Meaning>⟧.machine J.program) (⟦<ScriptCode as Program>⟧.functions J.program).variables 1 J.budget r) }
+/// Works until the board is over: alone, and with a crew where that pays, or where the gate may hold a worker.
+fn work_off<'p, J: Named<ScriptCode> + Staff + Send + Sync, R: Threads + Wait + Sync, G: Gate>(
+    order: &Order<'_, 'p, R, G>,
+    board: Staffed<'p, ScriptCode, J>,
+    queue: Queue<ScriptCode, J>,
+) -> Result<Staffed<'p, ScriptCode, J>, RunFault>
+    requires code { order.now.code.now ≡ J.program }
+    requires all { order.now.workers ≡ J.workers }
     ensures patient { G.patient ≡ true → result ≢ Err RunFault.Stopped }
-    ensures alone { result ≢ Err RunFault.NoThread }
+    ensures alone { order.now.workers ≡ 1 → (result ≢ Err RunFault.NoThread) × (result ≢ Err RunFault.Stopped) }
+    ensures whole { result ≢ Err RunFault.Mixed }
+    ensures over { IfOk result (λ b. IsSome b.over) }
 {
-    let mut board = board;
-    let why = work_alone(rt, alloc, first, code, &mut board, gate);
-    settle_alone(alloc, board, why)
-}
-
-/// The report of a board that a lone worker left for this reason, or why there is none.
-fn settle_alone<J: Named<ScriptCode>>(
-    alloc: Global,
-    board: Board<'_, ScriptCode, J>,
-    why: Why,
-) -> Result<Report<Any, Event>, RunFault>
-    ensures told { IfOk result (λ r. IsTold (⟦<ScriptCode as Meaning>⟧.machine J.program) (⟦<ScriptCode as Program>⟧.functions J.program).variables 1 J.budget r) }
-    ensures memory { why ≡ LackedMemory → result ≡ Err RunFault.Memory }
-    ensures stopped { why ≡ Stopped → result ≡ Err RunFault.Stopped }
-    ensures patient { why ≢ Stopped → result ≢ Err RunFault.Stopped }
-    ensures all_there { result ≢ Err RunFault.NoThread }
-{
-    match why {
-        Why::Memory => Err(RunFault::Memory),
-        Why::Stopped => Err(RunFault::Stopped),
-        Why::Over | Why::Others => reported(alloc, board, 1),
+    let (mut board, mut queue) = begin(order, board, queue)?;
+    let mut changes = 0u32;
+    for _ in order.rt.forever() {
+        if board.is_over() {
+            return Ok(board);
+        }
+        (board, queue) = by_turns(order, changes, board, queue)?;
+        changes = changes.saturating_add(2);
     }
+    unreachable!()
 }
 
-/// Runs the code by this many workers, from the first piece of work on.
-fn run_together<J: Named<ScriptCode> + Send + Sync, R: Threads + Wait + Sync, G: Gate>(
-    rt: &R,
-    alloc: Global,
-    code: &ScriptCode,
-    board: Board<'_, ScriptCode, J>,
-    first: Piece<J>,
-    workers: usize,
-    gate: &G,
-) -> Result<Report<Any, Event>, RunFault>
-    requires some { 0 < workers }
-    requires few { workers ≤ MOST_WORKERS }
-    requires code { code.now ≡ J.program }
-    ensures told { IfOk result (λ r. IsTold (⟦<ScriptCode as Meaning>⟧.machine J.program) (⟦<ScriptCode as Program>⟧.functions J.program).variables workers J.budget r) }
+/// Works with a crew where the gate may hold a worker, before anything else: the board, and the work that is left.
+fn begin<'p, J: Named<ScriptCode> + Staff + Send + Sync, R: Threads + Wait + Sync, G: Gate>(
+    order: &Order<'_, 'p, R, G>,
+    board: Staffed<'p, ScriptCode, J>,
+    queue: Queue<ScriptCode, J>,
+) -> Result<(Staffed<'p, ScriptCode, J>, Queue<ScriptCode, J>), RunFault>
+    requires code { order.now.code.now ≡ J.program }
+    requires all { order.now.workers ≡ J.workers }
     ensures patient { G.patient ≡ true → result ≢ Err RunFault.Stopped }
+    ensures alone { order.now.workers ≡ 1 → (result ≢ Err RunFault.NoThread) × (result ≢ Err RunFault.Stopped) }
+    ensures whole { result ≢ Err RunFault.Mixed }
 {
-    let (mine, others) = dealt(alloc, first, workers)?;
-    let board = Mutex::new(board);
-    let left = AtomicBool::new(false);
-    let crew = together(rt, alloc, mine, others, code, &board, &left, gate)?;
-    settle(alloc, board.into_inner(), crew, workers)
-}
-
-/// The seats of the workers, the first apart from the others and with the first piece of work.
-fn dealt<T: Drop>(
-    alloc: Global,
-    first: T,
-    workers: usize,
-) -> Result<(Seat<T>, Vec<Seat<T>>), RunFault>
-    requires some { 0 < workers }
-    requires few { workers ≤ MOST_WORKERS }
-    ensures { result ≢ Err RunFault.Stopped }
-{
-    let mut others = deal(alloc, workers)?;
-    let mut mine = others.remove(0);
-    match mine.push(first) {
-        Ok(()) => Ok((mine, others)),
-        Err(_first) => Err(RunFault::Memory),
+    if order.workers > 1 && order.gate.holds() {
+        crew(order, Pace::steady(), board, queue)
+    } else {
+        Ok((board, queue))
     }
 }
 
-/// The report of a board that is over, or why there is none.
-fn settle<J: Named<ScriptCode>>(
-    alloc: Global,
-    board: Board<'_, ScriptCode, J>,
-    crew: Crew,
-    workers: usize,
-) -> Result<Report<Any, Event>, RunFault>
-    ensures told { IfOk result (λ r. IsTold (⟦<ScriptCode as Meaning>⟧.machine J.program) (⟦<ScriptCode as Program>⟧.functions J.program).variables workers J.budget r) }
-    ensures patient { All (λ own. own.why ≢ Stopped) crew.owns.items → result ≢ Err RunFault.Stopped }
-    ensures all_there { crew.missing ≡ false → result ≢ Err RunFault.NoThread }
+/// Works alone and then with a crew, after so many changes of the number of workers: the board, and the work that is
+/// left.
+fn by_turns<'p, J: Named<ScriptCode> + Staff + Send + Sync, R: Threads + Wait + Sync, G: Gate>(
+    order: &Order<'_, 'p, R, G>,
+    changes: u32,
+    board: Staffed<'p, ScriptCode, J>,
+    queue: Queue<ScriptCode, J>,
+) -> Result<(Staffed<'p, ScriptCode, J>, Queue<ScriptCode, J>), RunFault>
+    requires code { order.now.code.now ≡ J.program }
+    requires all { order.now.workers ≡ J.workers }
+    ensures patient { G.patient ≡ true → result ≢ Err RunFault.Stopped }
+    ensures alone { order.now.workers ≡ 1 → (result ≢ Err RunFault.NoThread) × (result ≢ Err RunFault.Stopped) }
+    ensures whole { result ≢ Err RunFault.Mixed }
 {
-    match crew.fault(board.noted()) {
-        Some(fault) => Err(fault),
-        None => reported(alloc, board, workers),
+    if order.workers == 1 {
+        return alone(order, Pace::steady(), board, queue);
+    }
+    let (board, queue) = alone(order, Pace::after(changes, GRAIN), board, queue)?;
+    if board.is_over() {
+        Ok((board, queue))
+    } else {
+        crew(order, Pace::after(changes, LEAST_GRAIN), board, queue)
     }
 }
 
-/// The report of a board that is over, with what it says in one clause.
-fn reported<J: Named<ScriptCode>>(
-    alloc: Global,
-    board: Board<'_, ScriptCode, J>,
-    workers: usize,
-) -> Result<Report<Any, Event>, RunFault>
-    ensures told { IfOk result (λ r. IsTold (⟦<ScriptCode as Meaning>⟧.machine J.program) (⟦<ScriptCode as Program>⟧.functions J.program).variables workers J.budget r) }
+/// Works alone until the board is over or a crew pays: the board, and the work that is left.
+fn alone<'p, J: Named<ScriptCode> + Staff, R: Wait, G: Gate>(
+    order: &Order<'_, 'p, R, G>,
+    pace: Pace,
+    board: Staffed<'p, ScriptCode, J>,
+    queue: Queue<ScriptCode, J>,
+) -> Result<(Staffed<'p, ScriptCode, J>, Queue<ScriptCode, J>), RunFault>
+    requires code { order.now.code.now ≡ J.program }
+    requires all { order.now.workers ≡ J.workers }
     ensures not_stopped { result ≢ Err RunFault.Stopped }
+    ensures whole { result ≢ Err RunFault.Mixed }
     ensures all_there { result ≢ Err RunFault.NoThread }
 {
-    report_of(alloc, board, workers)
+    let mut site = OwnSite {
+        board,
+        gate: order.gate,
+        pace,
+        rank: Rank::new(0),
+        worker: Worker::new(order.alloc, order.code, queue),
+    };
+    if let Some(fault) = site.work(order.rt).fault() {
+        return Err(fault);
+    }
+    Ok(site.into_parts()?)
+}
+
+/// Works with a crew until the board is over or one worker does better alone: the board, and the work that is
+/// left.
+fn crew<'p, J: Named<ScriptCode> + Staff + Send + Sync, R: Threads + Wait + Sync, G: Gate>(
+    order: &Order<'_, 'p, R, G>,
+    pace: Pace,
+    board: Staffed<'p, ScriptCode, J>,
+    queue: Queue<ScriptCode, J>,
+) -> Result<(Staffed<'p, ScriptCode, J>, Queue<ScriptCode, J>), RunFault>
+    requires code { order.now.code.now ≡ J.program }
+    requires all { order.now.workers ≡ J.workers }
+    ensures patient { G.patient ≡ true → result ≢ Err RunFault.Stopped }
+    ensures whole { result ≢ Err RunFault.Mixed }
+{
+    let seats = deal(order.alloc, order.workers)?;
+    let hall = Hall::new(order.alloc, board);
+    if let Some(fault) = together(order, pace, &hall, seats, queue)?.fault() {
+        return Err(fault);
+    }
+    let (board, rest) = hall.into_parts();
+    let mut queue = Queue::new(order.alloc);
+    for work in rest {
+        queue.push(work)?;
+    }
+    Ok((board, queue))
 }

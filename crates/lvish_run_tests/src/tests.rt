@@ -108,6 +108,47 @@ fn runs_end_alike(rt: HostRuntime) -> Result<(), Fail> {
     Ok(())
 }
 
+#[test]
+fn a_crew_comes_and_goes(rt: HostRuntime) -> Result<(), Fail> {
+    let alloc = rt.alloc();
+    assert_eq!(rt;
+        alike(&rt, alloc, scripts::PHASES, 1)?.as_str(),
+        "ended, steps 2821, blocked 0"
+    );
+    Ok(())
+}
+
+/// What the run of a script by this many workers within a budget comes to.
+fn line_within<R: Threads + Wait + Sync>(
+    rt: &R,
+    alloc: Global,
+    script: &Script,
+    workers: usize,
+    budget: u64,
+) -> Result<String, Fail>
+    requires some { 0 < workers }
+    requires few { workers ≤ 8 }
+    requires bounded { budget ≤ MOST_STEPS }
+{
+    let report = run_at_last(rt, alloc, script, workers, budget)?;
+    Ok(line_of(alloc, &report)?)
+}
+
+/// Wherever a budget is used up, before a crew is there, within one, and after it.
+#[test]
+fn a_budget_ends_a_crew(rt: HostRuntime) -> Result<(), Fail> {
+    let alloc = rt.alloc();
+    let script = read_script(alloc, scripts::PHASES.as_bytes())?;
+    for workers in 1..9 {
+        for budget in [1, 127, 128, 129, 200, 400] {
+            let line = line_within(&rt, alloc, &script, workers, budget)?;
+            let start = format!(in alloc; "budget, steps {budget}, ")?;
+            assert!(rt; line.as_str().starts_with(start.as_str()), "{line}");
+        }
+    }
+    Ok(())
+}
+
 /// What the report of an error says.
 fn error_line(alloc: Global, report: &Report<Any, Event>) -> Result<String, AllocError> {
     let (blocked, states) = (report.blocked, report.states.as_slice().len());

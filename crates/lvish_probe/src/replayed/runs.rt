@@ -1,6 +1,6 @@
 //! A script's runs, each of them replayed.
 
-ghost use Rattle.std.specs.Prelude.{◌<◌, ◌≤◌};
+ghost use Rattle.std.specs.Prelude.{◌<◌, ◌≤◌, true};
 
 use crate::host::Host;
 use crate::replayed::comparing::{is_of_workers, is_same_report, part_otherwise};
@@ -10,10 +10,30 @@ use crate::replayed::replay_question::{MOST_REPLAYED, ReplayQuestion};
 use crate::replayed::retracing::retrace;
 use lvish_compound::{Any, Event};
 use lvish_core::Core;
-use lvish_run::{Open, Report, RunFault, TraceEntry, run, run_picks, trace_text};
+use lvish_names::TaskName;
+use lvish_run::{Gate, Open, Report, RunFault, TraceEntry, run, run_picks, trace_text};
 use lvish_syntax::Script;
 use lvish_task::ScriptCode;
 use std::alloc::{AllocError, Global};
+
+/// A gate that holds nobody, and yet has all workers called from the first turn on.
+struct Crowd;
+
+impl Gate for Crowd {
+    ghost use Rattle.std.specs.Prelude.{true};
+
+    ghost patient = { true };
+
+    fn enter(&self, _worker: usize, _task: &TaskName<Event>) {}
+
+    fn idle(&self, _worker: usize) -> bool {
+        true
+    }
+
+    fn holds(&self) -> bool {
+        true
+    }
+}
 
 /// The script of the runs with its code, what is asked of them, and the run by no picks.
 #[derive(Clone, Copy)]
@@ -24,7 +44,7 @@ struct Runs<'s> {
     usual: &'s Report<Any, Event>,
 }
 
-/// Replays the run by no picks, and those by 1, 2, 3 and 8 workers.
+/// Replays the run by no picks, and those by 1, 2, 3 and 8 workers, who are called where that pays, and at once.
 pub fn replay_all<R: Host>(
     rt: &R,
     script: &Script,
@@ -53,12 +73,13 @@ fn run_by_picks(
     run_picks(alloc, script, picks, budget.min(MOST_REPLAYED))
 }
 
-/// The run by so many workers.
-fn run_by<R: Host>(
+/// The run by so many workers at this gate.
+fn run_by<R: Host, G: Gate>(
     rt: &R,
     script: &Script,
     workers: usize,
     budget: u64,
+    gate: &G,
 ) -> Result<Report<Any, Event>, RunFault>
     requires some { 0 < workers }
     requires few { workers ≤ 8 }
@@ -69,30 +90,34 @@ fn run_by<R: Host>(
         script,
         workers,
         budget.min(MOST_REPLAYED),
-        &Open,
+        gate,
     )
 }
 
 impl<'s> Runs<'s> {
     fn by_workers<R: Host>(&self, rt: &R, counts: &mut ReplayCounts) -> Result<(), Otherwise> {
-        self.by(rt, 1, counts)?;
-        self.by(rt, 2, counts)?;
-        self.by(rt, 3, counts)?;
-        self.by(rt, 8, counts)
+        self.by(rt, 1, &Open, counts)?;
+        self.by(rt, 2, &Open, counts)?;
+        self.by(rt, 3, &Open, counts)?;
+        self.by(rt, 8, &Open, counts)?;
+        self.by(rt, 2, &Crowd, counts)?;
+        self.by(rt, 3, &Crowd, counts)?;
+        self.by(rt, 8, &Crowd, counts)
     }
 
-    /// Replays the run by so many workers.
-    fn by<R: Host>(
+    /// Replays the run by so many workers at this gate.
+    fn by<R: Host, G: Gate>(
         &self,
         rt: &R,
         workers: usize,
+        gate: &G,
         counts: &mut ReplayCounts,
     ) -> Result<(), Otherwise>
         requires some { 0 < workers }
         requires few { workers ≤ 8 }
     {
         counts.workers = workers;
-        let report = run_by(rt, self.script, workers, self.asked.budget)?;
+        let report = run_by(rt, self.script, workers, self.asked.budget, gate)?;
         self.look_at(rt.alloc(), &report, workers, counts)
     }
 

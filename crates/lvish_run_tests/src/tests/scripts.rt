@@ -31,3 +31,7 @@ pub const TREE: &str =
 /// A freeze in a handler that waits for its own pool.
 pub const WAITS: &str =
     "set s\npool p s\nproc f k n\nfreeze x s after p\nend\nproc main\nhandle p f\nput s 1\nend\n";
+
+/// Tasks with long loops, then many puts of one task, then both again: a crew pays, and it doesn't, by turns.
+pub const PHASES: &str =
+    "set s\nproc w k\nlet i 1700\nwhile i\nlet i i - 1\nend\nput s k\nend\nproc m from to\nlet c from < to\nwhile c\nfork w from\nlet from from + 1\nlet c from < to\nend\nend\nproc p from to\nlet c from < to\nwhile c\nput s from\nlet from from + 1\nlet c from < to\nend\nend\nproc main\ncall m 0 20\ncall p 20 500\ncall m 500 620\ncall p 620 2000\ncall m 2000 2020\nend\n";

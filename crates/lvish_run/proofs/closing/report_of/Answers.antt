@@ -1,3 +1,5 @@
+use Rattle.std.proofs.Common.{rules, ◌≡◌, Err}
+use Rattle.lvish_run.specs.declared.fault.RunFault.TheVariants.{Mixed}
 use Rattle.lvish_run.proofs.Reports.{by_workers}
 use Rattle.lvish_run.proofs.closing.report_of.Goals as goal
 
@@ -21,3 +23,7 @@ returns-clause-least g c = c.in_ok-told.ensures.told.least
 
 pub returns-clause-closed : goal.returns-clause-closed
 returns-clause-closed g c = c.in_ok-told.ensures.told.closed
+
+pub returns-in_err-outcome-clause-mixed : goal.returns-in_err-outcome-clause-mixed
+returns-in_err-outcome-clause-mixed g c same =
+    let answered : c.looked_at.result ≡ Err Mixed = search rules in c.looked_at.ensures.mixed answered

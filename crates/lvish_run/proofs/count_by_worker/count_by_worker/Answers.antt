@@ -1,5 +1,5 @@
-use Rattle.std.proofs.Common.{rules, ◌≡◌, ap, sum, ◌∙◌, arith}
-use Rattle.lvish_run.proofs.Counted.{counts_of, one_more, all_told}
+use Rattle.std.proofs.Common.{rules, ◌≡◌, ◌<◌, ap, sum, sym, length, ◌∙◌, arith}
+use Rattle.lvish_run.proofs.Counted.{counts_of, one_more, all_told, never_over, none_is_left}
 use Rattle.lvish_run.proofs.count_by_worker.count_by_worker.Goals as goal
 
 pub loop-worker-preserved : goal.loop-worker-preserved
@@ -11,3 +11,13 @@ pub returns-then-total-noted-clause-counts : goal.returns-then-total-noted-claus
 returns-then-total-noted-clause-counts c =
     let all : c.loop-worker.worker ≡ c.args.workers = omega arith in
     all_told c.args.noted.now c.from.result c.args.workers (c.from.ensures ∙ c.loop-worker.invariant.are ∙ ap (counts_of c.args.noted.now) all) (ap sum c.from.ensures ∙ c.loop-worker.invariant.total ∙ c.if-total-noted.true)
+
+pub returns-in_default-clause-mixed : goal.returns-in_default-clause-mixed
+returns-in_default-clause-mixed c _ _ =
+    let most = never_over c.args.noted.now c.loop-worker.by_worker.items c.made_by-steps.result c.loop-worker.worker c.loop-worker.invariant.are c.made_by-steps.ensures in
+    let long : length c.args.noted.now < 18446744073709551616 = search rules in
+    c.in_default.ensures (omega (arith, most, long, c.loop-worker.invariant.total))
+
+pub returns-else-total-noted-clause-mixed : goal.returns-else-total-noted-clause-mixed
+returns-else-total-noted-clause-mixed c _ all =
+    c.if-total-noted.false (sym c.loop-worker.invariant.total ∙ none_is_left c.args.noted.now c.loop-worker.by_worker.items c.loop-worker.worker c.args.workers c.loop-worker.invariant.are c.loop-worker-test.false all c.loop-worker.auto.worker-end)
