@@ -1,7 +1,7 @@
 -- What one run without picks shows of all runs.
-use Rattle.std.proofs.Common.{◌≡◌, ◌<◌, ◌≤◌, ◌↔◌, ◌⊎◌, inl, inr, ℕ, Bool, true, false, List, [], ◌∷◌, ◌++◌, length, Option, Some, None, refl, sym, ap, ◌∙◌, subst, arith, Ordering}
+use Rattle.std.proofs.Common.{◌≡◌, ◌<◌, ◌≤◌, ◌↔◌, ◌⊎◌, inl, inr, ℕ, Bool, List, [], ◌∷◌, ◌++◌, length, Option, Some, None, refl, sym, ap, ◌∙◌, subst, arith, Ordering}
 use Rattle.std.proofs.lemmas.List.{length-map, append-nil}
-use Rattle.std.proofs.lemmas.Bool.{cases_lt, false≢true}
+use Rattle.std.proofs.lemmas.Bool.{cases_lt}
 use Rattle.std.proofs.lemmas.Option.{none-some}
 use Rattle.std.specs.Cmp.{IsTotalOrder}
 use Rattle.lvish_calculus.specs.declared.label.Label.{Label}
@@ -16,7 +16,6 @@ use Rattle.lvish_calculus.proofs.SameThere.{Base, over, flip_runs, reached, neve
 use Rattle.lvish_compound.specs.declared.any.Any.{Any}
 use Rattle.lvish_compound.specs.declared.event.Event.{Event}
 use Rattle.lvish_syntax.specs.declared.script.Script.{Script}
-use Rattle.lvish_task.specs.Freezing.{has_freeze}
 use Rattle.lvish_trace.specs.declared.trace_entry.TraceEntry.{TraceEntry}
 use Rattle.lvish_trace.specs.declared.outcome.Outcome.{Outcome}
 use Rattle.lvish_trace.specs.declared.outcome.Outcome.TheVariants.{Ended, Error as ErrorOutcome, Budget}
@@ -26,7 +25,8 @@ use Rattle.lvish_trace.specs.Traced.{labels_of}
 use Rattle.lvish_run.specs.Picked.{IsPicked}
 use Rattle.lvish_compound.specs.contracts.event.EventOrd.TheImpl.{ghosts as event_order}
 use Rattle.lvish_run.specs.Scripts.{script_machine, IsPickedRun}
-use Rattle.lvish_run.specs.Ends.{EndsAfter, AlwaysEnds, IsBound}
+use Rattle.lvish_run.specs.Ends.{EndsAfter, IsEndWithoutPicks, AlwaysEnds, IsBoundIf}
+use Rattle.lvish_alike.specs.OneEnd.{OneEndShowsAll}
 use Rattle.lvish_run.proofs.Once.{goes_on}
 
 module _ {S E R A L : Type 0} (M : Machine S E R A L) where
@@ -105,6 +105,12 @@ module _ {S E R A L : Type 0} (cmp : E → E → Ordering) (o : IsTotalOrder cmp
 
 -- ---- all runs
 
+-- where one end shows all runs, the end of the run without picks bounds them
+pub shown_by_one : {S E R A L : Type 0} (cmp : E → E → Ordering) (M : Machine S E R A L) → OneEndShowsAll M → (n : ℕ) → EndsAfter cmp M n → AlwaysEnds M n
+shown_by_one cmp M all n h =
+    let z = all h.labels h.last h.reached h.end in
+    record { never_errs = z.0; longest = λ ys b run. subst (λ k. length ys ≤ k) h.steps (z.1 ys b run) }
+
 -- where code asks for no freeze, an end of its script's statements bounds all their runs
 module _ {S E R A L K : Type 0} (same : S → S → Bool) (event_same : E → E → Bool) (cmp : E → E → Ordering) (bottom : S) (join : S → S → Option S) (events : S → List E) (answer : R → S → Option A) (f : Functions S E R A L) (g : Functions S E R A K)
     (H : HaveSameRuns (machine_of same event_same cmp bottom join events answer f) (machine_of same event_same cmp bottom join events answer g))
@@ -132,28 +138,29 @@ module _ {S E R A L K : Type 0} (same : S → S → Bool) (event_same : E → E 
 
 -- ---- what is answered about a script
 
-module _ (script : Script) (budget : ℕ) where
-  unbound : ((n : ℕ) → has_freeze script ≡ false → EndsAfter event_order.cmp (script_machine script) n → n ≤ budget → ⊥) → IsBound script budget None
-  unbound never = record { exact = λ n. (λ e. absurd (none-some n e), λ k. absurd (never n k.0 k.1 k.2)); always = λ n e. absurd (none-some n e) }
+module _ (script : Script) (budget : ℕ) (o : IsTotalOrder event_order.cmp) (r : Report Any Event) (run : IsPickedRun script [] budget r) where
+  -- a script whose run doesn't end, or errs
+  pub without_end : (r.outcome ≡ Ended → ⊥) → IsEndWithoutPicks script budget None
+  without_end unended n = (λ e. absurd (none-some n e), λ k. absurd (never_ended event_order.cmp o (script_machine script) _ budget r run.honest run.picked unended n k.0 k.1))
 
-  -- a script with the line `freeze`
-  pub with_freeze : has_freeze script ≡ true → IsBound script budget None
-  with_freeze has = unbound (λ n none end within. false≢true (sym none ∙ has))
+  -- and one whose run ends
+  pub with_end : r.outcome ≡ Ended → IsEndWithoutPicks script budget (Some r.steps)
+  with_end ended n = (
+    λ e. let same : r.steps ≡ n = cc in exactly.0 same,
+    λ k. ap (λ (m : ℕ). Some m) (exactly.1 k),
+  )
+    where
+      exactly : (r.steps ≡ n) ↔ (EndsAfter event_order.cmp (script_machine script) n × (n ≤ budget))
+      exactly = ended_exactly event_order.cmp o (script_machine script) _ budget r run.honest run.picked ended n
 
-  module _ (o : IsTotalOrder event_order.cmp) (r : Report Any Event) (run : IsPickedRun script [] budget r) where
-    -- a script whose run doesn't end, or errs
-    pub without_end : (r.outcome ≡ Ended → ⊥) → IsBound script budget None
-    without_end unended = unbound (λ n none end within. never_ended event_order.cmp o (script_machine script) _ budget r run.honest run.picked unended n end within)
+module _ (shown : Type 0) (script : Script) (budget : ℕ) where
+  -- a script of which nothing is shown
+  pub not_shown : (shown → ⊥) → IsBoundIf shown script budget None
+  not_shown never = record { exact = λ n. (λ e. absurd (none-some n e), λ k. absurd (never k.0)); always = λ n e. absurd (none-some n e) }
 
-    -- and one whose run ends
-    pub with_end : r.outcome ≡ Ended → has_freeze script ≡ false → ((n : ℕ) → EndsAfter event_order.cmp (script_machine script) n → AlwaysEnds (script_machine script) n) → IsBound script budget (Some r.steps)
-    with_end ended none all = record {
-      exact = λ n. (
-        λ e. let same : r.steps ≡ n = cc in let k = (exactly n).0 same in (none, k.0, k.1),
-        λ k. ap (λ (m : ℕ). Some m) ((exactly n).1 (k.1, k.2)),
-      );
-      always = λ n e. let same : r.steps ≡ n = cc in all n ((exactly n).0 same).0;
-    }
-      where
-        exactly : (n : ℕ) → (r.steps ≡ n) ↔ (EndsAfter event_order.cmp (script_machine script) n × (n ≤ budget))
-        exactly n = ended_exactly event_order.cmp o (script_machine script) _ budget r run.honest run.picked ended n
+  -- and one of which one end shows all runs
+  pub shown_of : shown → (end : Option ℕ) → IsEndWithoutPicks script budget end → ((n : ℕ) → EndsAfter event_order.cmp (script_machine script) n → AlwaysEnds (script_machine script) n) → IsBoundIf shown script budget end
+  shown_of is end exactly all = record {
+    exact = λ n. (λ e. let k = (exactly n).0 e in (is, k.0, k.1), λ k. (exactly n).1 (k.1, k.2));
+    always = λ n e. all n ((exactly n).0 e).0;
+  }

@@ -1,5 +1,5 @@
 -- Two machines with the same runs freeze the same variables in the same order.
-use Rattle.std.proofs.Common.{◌≡◌, ◌&&◌, not, ℕ, Bool, true, false, List, [], ◌∷◌, ◌++◌, Option, Some, None, refl, sym, ap, subst, ◌∙◌, if◌then◌else◌}
+use Rattle.std.proofs.Common.{◌≡◌, ◌&&◌, not, ℕ, Bool, true, false, List, [], ◌∷◌, ◌++◌, Option, Some, None, refl, sym, ap, ◌∙◌, if◌then◌else◌}
 use Rattle.lvish_calculus.specs.declared.label.Label.{Label}
 use Rattle.lvish_calculus.specs.declared.label.Label.TheVariants.{Act, Hand}
 use Rattle.lvish_calculus.specs.declared.request.Request.{Request}
@@ -7,7 +7,7 @@ use Rattle.lvish_calculus.specs.declared.request.Request.TheVariants.{Put, Get, 
 use Rattle.lvish_calculus.specs.declared.request.ErrorKind.{ErrorKind}
 use Rattle.lvish_calculus.specs.Machine.{Machine}
 use Rattle.lvish_calculus.specs.Program.{Functions}
-use Rattle.lvish_calculus.specs.Calculus.{Task, Absent, Live, Ended, Post, State, Configuration, Running, Error, IsRun, Changes, Fails, Nothing, just, put_effect, get_effect, add_effect, hand_effect, request_effect, task_effect, effect, start, step}
+use Rattle.lvish_calculus.specs.Calculus.{Task, Absent, Live, Ended, Post, State, Configuration, Running, Error, IsRun, Changes, Fails, just, put_effect, get_effect, add_effect, hand_effect, request_effect, task_effect, effect, start, step}
 use Rattle.lvish_names.specs.Names.{Name, Handler, is_deep}
 use Rattle.lvish_calculus.specs.FreezeOrder.{froze_by, first_frozen, freezes_from, freeze_order}
 use Rattle.lvish_calculus.specs.SameRuns.{without_child, SameTask, HaveSameRuns}

@@ -24,3 +24,5 @@ mod Least
 mod LeastThere
 mod SameReports
 mod OneScript
+mod InTime
+mod AllAlike

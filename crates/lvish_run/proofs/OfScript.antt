@@ -31,9 +31,10 @@ back B f g H = flip_runs (over B f) (over B g) H
 abbrev final : {S : Type 0} → S → Bool → FinalState S
 final s frozen = record { content = s; frozen = frozen }
 
-module _ {S E R A L K : Type 0} (B : Base S E R A) (f : Functions S E R A L) (g : Functions S E R A K) (H : HaveSameRuns (over B f) (over B g)) where
-  states_there : (variables : ℕ) (c : State S E L) (d : State S E K) (states : List (FinalState S)) → SameState (over B f) (over B g) c d → AreFinalStates variables c states → AreFinalStates variables d states
-  states_there variables c d states s a = record {
+-- the states of a configuration are those of each that looks the same
+module _ {S E R A L K : Type 0} (M : Machine S E R A L) (N : Machine S E R A K) where
+  pub same_states : (variables : ℕ) (c : State S E L) (d : State S E K) (states : List (FinalState S)) → SameState M N c d → AreFinalStates variables c states → AreFinalStates variables d states
+  same_states variables c d states s a = record {
     count = a.count;
     each = λ v small. a.each v small ∙ ap (λ (q : FinalState S). Some q) (alike v (s.content v) (s.frozen v));
   }
@@ -41,10 +42,11 @@ module _ {S E R A L K : Type 0} (B : Base S E R A) (f : Functions S E R A L) (g 
       alike : (v : ℕ) → c.content v ≡ d.content v → c.frozen v ≡ d.frozen v → final (c.content v) (c.frozen v) ≡ final (d.content v) (d.frozen v)
       alike v x y = λ i. final (x i) (y i)
 
+module _ {S E R A L K : Type 0} (B : Base S E R A) (f : Functions S E R A L) (g : Functions S E R A K) (H : HaveSameRuns (over B f) (over B g)) where
   comes_there : (variables : ℕ) (r : Report S E) (h : Comes (over B f) variables r) → (k : Comes (over B g) variables r) × SameState (over B f) (over B g) h.last k.last
   comes_there variables r h =
       let z = reached (over B f) (over B g) H (labels_of r.trace) h.last h.reached in (
-        record { last = z.0; reached = z.1; states = states_there variables h.last z.0 r.states z.2 h.states; blocked = live_count B f g H.pools h.last z.0 z.2 r.blocked h.blocked },
+        record { last = z.0; reached = z.1; states = same_states (over B f) (over B g) variables h.last z.0 r.states z.2 h.states; blocked = live_count B f g H.pools h.last z.0 z.2 r.blocked h.blocked },
         z.2,
       )
 
@@ -127,7 +129,7 @@ module _ {S E R A L K : Type 0} (B : Base S E R A) (f : Functions S E R A L) (g 
       let z = reached (over B g) (over B f) (back B f g H) ys b run in
       let same = flip_state (over B g) (over B f) b z.0 z.2 in
       let k = alike ys z.0 z.1 (end_there B g f (back B f g H).pools b z.0 z.2 end) (from ys z.0 z.1 q) in
-      (states_there B f g H variables z.0 b r.states same k.0, live_count B f g H.pools z.0 b same r.blocked k.1, k.2)
+      (same_states (over B f) (over B g) variables z.0 b r.states same k.0, live_count B f g H.pools z.0 b same r.blocked k.1, k.2)
 
   -- what is asked of two runs of the one and of the other
   abbrev Apart : {X : Type 0} → Machine S E R A X → List (Label E) → List (Label E) → Type 0

@@ -20,7 +20,7 @@ use Rattle.lvish_trace.specs.declared.outcome.Outcome.{Outcome}
 use Rattle.lvish_trace.specs.declared.outcome.Outcome.TheVariants.{Ended, Error as ErrorOutcome, Budget}
 use Rattle.lvish_trace.specs.Traced.{labels_of}
 use Rattle.lvish_run.specs.Alike.{EndsAlikeIf, IsAlike, EndsAlike}
-use Rattle.lvish_run.specs.Ends.{EndsAfter, AlwaysEnds, IsBound}
+use Rattle.lvish_run.specs.Ends.{EndsAfter, AlwaysEnds, IsBoundIf}
 use Rattle.lvish_run.specs.Honest.{AreFinalStates, IsOutcome, IsHonest}
 use Rattle.lvish_run.specs.Scripts.{script_machine}
 use Rattle.lvish_run.specs.SameReports.{TellTheSame}
@@ -35,12 +35,12 @@ module _ (script : Script) where
   variables = length (variables_of script.declarations)
 
   -- what every report of a script says
-  workers_of : (budget : ℕ) (r : Report Any Event) → IsReportOf script budget r → (w : ℕ) × IsHonest (script_machine script) variables w budget r × IsAlike (script_machine script) variables r
+  pub workers_of : (budget : ℕ) (r : Report Any Event) → IsReportOf script budget r → (w : ℕ) × IsHonest (script_machine script) variables w budget r × IsAlike (script_machine script) variables r
   workers_of budget r (inl x) = (x.0, x.1.honest, x.1.alike)
   workers_of budget r (inr x) = (1, x.1.honest, x.1.alike)
 
   -- reports that tell the same have the same text
-  same_text : (r q : Report Any Event) → r.outcome ≡ Ended → q.outcome ≡ Ended → TellTheSame r q → (all : Bool) → text_of script r all ≡ text_of script q all
+  pub same_text : (r q : Report Any Event) → r.outcome ≡ Ended → q.outcome ≡ Ended → TellTheSame r q → (all : Bool) → text_of script r all ≡ text_of script q all
   same_text r q ended as_well t all =
       ap (λ o. outcome_text (λ (e : Event). e.key) (λ (e : Event). e.number) (variables_of script.declarations) r all o) ended
       ∙ (λ i. variable_lines all (variables_of script.declarations) (t.states i) ++ count_lines (t.steps i) (t.blocked i))
@@ -96,7 +96,7 @@ module _ {S E R A L : Type 0} (M : Machine S E R A L) (n : ℕ) (always : Always
           let longer : length (xs ++ l ∷ []) ≤ n = always.longest (xs ++ l ∷ []) b (run_join M xs (l ∷ []) _ (Running a) _ run (enabled, is)) in
           omega (arith, longer, length-append xs (l ∷ []))
 
-module _ (script : Script) (b n : ℕ) (bound : IsBound script b (Some n)) (budget : ℕ) (r : Report Any Event) (is : IsReportOf script budget r) where
+module _ (shown : Type 0) (script : Script) (b n : ℕ) (bound : IsBoundIf shown script b (Some n)) (budget : ℕ) (r : Report Any Event) (is : IsReportOf script budget r) where
   abbrev many : ℕ
   many = length (variables_of script.declarations)
 

@@ -89,7 +89,7 @@ end_of M variables workers budget r honest ended = subst (λ o. IsOutcome M vari
 
 module _ {S E R A L : Type 0} (M : Machine S E R A L) (variables v b w c : ℕ) (r q : Report S E) (one : IsHonest M variables v b r) (other : IsHonest M variables w c q) (ended : r.outcome ≡ Ended) (as_well : q.outcome ≡ Ended) where
   -- reports of one end, after as many steps
-  of_one_end : (a : State S E L) → AreFinalStates variables a r.states → HasLive a r.blocked → AreFinalStates variables a q.states → HasLive a q.blocked → r.steps ≡ q.steps → TellTheSame r q
+  pub of_one_end : (a : State S E L) → AreFinalStates variables a r.states → HasLive a r.blocked → AreFinalStates variables a q.states → HasLive a q.blocked → r.steps ≡ q.steps → TellTheSame r q
   of_one_end a s h t k same = record {
     outcome = ended ∙ sym as_well;
     states = one_states variables a r.states q.states s t;

@@ -1,7 +1,12 @@
-ghost use Rattle.std.specs.Prelude.{◌≤◌, IfOk};
+ghost use Rattle.std.specs.Prelude.{◌≡◌, ◌≤◌, ◌↔◌, ◌⊎◌, IfOk, false, true};
+ghost use Rattle.lvish_alike.specs.Layered.{IsLayered};
+ghost use Rattle.lvish_run.specs.Ends.{IsEndWithoutPicks};
+ghost use Rattle.lvish_task.specs.Freezing.{code_freezes};
 
 use crate::limits::MOST_STEPS;
 use crate::scripts::{RunMeaning, run_picks};
+use lvish_alike::is_layered;
+use lvish_alike::laws::layers_end_alike;
 use lvish_board::Outcome;
 use lvish_calculus::laws::no_late_error;
 use lvish_syntax::Script;
@@ -29,6 +34,46 @@ pub fn always_ends(alloc: Global, script: &Script, budget: u64) -> Result<Option
     if code.freezes() {
         return Ok(None);
     }
+    end_without_picks(alloc, script, budget)
+}
+
+/// The same, also of scripts whose `main` freezes each variable after all that write to it.
+///
+/// # Errors
+///
+/// `AllocError` where a growth was refused.
+pub fn always_alike(alloc: Global, script: &Script, budget: u64) -> Result<Option<u64>, AllocError>
+    requires { budget ≤ MOST_STEPS }
+    ensures { IfOk result (λ bound. ⟦<Script as RunMeaning>⟧.is_alike_bound script.now budget bound) }
+{
+    same_runs();
+    asks_no_freeze();
+    no_late_error::<ScriptCode>();
+    layers_end_alike();
+    let code = ScriptCode::new(alloc, script)?;
+    let in_time = freezes_in_time(alloc, &code)?;
+    if !in_time {
+        return Ok(None);
+    }
+    end_without_picks(alloc, script, budget)
+}
+
+/// Whether the code asks for no freeze, or `main` freezes each variable after all that write to it.
+fn freezes_in_time(alloc: Global, code: &ScriptCode) -> Result<bool, AllocError>
+    ensures { IfOk result (λ in_time. (in_time ≡ true) ↔ ((code_freezes code.now.flat ≡ false) ⊎ IsLayered code.now.flat)) }
+{
+    if !code.freezes() {
+        return Ok(true);
+    }
+    is_layered(alloc, &code.flat)
+}
+
+/// After how many steps the run of the script that takes the first enabled label at each step ends,
+/// where it does so without an error and within the budget.
+fn end_without_picks(alloc: Global, script: &Script, budget: u64) -> Result<Option<u64>, AllocError>
+    requires { budget ≤ MOST_STEPS }
+    ensures { IfOk result (λ end. IsEndWithoutPicks script.now budget end) }
+{
     let report = run_picks(alloc, script, &[], budget)?;
     match report.outcome {
         Outcome::Ended => Ok(Some(report.steps)),

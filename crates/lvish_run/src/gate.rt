@@ -1,15 +1,15 @@
-use lvish_compound::Event;
+use lvish_lattice::Plain;
 use lvish_names::TaskName;
 
 /// What a worker passes before each stretch of a task and, in a crew, on each idle turn, with no lock held.
-pub trait Gate: Sync {
+pub trait Gate {
     ghost use Rattle.std.specs.Prelude.{◌≡◌, Bool, true};
 
     /// Whether `idle` always answers true.
     ghost patient: { Bool };
 
     /// Called by the worker before it runs local statements of the task.
-    fn enter(&self, worker: usize, task: &TaskName<Event>);
+    fn enter<E: Plain>(&self, worker: usize, task: &TaskName<E>);
 
     /// Called by a worker of a crew when it has found no work. `false` stops the run.
     fn idle(&self, worker: usize) -> bool
@@ -31,7 +31,7 @@ impl Gate for Open {
 
     ghost patient = { true };
 
-    fn enter(&self, _worker: usize, _task: &TaskName<Event>) {}
+    fn enter<E: Plain>(&self, _worker: usize, _task: &TaskName<E>) {}
 
     fn idle(&self, _worker: usize) -> bool {
         true

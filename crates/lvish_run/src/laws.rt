@@ -1,6 +1,7 @@
 //! What reports of one script have in common, as contracts of functions with no code.
 
-ghost use Rattle.std.specs.Prelude.{◌≡◌, ◌<◌, ◌≤◌, ℕ, None, Some};
+ghost use Rattle.std.specs.Prelude.{◌≡◌, ◌<◌, ◌≤◌, ℕ, None, Some, true};
+ghost use Rattle.lvish_alike.specs.Alike.{ShowsAlike};
 ghost use Rattle.lvish_compound.specs.declared.any.Any.{Any};
 ghost use Rattle.lvish_compound.specs.declared.event.Event.{Event};
 ghost use Rattle.lvish_names.specs.Names.{Name};
@@ -10,7 +11,7 @@ ghost use Rattle.lvish_syntax.specs.declared.script.Script.{Script};
 ghost use Rattle.lvish_report.specs.declared.report.Report.{Report};
 ghost use Rattle.lvish_trace.specs.Traced.{labels_of};
 ghost use Rattle.lvish_trace.specs.declared.outcome.Outcome.TheVariants.{Budget, Ended};
-ghost use Rattle.lvish_run.specs.Ends.{IsBound};
+ghost use Rattle.lvish_run.specs.Ends.{IsAnyBound};
 ghost use Rattle.lvish_run.specs.Honest.{IsHonest};
 ghost use Rattle.lvish_run.specs.Least.{IsLeast, IsClosedEnd, IsLeastModel, content_in, frozen_in, two_states};
 ghost use Rattle.lvish_run.specs.OneScript.{IsReportOf, ReportsAgreeIf, IsEndAfter};
@@ -30,6 +31,8 @@ pub fn reports_agree()
     ensures one_asks { ReportsAgreeIf (λ s r q. (t : Name Event) × FreezesAllBy (script_machine s) t (Running (start (script_machine s))) (labels_of r.trace) × FreezesAllBy (script_machine s) t (Running (start (script_machine s))) (labels_of q.trace)) }
     // No run of the script is in error.
     ensures no_error { ReportsAgreeIf (λ s r q. NeverErrs (script_machine s)) }
+    // All ends of the script are alike, as `lvish_alike::ends_alike` says.
+    ensures all_alike { ReportsAgreeIf (λ s r q. ShowsAlike s true) }
 {}
 
 /// Two honest reports of ends of one program tell the same, where they list the same freezes in the
@@ -76,12 +79,13 @@ pub fn states_are_contents()
     ensures frozen { (frozen_in two_states 0 ≡ Some 3) × (frozen_in two_states 1 ≡ None) × (frozen_in two_states 2 ≡ None) }
 {}
 
-/// Where [`always_ends`](crate::always_ends) says `Some(n)`, each report of a run of the script, by any
-/// number of workers or by any picks, is of an end after n steps, where its budget allows so many.
+/// Where [`always_ends`](crate::always_ends) or [`always_alike`](crate::always_alike) says `Some(n)`,
+/// each report of a run of the script, by any number of workers or by any picks, is of an end after n
+/// steps, where its budget allows so many.
 pub fn bound_decides()
     // With a budget of n or more it is of an end after n steps, with the states and the blocked tasks
     // of the run without picks.
-    ensures enough { (s : Script) (b n c : ℕ) (r : Report Any Event) → IsBound s b (Some n) → IsReportOf s c r → n ≤ c → IsEndAfter s n r }
+    ensures enough { (s : Script) (b n c : ℕ) (r : Report Any Event) → IsAnyBound s b (Some n) → IsReportOf s c r → n ≤ c → IsEndAfter s n r }
     // With less it is of a run that was stopped there.
-    ensures too_few { (s : Script) (b n c : ℕ) (r : Report Any Event) → IsBound s b (Some n) → IsReportOf s c r → c < n → (r.outcome ≡ Budget) × (r.steps ≡ c) }
+    ensures too_few { (s : Script) (b n c : ℕ) (r : Report Any Event) → IsAnyBound s b (Some n) → IsReportOf s c r → c < n → (r.outcome ≡ Budget) × (r.steps ≡ c) }
 {}

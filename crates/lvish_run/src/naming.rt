@@ -1,29 +1,27 @@
+//! Names for boards and their work, in types. Each run picks its own.
+
+use crate::runnable::Runnable;
 use lvish_board::Named;
 use lvish_history::Origin;
-use lvish_task::ScriptCode;
 use std::marker::{Brand, PhantomData};
 
-/// Which code is run, in how many steps at most and by how many workers, and where its tickets have their
-/// stamps from. A call picks them.
-pub trait Naming: Origin {
-    ghost use Rattle.std.specs.Prelude.{ℕ};
-    ghost use Rattle.lvish_task.specs.declared.script_code.ScriptCode.{ScriptCode};
+/// Which program is run, in how many steps at most, and where its tickets have their stamps from. A call picks them.
+///
+/// It may be no program, so that one impl serves the programs of all types.
+pub trait Naming<P>: Origin {
+    ghost use Rattle.std.specs.Prelude.{ℕ, Option};
 
-    ghost code: { ScriptCode };
+    ghost program: { Option P };
 
     ghost budget: { ℕ };
-
-    ghost workers: { ℕ };
 }
 
-impl Naming for Brand {
-    ghost use Rattle.lvish_task.specs.NoCode.{no_code};
+impl<P> Naming<P> for Brand {
+    ghost use Rattle.std.specs.Prelude.{None};
 
-    ghost code = { no_code };
+    ghost program = { None };
 
     ghost budget = { 0 };
-
-    ghost workers = { 0 };
 }
 
 /// How many workers work at a board: a name for it, in the type that names the board.
@@ -33,22 +31,28 @@ pub trait Staff {
     ghost workers: { ℕ };
 }
 
+impl Staff for Brand {
+    ghost workers = { 0 };
+}
+
 /// What a board and its work are named by.
 #[derive(Drop)]
-pub struct Of<N: Naming> {
+pub struct Of<N> {
     of: PhantomData<N>,
 }
 
-impl<N: Naming> Origin for Of<N> {
+impl<N: Origin> Origin for Of<N> {
     ghost book = { N.book };
 }
 
-impl<N: Naming> Named<ScriptCode> for Of<N> {
-    ghost program = { N.code };
+impl<P: Runnable, N: Naming<P>> Named<P> for Of<N> {
+    ghost use Rattle.std.specs.Option.{unwrap_or};
+
+    ghost program = { unwrap_or N.program P.blank };
 
     ghost budget = { N.budget };
 }
 
-impl<N: Naming> Staff for Of<N> {
+impl<N: Staff> Staff for Of<N> {
     ghost workers = { N.workers };
 }

@@ -3,15 +3,14 @@ ghost use Rattle.lvish_run.specs.declared.limits.TheConstants.{MOST_WORKERS};
 
 use crate::gate::Gate;
 use crate::limits::MOST_WORKERS;
-use lvish_task::ScriptCode;
 use std::alloc::Global;
 
-/// What stays as it is during a run: the code that is run, the gate of its workers, and how many they are.
+/// What stays as it is during a run: the program that is run, the gate of its workers, and how many they are.
 #[derive(Drop)]
-pub struct Order<'r, 'p, R, G: Gate> {
+pub struct Order<'r, 'p, P, R, G: Gate> {
     pub rt: &'r R,
     pub alloc: Global,
-    pub code: &'p ScriptCode,
+    pub program: &'p P,
     pub gate: &'r G,
     pub workers: usize,
     ghost some: { 0 < workers },

@@ -9,30 +9,31 @@ ghost use Rattle.lvish_run.specs.Crew.{MayLeave};
 
 use crate::gate::Gate;
 use crate::naming::Staff;
-use crate::pace::{Pace, statements_of};
+use crate::pace::Pace;
 use crate::queue::Queue;
 use crate::rank::Rank;
+use crate::runnable::Runnable;
 use crate::staffed::Staffed;
 use crate::why::Why;
 use crate::worker::Worker;
 use lvish_board::{Asked, Named, Ticket, Work};
-use lvish_compound::Event;
+use lvish_calculus::Program;
+use lvish_lattice::Lattice;
 use lvish_names::HandlerName;
-use lvish_task::ScriptCode;
 use std::alloc::AllocError;
 use std::sync::Wait;
 
 /// The place of a lone worker: the board is its own.
 #[derive(Drop)]
-pub struct OwnSite<'p, 'g, J: Named<ScriptCode> + Staff, G: Gate> {
-    pub board: Staffed<'p, ScriptCode, J>,
+pub struct OwnSite<'p, 'g, P: Program, J: Named<P> + Staff, G: Gate> {
+    pub board: Staffed<'p, P, J>,
     pub gate: &'g G,
     pub pace: Pace,
     pub rank: Rank<J>,
-    pub worker: Worker<'p, ScriptCode, J>,
+    pub worker: Worker<'p, P, J>,
 }
 
-impl<'p, 'g, J: Named<ScriptCode> + Staff, G: Gate> OwnSite<'p, 'g, J, G> {
+impl<'p, 'g, P: Runnable, J: Named<P> + Staff, G: Gate> OwnSite<'p, 'g, P, J, G> {
     /// Works turn after turn, until one says why the worker leaves.
     pub fn work<R: Wait>(&mut self, rt: &R) -> Why
         ensures { MayLeave true result }
@@ -73,7 +74,7 @@ impl<'p, 'g, J: Named<ScriptCode> + Staff, G: Gate> OwnSite<'p, 'g, J, G> {
 
     /// Runs a task's local statements, and takes what it then asks for to the board.
     #[inline(always)]
-    fn run_on(&mut self, ticket: Ticket<ScriptCode, J>) -> Option<Why>
+    fn run_on(&mut self, ticket: Ticket<P, J>) -> Option<Why>
         ensures { IfSome result (MayLeave true) }
     {
         self.gate.enter(self.rank.number(), ticket.task());
@@ -84,7 +85,7 @@ impl<'p, 'g, J: Named<ScriptCode> + Staff, G: Gate> OwnSite<'p, 'g, J, G> {
     }
 
     /// Takes what a woken task asks for to the board once more.
-    fn act_again(&mut self, mut asked: Asked<ScriptCode, J>) -> Option<Why>
+    fn act_again(&mut self, mut asked: Asked<P, J>) -> Option<Why>
         ensures { IfSome result (MayLeave true) }
     {
         match self.worker.prepare(&mut asked) {
@@ -95,10 +96,10 @@ impl<'p, 'g, J: Named<ScriptCode> + Staff, G: Gate> OwnSite<'p, 'g, J, G> {
 
     /// Takes what a task asks for to the board.
     #[inline(always)]
-    fn act(&mut self, asked: Asked<ScriptCode, J>) -> Option<Why>
+    fn act(&mut self, asked: Asked<P, J>) -> Option<Why>
         ensures { IfSome result (MayLeave true) }
     {
-        self.pace.count(statements_of(&asked));
+        self.pace.count(self.worker.statements(&asked));
         let mut place = Some(asked);
         let worker = &mut self.worker;
         let came = self
@@ -110,7 +111,7 @@ impl<'p, 'g, J: Named<ScriptCode> + Staff, G: Gate> OwnSite<'p, 'g, J, G> {
 
     /// Takes a handler to the board.
     #[inline(always)]
-    fn hand(&mut self, handler: HandlerName<Event>) -> Option<Why>
+    fn hand(&mut self, handler: HandlerName<<P::Lat as Lattice>::Event>) -> Option<Why>
         ensures { IfSome result (MayLeave true) }
     {
         let worker = &mut self.worker;
@@ -125,9 +126,7 @@ impl<'p, 'g, J: Named<ScriptCode> + Staff, G: Gate> OwnSite<'p, 'g, J, G> {
     /// # Errors
     ///
     /// Where there is no room for it.
-    pub fn into_parts(
-        self,
-    ) -> Result<(Staffed<'p, ScriptCode, J>, Queue<ScriptCode, J>), AllocError> {
+    pub fn into_parts(self) -> Result<(Staffed<'p, P, J>, Queue<P, J>), AllocError> {
         let OwnSite {
             board,
             gate: _,

@@ -4,9 +4,6 @@
 //! workers pay where tasks run many statements between their steps. What a change costs is bounded by
 //! a share of the work before it, since each change makes the next dearer.
 
-use lvish_board::{Asked, Named};
-use lvish_task::ScriptCode;
-
 /// How many local statements a step comes with on average, from which on a crew pays.
 pub const GRAIN: u64 = 500;
 
@@ -66,14 +63,5 @@ impl Pace {
         self.steps = 0;
         self.statements = 0;
         Some(pays)
-    }
-}
-
-/// How many local statements a task has run before what it asks for, where that is known.
-#[inline(always)]
-pub fn statements_of<J: Named<ScriptCode>>(asked: &Asked<ScriptCode, J>) -> usize {
-    match asked.at() {
-        Some(at) => at.statements(),
-        None => 0,
     }
 }

@@ -1,6 +1,7 @@
 //! Runs on one thread, step by step as picks say.
 
 ghost use Rattle.std.specs.Prelude.{◌≡◌, ◌≤◌, ◌%◌, IfOk, MatchOption, length, [], slice_get, true, None, Some};
+ghost use Rattle.std.specs.Option.{unwrap_or};
 ghost use Rattle.lvish_calculus.specs.Calculus.{Running, start};
 ghost use Rattle.lvish_calculus.specs.Handing.{IsWellHanded};
 ghost use Rattle.lvish_trace.specs.Traced.{labels_of};
@@ -16,8 +17,10 @@ use crate::account::outcome_of;
 use crate::agenda::Agenda;
 use crate::closing::told;
 use crate::limits::MOST_STEPS;
+use crate::naming::{Naming, Of};
 use crate::opening::open_one;
 use crate::picks::pick_at;
+use crate::runnable::Runnable;
 use crate::turn::{act, hand, is_sound};
 use lvish_board::{Board, Named, Place};
 use lvish_calculus::laws::lawful;
@@ -28,6 +31,7 @@ use lvish_lattice::Lattice;
 use lvish_names::HandlerName;
 use lvish_report::{Counts, Report};
 use std::alloc::{AllocError, Global};
+use std::marker::Brand;
 
 /// The label whose number is the pick modulo their count, `None` where there are no labels.
 fn choose<E: Drop>(mut labels: Vec<Label<E>>, pick: u64) -> Option<Label<E>>
@@ -247,30 +251,48 @@ fn walked<'p, P: Program, J: Named<P>>(
 /// # Errors
 ///
 /// `AllocError` where a growth was refused.
-pub fn run_program<P: Program, J: Named<P>>(
+pub fn run_program_picks<P: Runnable>(
+    alloc: Global,
+    program: &P,
+    picks: &[u64],
+    budget: u64,
+) -> Result<Report<P::Lat, <P::Lat as Lattice>::Event>, AllocError>
+    requires { budget ≤ MOST_STEPS }
+    ensures honest { IfOk result (λ r. IsHonest (⟦<P as Meaning>⟧.machine program.now) (P.functions program.now).variables 1 budget r) }
+    ensures picked { IfOk result (λ r. IsPicked P.Lat.Event.cmp (⟦<P as Meaning>⟧.machine program.now) picks.now [] (Running (start (⟦<P as Meaning>⟧.machine program.now))) (labels_of r.trace)) }
+    // What handlers are handed in it.
+    ensures handed { IfOk result (λ r. IsWellHanded (⟦<P as Meaning>⟧.machine program.now) (labels_of r.trace)) }
+    // What it says of all other runs that end without an error.
+    ensures alike { IfOk result (λ r. IsAlike (⟦<P as Meaning>⟧.machine program.now) (P.functions program.now).variables r) }
+    // Its contents are at or below those of each model with what its run froze.
+    ensures least { IfOk result (λ r. IsLeast (⟦<P as Meaning>⟧.machine program.now) r) }
+    // At an end that no task leaves at a freeze of a frozen variable they are closed.
+    ensures closed { IfOk result (λ r. IsClosedEnd (⟦<P as Meaning>⟧.machine program.now) r) }
+{
+    run_named::<P, Brand>(alloc, program, picks, budget, Opened::new())
+}
+
+/// Runs the program that the name is for.
+fn run_named<P: Runnable, N: Naming<P>>(
     alloc: Global,
     program: &P,
     picks: &[u64],
     budget: u64,
     history: Opened<Place<P>>,
 ) -> Result<Report<P::Lat, <P::Lat as Lattice>::Event>, AllocError>
-    requires program { program.now ≡ J.program }
-    requires budget { budget ≡ J.budget }
+    requires program { program.now ≡ unwrap_or N.program P.blank }
+    requires budget { budget ≡ N.budget }
     requires small { budget ≤ MOST_STEPS }
-    requires history { history.seen.book ≡ J.book }
-    ensures honest { IfOk result (λ r. IsHonest (⟦<P as Meaning>⟧.machine J.program) (P.functions J.program).variables 1 J.budget r) }
-    ensures picked { IfOk result (λ r. IsPicked P.Lat.Event.cmp (⟦<P as Meaning>⟧.machine J.program) picks.now [] (Running (start (⟦<P as Meaning>⟧.machine J.program))) (labels_of r.trace)) }
-    // What handlers are handed in it.
-    ensures handed { IfOk result (λ r. IsWellHanded (⟦<P as Meaning>⟧.machine J.program) (labels_of r.trace)) }
-    // What it says of all other runs that end without an error.
-    ensures alike { IfOk result (λ r. IsAlike (⟦<P as Meaning>⟧.machine J.program) (P.functions J.program).variables r) }
-    // Its contents are at or below those of each model with what its run froze.
-    ensures least { IfOk result (λ r. IsLeast (⟦<P as Meaning>⟧.machine J.program) r) }
-    // At an end that no task leaves at a freeze of a frozen variable they are closed.
-    ensures closed { IfOk result (λ r. IsClosedEnd (⟦<P as Meaning>⟧.machine J.program) r) }
+    requires history { history.seen.book ≡ N.book }
+    ensures honest { IfOk result (λ r. IsHonest (⟦<P as Meaning>⟧.machine (unwrap_or N.program P.blank)) (P.functions (unwrap_or N.program P.blank)).variables 1 N.budget r) }
+    ensures picked { IfOk result (λ r. IsPicked P.Lat.Event.cmp (⟦<P as Meaning>⟧.machine (unwrap_or N.program P.blank)) picks.now [] (Running (start (⟦<P as Meaning>⟧.machine (unwrap_or N.program P.blank)))) (labels_of r.trace)) }
+    ensures handed { IfOk result (λ r. IsWellHanded (⟦<P as Meaning>⟧.machine (unwrap_or N.program P.blank)) (labels_of r.trace)) }
+    ensures alike { IfOk result (λ r. IsAlike (⟦<P as Meaning>⟧.machine (unwrap_or N.program P.blank)) (P.functions (unwrap_or N.program P.blank)).variables r) }
+    ensures least { IfOk result (λ r. IsLeast (⟦<P as Meaning>⟧.machine (unwrap_or N.program P.blank)) r) }
+    ensures closed { IfOk result (λ r. IsClosedEnd (⟦<P as Meaning>⟧.machine (unwrap_or N.program P.blank)) r) }
 {
     takes_something::<P>();
-    let board = walked::<P, J>(alloc, program, picks, budget, history)?;
+    let board = walked::<P, Of<N>>(alloc, program, picks, budget, history)?;
     let core = board.core();
     let outcome = outcome_of(alloc, core)?;
     let steps = core.steps();

@@ -1,22 +1,13 @@
-ghost use Rattle.std.specs.Prelude.{◌≡◌, ◌≤◌, [], IfOk};
-ghost use Rattle.lvish_calculus.specs.Calculus.{Running, start};
-ghost use Rattle.lvish_run.specs.Alike.{IsTold};
-ghost use Rattle.lvish_trace.specs.Traced.{labels_of};
-ghost use Rattle.lvish_run.specs.Picked.{IsPicked};
+ghost use Rattle.std.specs.Prelude.{◌≤◌, IfOk};
 
 use crate::limits::MOST_STEPS;
-use crate::naming::{Naming, Of};
-use crate::runner::run_program;
-use lvish_board::Place;
-use lvish_calculus::{Meaning, Program};
+use crate::runner::run_program_picks;
 use lvish_compound::{Any, Event};
-use lvish_history::Opened;
 use lvish_report::Report;
 use lvish_syntax::Script;
 use lvish_task::ScriptCode;
 use lvish_task::laws::{same_models, same_runs};
 use std::alloc::{AllocError, Global};
-use std::marker::Brand;
 
 /// What contracts say of a script's runs.
 pub trait RunMeaning {
@@ -37,10 +28,13 @@ pub trait RunMeaning {
     /// After how many steps every run of the script has ended, without an error, as far as the run
     /// without picks shows it within the budget.
     ghost is_bound: { Self → ℕ → Option ℕ → Type 0 };
+
+    /// The same, also of scripts whose `main` freezes each variable after all that write to it.
+    ghost is_alike_bound: { Self → ℕ → Option ℕ → Type 0 };
 }
 
 impl RunMeaning for Script {
-    ghost use Rattle.lvish_run.specs.Ends.{IsBound};
+    ghost use Rattle.lvish_run.specs.Ends.{IsBound, IsAlikeBound};
     ghost use Rattle.lvish_run.specs.Scripts.{IsRunBy, IsPickedRun};
 
     ghost is_run = { λ script workers budget r. IsRunBy script workers budget r };
@@ -48,6 +42,8 @@ impl RunMeaning for Script {
     ghost is_picked_run = { λ script picks budget r. IsPickedRun script picks budget r };
 
     ghost is_bound = { λ script budget bound. IsBound script budget bound };
+
+    ghost is_alike_bound = { λ script budget bound. IsAlikeBound script budget bound };
 }
 
 /// Runs the script on one thread: at each step the enabled label whose number is the next pick
@@ -68,23 +64,5 @@ pub fn run_picks(
     same_runs();
     same_models();
     let code = ScriptCode::new(alloc, script)?;
-    run_named::<Brand>(alloc, &code, picks, budget, Opened::new())
-}
-
-/// Runs the code that the name is for.
-fn run_named<N: Naming>(
-    alloc: Global,
-    code: &ScriptCode,
-    picks: &[u64],
-    budget: u64,
-    history: Opened<Place<ScriptCode>>,
-) -> Result<Report<Any, Event>, AllocError>
-    requires bounded { budget ≤ MOST_STEPS }
-    requires code { code.now ≡ N.code }
-    requires budget { budget ≡ N.budget }
-    requires history { history.seen.book ≡ N.book }
-    ensures told { IfOk result (λ r. IsTold (⟦<ScriptCode as Meaning>⟧.machine N.code) (⟦<ScriptCode as Program>⟧.functions N.code).variables 1 N.budget r) }
-    ensures picked { IfOk result (λ r. IsPicked ⟦<Event as Ord>⟧.cmp (⟦<ScriptCode as Meaning>⟧.machine N.code) picks.now [] (Running (start (⟦<ScriptCode as Meaning>⟧.machine N.code))) (labels_of r.trace)) }
-{
-    run_program::<ScriptCode, Of<N>>(alloc, code, picks, budget, history)
+    run_program_picks(alloc, &code, picks, budget)
 }

@@ -10,36 +10,44 @@ ghost use Rattle.lvish_run.specs.Crew.{MayLeave};
 use crate::gate::Gate;
 use crate::hall::Hall;
 use crate::naming::Staff;
-use crate::pace::{Pace, statements_of};
+use crate::pace::Pace;
 use crate::queue::Queue;
 use crate::rank::Rank;
+use crate::runnable::Runnable;
 use crate::seek::find;
 use crate::why::Why;
 use crate::worker::Worker;
 use lvish_board::{Asked, Named, Ticket, Work};
 use lvish_calculus::Program;
-use lvish_compound::Event;
 use lvish_deal::Seat;
+use lvish_lattice::Lattice;
 use lvish_names::HandlerName;
-use lvish_task::ScriptCode;
 use std::alloc::AllocError;
 use std::sync::Wait;
 
 /// The place of one worker of a crew.
 #[derive(Drop)]
-pub struct SharedSite<'r, 'h, 'p, J: Named<ScriptCode> + Staff, R: Wait, G: Gate> {
+pub struct SharedSite<'r, 'h, 'p, P: Program, J: Named<P> + Staff, R: Wait, G: Gate> {
     pub rt: &'r R,
-    pub hall: &'h Hall<'p, J>,
+    pub hall: &'h Hall<'p, P, J>,
     pub gate: &'r G,
-    pub seat: Seat<Work<ScriptCode, J>>,
+    pub seat: Seat<Work<P, J>>,
     pub pace: Pace,
     // what it found when it was about to sleep
-    pub found: Option<Work<ScriptCode, J>>,
+    pub found: Option<Work<P, J>>,
     pub rank: Rank<J>,
-    pub worker: Worker<'p, ScriptCode, J>,
+    pub worker: Worker<'p, P, J>,
 }
 
-impl<'r, 'h, 'p, J: Named<ScriptCode> + Staff, R: Wait, G: Gate> SharedSite<'r, 'h, 'p, J, R, G> {
+impl<'r, 'h, 'p, P: Runnable, J: Named<P> + Staff, R: Wait, G: Gate> SharedSite<
+    'r,
+    'h,
+    'p,
+    P,
+    J,
+    R,
+    G,
+> {
     /// Works turn after turn, until one says why the worker leaves.
     pub fn work(&mut self) -> Why
         ensures { MayLeave G.patient result }
@@ -82,7 +90,7 @@ impl<'r, 'h, 'p, J: Named<ScriptCode> + Staff, R: Wait, G: Gate> SharedSite<'r, 
 
     /// Takes up its own work, else what it found or finds on the deques.
     #[inline(always)]
-    fn take_up(&mut self) -> Option<Work<ScriptCode, J>> {
+    fn take_up(&mut self) -> Option<Work<P, J>> {
         match self.worker.take_up() {
             Some(work) => Some(work),
             None => self.take_found(),
@@ -90,7 +98,7 @@ impl<'r, 'h, 'p, J: Named<ScriptCode> + Staff, R: Wait, G: Gate> SharedSite<'r, 
     }
 
     /// Takes up what it found when it was about to sleep, else what it finds on the deques.
-    fn take_found(&mut self) -> Option<Work<ScriptCode, J>> {
+    fn take_found(&mut self) -> Option<Work<P, J>> {
         match self.found.take() {
             Some(work) => Some(work),
             None => find(&mut self.seat),
@@ -110,7 +118,7 @@ impl<'r, 'h, 'p, J: Named<ScriptCode> + Staff, R: Wait, G: Gate> SharedSite<'r, 
 
     /// Runs a task's local statements, and takes what it then asks for to the board.
     #[inline(always)]
-    fn run_on(&mut self, ticket: Ticket<ScriptCode, J>) -> Option<Why>
+    fn run_on(&mut self, ticket: Ticket<P, J>) -> Option<Why>
         ensures { IfSome result (MayLeave true) }
     {
         if self.share_as_asked().is_err() {
@@ -174,7 +182,7 @@ impl<'r, 'h, 'p, J: Named<ScriptCode> + Staff, R: Wait, G: Gate> SharedSite<'r, 
     }
 
     /// Takes what a woken task asks for to the board once more.
-    fn act_again(&mut self, mut asked: Asked<ScriptCode, J>) -> Option<Why>
+    fn act_again(&mut self, mut asked: Asked<P, J>) -> Option<Why>
         ensures { IfSome result (MayLeave true) }
     {
         match self.worker.prepare(&mut asked) {
@@ -185,10 +193,10 @@ impl<'r, 'h, 'p, J: Named<ScriptCode> + Staff, R: Wait, G: Gate> SharedSite<'r, 
 
     /// Takes what a task asks for to the board.
     #[inline(always)]
-    fn act(&mut self, asked: Asked<ScriptCode, J>) -> Option<Why>
+    fn act(&mut self, asked: Asked<P, J>) -> Option<Why>
         ensures { IfSome result (MayLeave true) }
     {
-        self.pace.count(statements_of(&asked));
+        self.pace.count(self.worker.statements(&asked));
         let mut place = Some(asked);
         let worker = &mut self.worker;
         let mut board = self.hall.take(self.rt);
@@ -201,7 +209,7 @@ impl<'r, 'h, 'p, J: Named<ScriptCode> + Staff, R: Wait, G: Gate> SharedSite<'r, 
 
     /// Takes a handler to the board.
     #[inline(always)]
-    fn hand(&mut self, handler: HandlerName<Event>) -> Option<Why>
+    fn hand(&mut self, handler: HandlerName<<P::Lat as Lattice>::Event>) -> Option<Why>
         ensures { IfSome result (MayLeave true) }
     {
         let worker = &mut self.worker;

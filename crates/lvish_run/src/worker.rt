@@ -7,6 +7,7 @@ ghost use Rattle.std.specs.Prelude.{◌≡◌, IfSome, true};
 ghost use Rattle.lvish_run.specs.Crew.{MayLeave};
 
 use crate::queue::{Queue, leaves_more};
+use crate::runnable::Runnable;
 use crate::why::Why;
 use lvish_board::{Asked, Came, Named, Step, Ticket, Work, Works, stretch_with};
 use lvish_calculus::Program;
@@ -33,7 +34,7 @@ impl<'p, P: Program, J: Named<P>> Drop for Worker<'p, P, J> {
     }
 }
 
-impl<'p, P: Program, J: Named<P>> Worker<'p, P, J> {
+impl<'p, P: Runnable, J: Named<P>> Worker<'p, P, J> {
     /// A worker with the work that waits for it.
     pub fn new(alloc: Global, program: &'p P, queue: Queue<P, J>) -> Worker<'p, P, J>
         requires { program.now ≡ J.program }
@@ -75,6 +76,15 @@ impl<'p, P: Program, J: Named<P>> Worker<'p, P, J> {
     /// Where there is no room for it.
     pub fn prepare(&mut self, asked: &mut Asked<P, J>) -> Result<(), AllocError> {
         asked.prepare(self.alloc, self.program, self.works.spare.take())
+    }
+
+    /// How many local statements a task has run before what it asks for, where that is known.
+    #[inline(always)]
+    pub fn statements(&self, asked: &Asked<P, J>) -> usize {
+        match asked.at() {
+            Some(at) => self.program.statements(at),
+            None => 0,
+        }
     }
 
     /// Keeps what is left of a task as spare memory.

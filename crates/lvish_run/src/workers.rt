@@ -1,9 +1,13 @@
-//! Runs of scripts by workers: by one alone, and by a crew where that pays.
+//! Runs by workers: by one alone, and by a crew where that pays.
 
 ghost use Rattle.std.specs.Prelude.{◌≡◌, ◌≢◌, ◌≤◌, ◌<◌, IfOk, IsSome, true};
-ghost use Rattle.lvish_run.specs.Alike.{IsTold};
+ghost use Rattle.std.specs.Option.{unwrap_or};
+ghost use Rattle.lvish_calculus.specs.Handing.{IsWellHanded};
+ghost use Rattle.lvish_trace.specs.Traced.{labels_of};
+ghost use Rattle.lvish_run.specs.Honest.{IsHonest};
+ghost use Rattle.lvish_run.specs.Alike.{IsAlike, IsTold};
+ghost use Rattle.lvish_run.specs.Least.{IsLeast, IsClosedEnd};
 
-use crate::crew::together;
 use crate::fault::RunFault;
 use crate::gate::Gate;
 use crate::hall::Hall;
@@ -14,7 +18,9 @@ use crate::own::OwnSite;
 use crate::pace::{GRAIN, LEAST_GRAIN, Pace};
 use crate::queue::Queue;
 use crate::rank::Rank;
+use crate::runnable::{Runnable, Shareable};
 use crate::scripts::RunMeaning;
+use crate::shift::work_together;
 use crate::staffed::Staffed;
 use crate::worker::Worker;
 use lvish_board::{Board, Named, Place};
@@ -22,6 +28,7 @@ use lvish_calculus::{Meaning, Program};
 use lvish_compound::{Any, Event};
 use lvish_deal::deal;
 use lvish_history::Opened;
+use lvish_lattice::Lattice;
 use lvish_report::Report;
 use lvish_syntax::Script;
 use lvish_task::ScriptCode;
@@ -39,7 +46,7 @@ use std::thread::Threads;
 ///
 /// `NoThread` where a thread couldn't be started, else `Memory` where a growth or a push was refused,
 /// else `Stopped` where some `idle` of the gate answered false, which a lone worker does not ask.
-pub fn run<R: Threads + Wait + Sync, G: Gate>(
+pub fn run<R: Threads + Wait + Sync, G: Gate + Sync>(
     rt: &R,
     alloc: Global,
     script: &Script,
@@ -58,32 +65,73 @@ pub fn run<R: Threads + Wait + Sync, G: Gate>(
     same_runs();
     same_models();
     let code = ScriptCode::new(alloc, script)?;
-    run_named::<Brand, R, G>(rt, alloc, &code, workers, budget, gate, Opened::new())
+    run_program(rt, alloc, &code, workers, budget, gate)
 }
 
-/// Runs the code that the name is for.
-fn run_named<N: Naming + Send + Sync, R: Threads + Wait + Sync, G: Gate>(
+/// Runs the program by this many workers: worker 0 on this thread, the others on threads of their own.
+///
+/// It is run by worker 0 alone as long as more workers wouldn't pay ([`Runnable::statements`]), unless the
+/// gate may hold one.
+///
+/// # Errors
+///
+/// `NoThread` where a thread couldn't be started, else `Memory` where a growth or a push was refused,
+/// else `Stopped` where some `idle` of the gate answered false, which a lone worker does not ask.
+pub fn run_program<P: Shareable, R: Threads + Wait + Sync, G: Gate + Sync>(
     rt: &R,
     alloc: Global,
-    code: &ScriptCode,
+    program: &P,
     workers: usize,
     budget: u64,
     gate: &G,
-    history: Opened<Place<ScriptCode>>,
-) -> Result<Report<Any, Event>, RunFault>
+) -> Result<Report<P::Lat, <P::Lat as Lattice>::Event>, RunFault>
     requires some { 0 < workers }
     requires few { workers ≤ MOST_WORKERS }
     requires bounded { budget ≤ MOST_STEPS }
-    requires code { code.now ≡ N.code }
-    requires budget { budget ≡ N.budget }
-    requires workers { workers ≡ N.workers }
-    requires history { history.seen.book ≡ N.book }
-    ensures told { IfOk result (λ r. IsTold (⟦<ScriptCode as Meaning>⟧.machine N.code) (⟦<ScriptCode as Program>⟧.functions N.code).variables workers N.budget r) }
+    ensures honest { IfOk result (λ r. IsHonest (⟦<P as Meaning>⟧.machine program.now) (P.functions program.now).variables workers budget r) }
+    // What handlers are handed in it.
+    ensures handed { IfOk result (λ r. IsWellHanded (⟦<P as Meaning>⟧.machine program.now) (labels_of r.trace)) }
+    // What it says of all other runs that end without an error.
+    ensures alike { IfOk result (λ r. IsAlike (⟦<P as Meaning>⟧.machine program.now) (P.functions program.now).variables r) }
+    // Its contents are at or below those of each model with what its run froze.
+    ensures least { IfOk result (λ r. IsLeast (⟦<P as Meaning>⟧.machine program.now) r) }
+    // At an end that no task leaves at a freeze of a frozen variable they are closed.
+    ensures closed { IfOk result (λ r. IsClosedEnd (⟦<P as Meaning>⟧.machine program.now) r) }
     ensures patient { G.patient ≡ true → result ≢ Err RunFault.Stopped }
     ensures alone { workers ≡ 1 → (result ≢ Err RunFault.NoThread) × (result ≢ Err RunFault.Stopped) }
     ensures whole { result ≢ Err RunFault.Mixed }
 {
-    let Ok((board, first)) = Board::<ScriptCode, Of<N>>::new(alloc, code, budget, history) else {
+    run_named::<P, Brand, R, G>(rt, alloc, program, workers, budget, gate, Opened::new())
+}
+
+/// Runs the program that the name is for.
+fn run_named<
+    P: Shareable,
+    N: Naming<P> + Staff + Send + Sync,
+    R: Threads + Wait + Sync,
+    G: Gate + Sync,
+>(
+    rt: &R,
+    alloc: Global,
+    program: &P,
+    workers: usize,
+    budget: u64,
+    gate: &G,
+    history: Opened<Place<P>>,
+) -> Result<Report<P::Lat, <P::Lat as Lattice>::Event>, RunFault>
+    requires some { 0 < workers }
+    requires few { workers ≤ MOST_WORKERS }
+    requires bounded { budget ≤ MOST_STEPS }
+    requires program { program.now ≡ unwrap_or N.program P.blank }
+    requires budget { budget ≡ N.budget }
+    requires workers { workers ≡ N.workers }
+    requires history { history.seen.book ≡ N.book }
+    ensures told { IfOk result (λ r. IsTold (⟦<P as Meaning>⟧.machine (unwrap_or N.program P.blank)) (P.functions (unwrap_or N.program P.blank)).variables workers N.budget r) }
+    ensures patient { G.patient ≡ true → result ≢ Err RunFault.Stopped }
+    ensures alone { workers ≡ 1 → (result ≢ Err RunFault.NoThread) × (result ≢ Err RunFault.Stopped) }
+    ensures whole { result ≢ Err RunFault.Mixed }
+{
+    let Ok((board, first)) = Board::<P, Of<N>>::new(alloc, program, budget, history) else {
         return Err(RunFault::Memory);
     };
     let mut queue = Queue::new(alloc);
@@ -91,7 +139,7 @@ fn run_named<N: Naming + Send + Sync, R: Threads + Wait + Sync, G: Gate>(
     let order = Order {
         rt,
         alloc,
-        code,
+        program,
         gate,
         workers,
     };
@@ -100,12 +148,18 @@ fn run_named<N: Naming + Send + Sync, R: Threads + Wait + Sync, G: Gate>(
 }
 
 /// Works until the board is over: alone, and with a crew where that pays, or where the gate may hold a worker.
-fn work_off<'p, J: Named<ScriptCode> + Staff + Send + Sync, R: Threads + Wait + Sync, G: Gate>(
-    order: &Order<'_, 'p, R, G>,
-    board: Staffed<'p, ScriptCode, J>,
-    queue: Queue<ScriptCode, J>,
-) -> Result<Staffed<'p, ScriptCode, J>, RunFault>
-    requires code { order.now.code.now ≡ J.program }
+fn work_off<
+    'p,
+    P: Shareable,
+    J: Named<P> + Staff + Send + Sync,
+    R: Threads + Wait + Sync,
+    G: Gate + Sync,
+>(
+    order: &Order<'_, 'p, P, R, G>,
+    board: Staffed<'p, P, J>,
+    queue: Queue<P, J>,
+) -> Result<Staffed<'p, P, J>, RunFault>
+    requires program { order.now.program.now ≡ J.program }
     requires all { order.now.workers ≡ J.workers }
     ensures patient { G.patient ≡ true → result ≢ Err RunFault.Stopped }
     ensures alone { order.now.workers ≡ 1 → (result ≢ Err RunFault.NoThread) × (result ≢ Err RunFault.Stopped) }
@@ -125,12 +179,18 @@ fn work_off<'p, J: Named<ScriptCode> + Staff + Send + Sync, R: Threads + Wait + 
 }
 
 /// Works with a crew where the gate may hold a worker, before anything else: the board, and the work that is left.
-fn begin<'p, J: Named<ScriptCode> + Staff + Send + Sync, R: Threads + Wait + Sync, G: Gate>(
-    order: &Order<'_, 'p, R, G>,
-    board: Staffed<'p, ScriptCode, J>,
-    queue: Queue<ScriptCode, J>,
-) -> Result<(Staffed<'p, ScriptCode, J>, Queue<ScriptCode, J>), RunFault>
-    requires code { order.now.code.now ≡ J.program }
+fn begin<
+    'p,
+    P: Shareable,
+    J: Named<P> + Staff + Send + Sync,
+    R: Threads + Wait + Sync,
+    G: Gate + Sync,
+>(
+    order: &Order<'_, 'p, P, R, G>,
+    board: Staffed<'p, P, J>,
+    queue: Queue<P, J>,
+) -> Result<(Staffed<'p, P, J>, Queue<P, J>), RunFault>
+    requires program { order.now.program.now ≡ J.program }
     requires all { order.now.workers ≡ J.workers }
     ensures patient { G.patient ≡ true → result ≢ Err RunFault.Stopped }
     ensures alone { order.now.workers ≡ 1 → (result ≢ Err RunFault.NoThread) × (result ≢ Err RunFault.Stopped) }
@@ -145,13 +205,19 @@ fn begin<'p, J: Named<ScriptCode> + Staff + Send + Sync, R: Threads + Wait + Syn
 
 /// Works alone and then with a crew, after so many changes of the number of workers: the board, and the work that is
 /// left.
-fn by_turns<'p, J: Named<ScriptCode> + Staff + Send + Sync, R: Threads + Wait + Sync, G: Gate>(
-    order: &Order<'_, 'p, R, G>,
+fn by_turns<
+    'p,
+    P: Shareable,
+    J: Named<P> + Staff + Send + Sync,
+    R: Threads + Wait + Sync,
+    G: Gate + Sync,
+>(
+    order: &Order<'_, 'p, P, R, G>,
     changes: u32,
-    board: Staffed<'p, ScriptCode, J>,
-    queue: Queue<ScriptCode, J>,
-) -> Result<(Staffed<'p, ScriptCode, J>, Queue<ScriptCode, J>), RunFault>
-    requires code { order.now.code.now ≡ J.program }
+    board: Staffed<'p, P, J>,
+    queue: Queue<P, J>,
+) -> Result<(Staffed<'p, P, J>, Queue<P, J>), RunFault>
+    requires program { order.now.program.now ≡ J.program }
     requires all { order.now.workers ≡ J.workers }
     ensures patient { G.patient ≡ true → result ≢ Err RunFault.Stopped }
     ensures alone { order.now.workers ≡ 1 → (result ≢ Err RunFault.NoThread) × (result ≢ Err RunFault.Stopped) }
@@ -169,13 +235,13 @@ fn by_turns<'p, J: Named<ScriptCode> + Staff + Send + Sync, R: Threads + Wait + 
 }
 
 /// Works alone until the board is over or a crew pays: the board, and the work that is left.
-fn alone<'p, J: Named<ScriptCode> + Staff, R: Wait, G: Gate>(
-    order: &Order<'_, 'p, R, G>,
+fn alone<'p, P: Runnable, J: Named<P> + Staff, R: Wait, G: Gate>(
+    order: &Order<'_, 'p, P, R, G>,
     pace: Pace,
-    board: Staffed<'p, ScriptCode, J>,
-    queue: Queue<ScriptCode, J>,
-) -> Result<(Staffed<'p, ScriptCode, J>, Queue<ScriptCode, J>), RunFault>
-    requires code { order.now.code.now ≡ J.program }
+    board: Staffed<'p, P, J>,
+    queue: Queue<P, J>,
+) -> Result<(Staffed<'p, P, J>, Queue<P, J>), RunFault>
+    requires program { order.now.program.now ≡ J.program }
     requires all { order.now.workers ≡ J.workers }
     ensures not_stopped { result ≢ Err RunFault.Stopped }
     ensures whole { result ≢ Err RunFault.Mixed }
@@ -186,7 +252,7 @@ fn alone<'p, J: Named<ScriptCode> + Staff, R: Wait, G: Gate>(
         gate: order.gate,
         pace,
         rank: Rank::new(0),
-        worker: Worker::new(order.alloc, order.code, queue),
+        worker: Worker::new(order.alloc, order.program, queue),
     };
     if let Some(fault) = site.work(order.rt).fault() {
         return Err(fault);
@@ -196,20 +262,26 @@ fn alone<'p, J: Named<ScriptCode> + Staff, R: Wait, G: Gate>(
 
 /// Works with a crew until the board is over or one worker does better alone: the board, and the work that is
 /// left.
-fn crew<'p, J: Named<ScriptCode> + Staff + Send + Sync, R: Threads + Wait + Sync, G: Gate>(
-    order: &Order<'_, 'p, R, G>,
+fn crew<
+    'p,
+    P: Shareable,
+    J: Named<P> + Staff + Send + Sync,
+    R: Threads + Wait + Sync,
+    G: Gate + Sync,
+>(
+    order: &Order<'_, 'p, P, R, G>,
     pace: Pace,
-    board: Staffed<'p, ScriptCode, J>,
-    queue: Queue<ScriptCode, J>,
-) -> Result<(Staffed<'p, ScriptCode, J>, Queue<ScriptCode, J>), RunFault>
-    requires code { order.now.code.now ≡ J.program }
+    board: Staffed<'p, P, J>,
+    queue: Queue<P, J>,
+) -> Result<(Staffed<'p, P, J>, Queue<P, J>), RunFault>
+    requires program { order.now.program.now ≡ J.program }
     requires all { order.now.workers ≡ J.workers }
     ensures patient { G.patient ≡ true → result ≢ Err RunFault.Stopped }
     ensures whole { result ≢ Err RunFault.Mixed }
 {
     let seats = deal(order.alloc, order.workers)?;
     let hall = Hall::new(order.alloc, board);
-    if let Some(fault) = together(order, pace, &hall, seats, queue)?.fault() {
+    if let Some(fault) = work_together(order, pace, &hall, seats, queue)?.fault() {
         return Err(fault);
     }
     let (board, rest) = hall.into_parts();

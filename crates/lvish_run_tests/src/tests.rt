@@ -3,9 +3,10 @@
 ghost use Rattle.std.specs.Prelude.{◌≤◌, ◌<◌};
 
 mod gates;
+mod native;
 mod scripts;
 
-use gates::{Away, Meeting, Resting, fork_of_main};
+use gates::{Away, Leaving, Meeting, Resting, fork_of_main};
 use lvish_calculus::Label;
 use lvish_compound::{Any, Event};
 use lvish_run::{MOST_STEPS, Open, Outcome, Report, RunFault, TraceEntry, run, run_picks};
@@ -290,5 +291,50 @@ fn a_gate_stops_a_run(rt: HostRuntime) -> Result<(), Fail> {
         assert_eq!(rt; told, (Some(RunFault::Stopped), false));
         assert_eq!(rt; RunFault::Stopped.to_string(alloc)?.as_str(), "stopped");
     }
+    Ok(())
+}
+
+/// The run of a script by this many workers, of which the gate sends one away at its idle turn with
+/// this number; made again where a growth was refused, or a thread is missing for it.
+fn left_at_last<R: Threads + Wait + Sync>(
+    rt: &R,
+    alloc: Global,
+    script: &Script,
+    workers: usize,
+    number: u64,
+) -> Result<Report<Any, Event>, RunFault>
+    requires some { 0 < workers }
+    requires few { workers ≤ 8 }
+{
+    match run(rt, alloc, script, workers, 1000, &Leaving::at(number)) {
+        Err(RunFault::Memory | RunFault::NoThread) => {
+            run(rt, alloc, script, workers, 1000, &Leaving::at(number))
+        }
+        told => told,
+    }
+}
+
+#[test]
+fn a_gate_stops_a_run_in_each_crew(rt: HostRuntime) -> Result<(), Fail> {
+    let alloc = rt.alloc();
+    let script = read_script(alloc, scripts::CHANGES.as_bytes())?;
+    let usual = run_picks(alloc, &script, &[], 1000)?;
+    let mut stopped = 0u64;
+    for workers in 2..5 {
+        for number in 0..12 {
+            match left_at_last(&rt, alloc, &script, workers, number) {
+                Err(RunFault::Stopped) => stopped = stopped.saturating_add(1),
+                Err(fault) => return Err(fault.into()),
+                Ok(report) => {
+                    assert_eq!(rt;
+                        line_of(alloc, &report)?.as_str(),
+                        "ended, steps 987, blocked 0"
+                    );
+                    assert!(rt; same_states(&report, &usual));
+                }
+            }
+        }
+    }
+    assert!(rt; stopped > 0);
     Ok(())
 }

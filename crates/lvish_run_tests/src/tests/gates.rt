@@ -3,7 +3,7 @@
 ghost use Rattle.std.specs.Prelude.{true, false};
 
 use crossbeam_utils::Backoff;
-use lvish_compound::Event;
+use lvish_lattice::Plain;
 use lvish_names::{NamePart, TaskName};
 use lvish_run::Gate;
 use std::sync::atomic::{AtomicBool, AtomicU64, Ordering};
@@ -56,7 +56,7 @@ impl Gate for Meeting {
 
     ghost patient = { true };
 
-    fn enter(&self, worker: usize, task: &TaskName<Event>) {
+    fn enter<E: Plain>(&self, worker: usize, task: &TaskName<E>) {
         let mark = (worker as u64).saturating_add(1);
         match fork_of_main(task) {
             Some(1) => self.hold(&self.first, &self.second, mark),
@@ -71,7 +71,7 @@ impl Gate for Meeting {
 }
 
 /// Which of main's forks the task is; `None` of main and of others' tasks.
-pub fn fork_of_main(task: &TaskName<Event>) -> Option<u64> {
+pub fn fork_of_main<E: Plain>(task: &TaskName<E>) -> Option<u64> {
     let (last, before) = task.parts().split_last()?;
     match (last, before.split_last()) {
         (NamePart::Fork(number), None) => Some(*number),
@@ -122,7 +122,7 @@ impl Gate for Resting {
 
     ghost patient = { true };
 
-    fn enter(&self, _worker: usize, task: &TaskName<Event>) {
+    fn enter<E: Plain>(&self, _worker: usize, task: &TaskName<E>) {
         if task.len() == 0 {
             self.hold(&self.idled);
         } else if fork_of_main(task) == Some(2) {
@@ -158,7 +158,7 @@ impl Gate for Away {
 
     ghost patient = { false };
 
-    fn enter(&self, _worker: usize, _task: &TaskName<Event>) {
+    fn enter<E: Plain>(&self, _worker: usize, _task: &TaskName<E>) {
         if !comes(&self.idled) {
             self.late.store(true, Ordering::SeqCst);
         }
@@ -166,5 +166,56 @@ impl Gate for Away {
 
     fn idle(&self, _worker: usize) -> bool {
         self.idled.swap(true, Ordering::SeqCst)
+    }
+}
+
+/// A gate that holds nobody, and yet has all workers called from the first turn on.
+pub struct Crowd;
+
+impl Gate for Crowd {
+    ghost use Rattle.std.specs.Prelude.{true};
+
+    ghost patient = { true };
+
+    fn enter<E: Plain>(&self, _worker: usize, _task: &TaskName<E>) {}
+
+    fn idle(&self, _worker: usize) -> bool {
+        true
+    }
+
+    fn holds(&self) -> bool {
+        true
+    }
+}
+
+/// Holds nobody, and sends the worker away whose idle turn has this number among all of them.
+#[derive(Drop)]
+pub struct Leaving {
+    turns: AtomicU64,
+    number: u64,
+}
+
+impl Leaving {
+    pub fn at(number: u64) -> Leaving {
+        Leaving {
+            turns: AtomicU64::new(0),
+            number,
+        }
+    }
+}
+
+impl Gate for Leaving {
+    ghost use Rattle.std.specs.Prelude.{false};
+
+    ghost patient = { false };
+
+    fn enter<E: Plain>(&self, _worker: usize, _task: &TaskName<E>) {}
+
+    fn idle(&self, _worker: usize) -> bool {
+        self.turns.fetch_add(1, Ordering::SeqCst) != self.number
+    }
+
+    fn holds(&self) -> bool {
+        false
     }
 }

@@ -35,3 +35,8 @@ pub const WAITS: &str =
 /// Tasks with long loops, then many puts of one task, then both again: a crew pays, and it doesn't, by turns.
 pub const PHASES: &str =
     "set s\nproc w k\nlet i 1700\nwhile i\nlet i i - 1\nend\nput s k\nend\nproc m from to\nlet c from < to\nwhile c\nfork w from\nlet from from + 1\nlet c from < to\nend\nend\nproc p from to\nlet c from < to\nwhile c\nput s from\nlet from from + 1\nlet c from < to\nend\nend\nproc main\ncall m 0 20\ncall p 20 500\ncall m 500 620\ncall p 620 2000\ncall m 2000 2020\nend\n";
+
+/// Three tasks with long stretches, then one with short ones, then three with long ones: a crew is
+/// called, sent away and called again.
+pub const CHANGES: &str =
+    "max m\nset ended\nproc busy first count\nlet i 0\nlet c i < count\nwhile c\nlet j 0\nlet d j < 250\nwhile d\nlet j j + 1\nlet d j < 250\nend\nput m i\nlet i i + 1\nlet c i < count\nend\nput ended first\nend\nproc brief first count\nlet i 0\nlet c i < count\nwhile c\nput m i\nlet i i + 1\nlet c i < count\nend\nend\nproc main\nfork busy 0 43\nfork busy 1 43\nfork busy 2 43\nget x ended has 0\nget x ended has 1\nget x ended has 2\ncall brief 3 262\nfork busy 4 190\nfork busy 5 190\nfork busy 6 190\nget x ended has 4\nget x ended has 5\nget x ended has 6\nfreeze z m\nend\n";

@@ -8,5 +8,5 @@ invariant-loop-handle g l = record {
   can : (goal.iterator-loop-handle g).can_next l.handle-iterator;
   finite : (goal.iterator-loop-handle g).is_finite l.handle-iterator;
   long : into_iter_len l.handle-iterator ≡ length (into_iter_items l.handle-iterator);
-  patient : g.G.Gate.patient ≡ true → l.worst ≢ Stopped;
+  patient : g.S.Shift.patient ≡ true → l.worst ≢ Stopped;
 }

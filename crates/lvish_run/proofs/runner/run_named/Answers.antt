@@ -1,15 +1,16 @@
 use Rattle.std.proofs.Common.{rules, ◌≡◌, length}
+use Rattle.std.specs.Option.{unwrap_or}
 use Rattle.std.proofs.lemmas.Result.{IfOk-weaker}
 use Rattle.lvish_calculus.specs.Program.{machine_of}
 use Rattle.lvish_run.proofs.Reports.{by_workers, walked_over, walked_counts}
-use Rattle.lvish_run.proofs.runner.run_program.Goals as goal
+use Rattle.lvish_run.proofs.runner.run_named.Goals as goal
 
 pub told-requires-clause-over : goal.told-requires-clause-over
-told-requires-clause-over g c = walked_over g.P.Lat.Event.Ord.cmp (λ p. machine_of g.P.Lat.PartialEq.eq g.P.Lat.Event.PartialEq.eq g.P.Lat.Event.Ord.cmp g.P.Lat.Lattice.least g.P.Lat.Lattice.joined g.P.Lat.Lattice.events_of g.P.Lat.Reads.answer_of (g.P.Program.functions p)) g.J.Named.program c.args.picks.now g.J.Named.budget c.in_ok-board.board c.in_ok-board.ensures
-    c.core-core.result.now c.in_ok-outcome.outcome (c.takes_something.ensures g.J.Named.program) c.core-core.ensures.core c.in_ok-outcome.ensures
+told-requires-clause-over g c = walked_over g.P.Lat.Event.Ord.cmp (λ p. machine_of g.P.Lat.PartialEq.eq g.P.Lat.Event.PartialEq.eq g.P.Lat.Event.Ord.cmp g.P.Lat.Lattice.least g.P.Lat.Lattice.joined g.P.Lat.Lattice.events_of g.P.Lat.Reads.answer_of (g.P.Program.functions p)) (unwrap_or g.N.Naming.program g.P.Runnable.blank) c.args.picks.now g.N.Naming.budget c.in_ok-board.board c.in_ok-board.ensures
+    c.core-core.result.now c.in_ok-outcome.outcome (c.takes_something.ensures (unwrap_or g.N.Naming.program g.P.Runnable.blank)) c.core-core.ensures.core c.in_ok-outcome.ensures
 
 pub told-requires-clause-counts : goal.told-requires-clause-counts
-told-requires-clause-counts g c = walked_counts g.P.Lat.Event.Ord.cmp (λ p. machine_of g.P.Lat.PartialEq.eq g.P.Lat.Event.PartialEq.eq g.P.Lat.Event.Ord.cmp g.P.Lat.Lattice.least g.P.Lat.Lattice.joined g.P.Lat.Lattice.events_of g.P.Lat.Reads.answer_of (g.P.Program.functions p)) g.J.Named.program c.args.picks.now g.J.Named.budget c.in_ok-board.board c.in_ok-board.ensures
+told-requires-clause-counts g c = walked_counts g.P.Lat.Event.Ord.cmp (λ p. machine_of g.P.Lat.PartialEq.eq g.P.Lat.Event.PartialEq.eq g.P.Lat.Event.Ord.cmp g.P.Lat.Lattice.least g.P.Lat.Lattice.joined g.P.Lat.Lattice.events_of g.P.Lat.Reads.answer_of (g.P.Program.functions p)) (unwrap_or g.N.Naming.program g.P.Runnable.blank) c.args.picks.now g.N.Naming.budget c.in_ok-board.board c.in_ok-board.ensures
     c.core-core.result.now _ c.core-core.ensures.core (search rules)
 
 pub returns-clause-honest : goal.returns-clause-honest

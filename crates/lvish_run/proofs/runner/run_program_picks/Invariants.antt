@@ -1,8 +1,9 @@
-use Rattle.lvish_run.proofs.workers.run.Given as goal
+use Rattle.std.proofs.Common.{Some}
+use Rattle.lvish_run.proofs.runner.run_program_picks.Given as goal
 
--- the code, the budget and the workers of this run
+-- the program and the budget of this run
 abbrev pub ghosts-run_named-N-Naming : goal.ghosts-run_named-N-Naming
-ghosts-run_named-N-Naming g a = record { code = a.code.now; budget = a.budget; workers = a.workers }
+ghosts-run_named-N-Naming g a = record { program = Some a.program.now; budget = a.budget }
 
 -- and the history of its stamps
 abbrev pub ghosts-run_named-N-Origin : goal.ghosts-run_named-N-Origin
