@@ -5,4 +5,3 @@ pub mod Analysis
 pub mod Sets
 pub mod Reach
 pub mod Answer
-pub mod Walked

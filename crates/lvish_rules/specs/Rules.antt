@@ -1,6 +1,8 @@
 -- Rules, and what follows from them.
-use Rattle.std.specs.Prelude.{◌≡◌, ◌<◌, ℕ, List, Option, Some, None, Contains}
+use Rattle.std.specs.Prelude.{◌≡◌, ◌⊎◌, ◌<◌, ℕ, List, Option, Some, None, Contains}
 use Rattle.lvish_lattice.specs.Lattice.{IsAtOrBelow}
+use Rattle.lvish_calculus.specs.declared.request.ErrorKind.{ErrorKind}
+use Rattle.lvish_calculus.specs.declared.request.ErrorKind.TheVariants.{Conflict, Deep}
 pub use Rattle.lvish_rules.specs.declared.moves.Move.{Move}
 pub use Rattle.lvish_rules.specs.declared.moves.Move.TheVariants.{Put, Watch}
 
@@ -51,3 +53,7 @@ pub record JoinsToTop {S E : Type 0} (join : S → S → Option S) (bottom : S) 
   pub put : S
   pub follows : Follows events rules (Put relation put)
   pub top : join state put ≡ None
+
+-- what an error of an analysis says: puts into some relation join to top, or watches make one another too deep
+abbrev pub Errs : {S E : Type 0} → (S → S → Option S) → S → (S → List E) → RuleSet S E → ErrorKind → Type 0
+Errs join bottom events rules kind = ((kind ≡ Conflict) × (relation : ℕ) × JoinsToTop join bottom events rules relation) ⊎ (kind ≡ Deep)

@@ -1,23 +1,21 @@
 ghost use Rattle.std.specs.Prelude.{◌≡◌, slice_get, length, option_copied};
 
 use lvish_lattice::Lattice;
-use lvish_variable::Variable;
+use lvish_run::Report;
 use std::marker::Model;
 
 /// What an analysis computed: the state of each relation, and whether that is all that follows.
 pub struct Answer<L: Lattice> {
-    variables: Vec<Variable<L>>,
+    report: Report<L, L::Event>,
     is_whole: bool,
-    steps: u64,
 }
 
 // Written out, so that it is proved once, and not at each exit of a function that owns one.
 impl<L: Lattice> Drop for Answer<L> {
     fn drop(self) {
         let Answer {
-            variables: _,
+            report: _,
             is_whole: _,
-            steps: _,
         } = self;
     }
 }
@@ -27,29 +25,25 @@ impl<L: Lattice> Model for Answer<L> {
 
     ghost Value = { AnswerView L };
 
-    ghost view = { λ a. record { states = states_of a.variables.items; is_whole = a.is_whole; steps = a.steps } };
+    ghost view = { λ a. record { states = states_of a.report.states; is_whole = a.is_whole; steps = a.report.steps } };
 }
 
 impl<L: Lattice> Answer<L> {
     ghost use Rattle.lvish_rules.specs.Answer.{states_of};
 
-    /// The answer of these variables.
-    pub(crate) fn new(variables: Vec<Variable<L>>, is_whole: bool, steps: u64) -> Answer<L>
-        ensures { result ≡ record { states = states_of variables.items; is_whole = is_whole; steps = steps } }
+    /// What the report tells.
+    pub(crate) fn new(report: Report<L, L::Event>, is_whole: bool) -> Answer<L>
+        ensures { result ≡ record { states = states_of report.states; is_whole = is_whole; steps = report.steps } }
     {
-        Answer {
-            variables,
-            is_whole,
-            steps,
-        }
+        Answer { report, is_whole }
     }
 
     /// The state of the relation, `None` where there is no such relation.
     pub fn state(&self, relation: usize) -> Option<&L>
         ensures { option_copied result ≡ slice_get self.now.states relation }
     {
-        match self.variables.get(relation) {
-            Some(variable) => Some(variable.state()),
+        match self.report.states.as_slice().get(relation) {
+            Some(last) => Some(&last.content),
             None => None,
         }
     }
@@ -58,7 +52,7 @@ impl<L: Lattice> Answer<L> {
     pub fn relations(&self) -> usize
         ensures { result ≡ length self.now.states }
     {
-        self.variables.len()
+        self.report.states.as_slice().len()
     }
 
     /// Whether the states are all that follows.
@@ -72,6 +66,6 @@ impl<L: Lattice> Answer<L> {
     pub fn steps(&self) -> u64
         ensures { result ≡ self.now.steps }
     {
-        self.steps
+        self.report.steps
     }
 }

@@ -1,3 +1,5 @@
+ghost use Rattle.std.specs.Prelude.{◌≡◌};
+
 use lvish_calculus::ErrorKind;
 use std::alloc::AllocError;
 use thiserror::Error;
@@ -12,10 +14,12 @@ pub enum SolveFault {
     /// A growth was refused.
     #[error("out of memory")]
     Memory,
+    /// A thread couldn't be started.
+    #[error("no thread could be started")]
+    NoThread,
 }
 
 impl From<AllocError> for SolveFault {
-    ghost use Rattle.std.specs.Prelude.{◌≡◌};
     ghost use Rattle.lvish_rules.specs.declared.fault.SolveFault.TheVariants.{Memory};
 
     ghost from_gives = { λ _ e. e ≡ Memory };

@@ -3,7 +3,7 @@
 //!
 //! ```text
 //! let analysis = Ruled { rules: Graph { root: 0, next } };
-//! let answer = solve(alloc, &analysis, 1_000_000)?;
+//! let answer = solve(&rt, alloc, &analysis, 4, 1_000_000)?;
 //! if answer.is_whole() {
 //!     // The set of relation 0 is exactly what can be reached from the root.
 //!     let reached = answer.state(0);
@@ -19,7 +19,6 @@ mod reach;
 mod ruled;
 mod rules;
 mod solving;
-mod turn;
 
 pub use answer::Answer;
 pub use fault::SolveFault;
@@ -27,4 +26,4 @@ pub use moves::Move;
 pub use reach::Graph;
 pub use ruled::Ruled;
 pub use rules::Rules;
-pub use solving::solve;
+pub use solving::{solve, solve_alone};

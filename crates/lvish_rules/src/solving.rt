@@ -1,101 +1,55 @@
-//! What follows from rules, computed by one worker.
+//! What follows from rules, computed by runs.
 
-ghost use Rattle.std.specs.Prelude.{◌≡◌, ◌<◌, ◌≤◌, ◌⊎◌, [], IfOk, MatchOption, slice_get, true, false, None, Some};
-ghost use Rattle.lvish_rules.specs.Answer.{HasExactly, HasOnly};
-ghost use Rattle.lvish_rules.specs.Walked.{HasMade, HasAdvanced, HasWalked};
+ghost use Rattle.std.specs.Prelude.{◌≡◌, ◌<◌, ◌≤◌, ◌⊎◌, IfOk, true, false};
+ghost use Rattle.lvish_run.specs.Honest.{IsHonest};
+ghost use Rattle.lvish_calculus.specs.declared.request.ErrorKind.{ErrorKind};
+ghost use Rattle.lvish_rules.specs.declared.fault.SolveFault.TheVariants.{Erring};
+ghost use Rattle.lvish_rules.specs.Answer.{HasExactly, HasOnly, IsAnswerOf, TellsError};
+ghost use Rattle.lvish_rules.specs.Rules.{Errs};
 
 use crate::answer::Answer;
 use crate::fault::SolveFault;
-use crate::laws::computes_what_follows;
+use crate::laws::{computes_what_follows, deterministic};
 use crate::ruled::Ruled;
 use crate::rules::Rules;
-use crate::turn::{Turn, guess};
-use lvish_calculus::{Label, Meaning, Program};
-use lvish_core::laws::takes_something;
-use lvish_core::{Core, MOST_STEPS, StepFault, Stepped};
-use lvish_lattice::Lattice;
+use lvish_calculus::{Meaning, Program};
+use lvish_lattice::{Lattice, Reads};
+use lvish_run::{
+    MOST_STEPS, MOST_WORKERS, Open, Outcome, Report, RunFault, run_program, run_program_picks,
+};
 use std::alloc::Global;
+use std::sync::Wait;
+use std::thread::Threads;
 
-/// Makes the step with the label. Answers whether it could be made.
-fn make<P: Program>(
-    alloc: Global,
-    core: &mut Core<'_, P>,
-    label: &Label<<P::Lat as Lattice>::Event>,
-) -> Result<bool, SolveFault>
-    requires { core.old.steps < MOST_STEPS }
-    ensures { IfOk result (λ made. HasMade (⟦<P as Meaning>⟧.machine core.old.program) core.old label.now made core.new) }
+/// What the report tells of relations.
+fn told<L: Lattice>(report: Report<L, L::Event>) -> Result<Answer<L>, SolveFault>
+    ensures told { IfOk result (λ a. IsAnswerOf report a) }
+    ensures erring { (kind : ErrorKind) → result ≡ Err (Erring kind) → TellsError report kind }
 {
-    match core.step(alloc, label) {
-        Ok(Stepped::Done) => Ok(true),
-        Ok(Stepped::Error(kind)) => Err(SolveFault::Erring(kind)),
-        Err(StepFault::NotEnabled) => Ok(false),
-        Err(StepFault::Full) => unreachable!(),
-        Err(StepFault::Memory) => Err(SolveFault::Memory),
-    }
-}
-
-/// The first of the labels.
-fn first_of<E: Drop>(mut labels: Vec<Label<E>>) -> Option<Label<E>>
-    ensures { MatchOption result (labels.items ≡ []) (λ l. slice_get labels.items 0 ≡ Some l) }
-{
-    if labels.is_empty() {
-        return None;
-    }
-    Some(labels.swap_remove(0))
-}
-
-/// Makes the first step of all that can be made. Answers whether there was one.
-fn advance_surely<P: Program>(alloc: Global, core: &mut Core<'_, P>) -> Result<bool, SolveFault>
-    requires { core.old.steps < MOST_STEPS }
-    ensures { IfOk result (λ made. HasAdvanced (⟦<P as Meaning>⟧.machine core.old.program) core.old made core.new) }
-{
-    takes_something::<P>();
-    core.steps();
-    let labels = core.labels(alloc)?;
-    let Some(label) = first_of(labels) else {
-        return Ok(false);
+    let is_whole = match &report.outcome {
+        Outcome::Ended => true,
+        Outcome::Budget => false,
+        Outcome::Error { kind, .. } => return Err(SolveFault::Erring(*kind)),
     };
-    let made = make(alloc, core, &label)?;
-    if !made {
-        unreachable!()
-    }
-    Ok(true)
+    Ok(Answer::new(report, is_whole))
 }
 
-/// Makes a step. Answers whether there was one.
-fn advance<P: Program>(
-    alloc: Global,
-    core: &mut Core<'_, P>,
-    turn: &mut Turn,
-) -> Result<bool, SolveFault>
-    requires { core.old.steps < MOST_STEPS }
-    ensures { IfOk result (λ made. HasAdvanced (⟦<P as Meaning>⟧.machine core.old.program) core.old made core.new) }
+/// The answer by the report of a run of the analysis.
+fn answer_of<R: Rules>(
+    _analysis: &Ruled<R>,
+    _workers: usize,
+    _budget: u64,
+    report: Report<R::Lat, <R::Lat as Lattice>::Event>,
+) -> Result<Answer<R::Lat>, SolveFault>
+    requires { IsHonest (⟦<Ruled<R> as Meaning>⟧.machine _analysis.now) (R.rule_set _analysis.now.rules).relations _workers _budget report }
+    ensures exact { IfOk result (λ a. a.is_whole ≡ true → HasExactly R.Lat.events_of (R.rule_set _analysis.now.rules) a.states) }
+    ensures sound { IfOk result (λ a. HasOnly R.Lat.events_of (R.rule_set _analysis.now.rules) a.states) }
+    ensures spent { IfOk result (λ a. a.is_whole ≡ false → a.steps ≡ _budget) }
+    ensures erring { (kind : ErrorKind) → result ≡ Err (Erring kind) → Errs R.Lat.joined R.Lat.least R.Lat.events_of (R.rule_set _analysis.now.rules) kind }
 {
-    if let Some(label) = guess(core, turn)? {
-        let made = make(alloc, core, &label)?;
-        if made {
-            return Ok(true);
-        }
-    }
-    advance_surely(alloc, core)
-}
-
-/// Makes steps until none can be made or the budget is used up. Answers whether none can be made.
-fn walk<P: Program>(alloc: Global, core: &mut Core<'_, P>, budget: u64) -> Result<bool, SolveFault>
-    requires small { budget ≤ MOST_STEPS }
-    requires begun { core.old.steps ≡ 0 }
-    requires unerring { core.old.fault ≡ None }
-    ensures { IfOk result (λ whole. HasWalked (⟦<P as Meaning>⟧.machine core.old.program) core.old budget whole core.new) }
-{
-    let mut turn = Turn::new();
-    for step in 0..budget {
-        let made = advance(alloc, core, &mut turn)?;
-        if !made {
-            return Ok(true);
-        }
-    }
-    let ended = core.is_ended(alloc)?;
-    Ok(ended)
+    computes_what_follows::<R>();
+    deterministic::<R>();
+    told(report)
 }
 
 /// The lesser of the budget and [`MOST_STEPS`].
@@ -110,30 +64,65 @@ fn within_limits(budget: u64) -> u64
     }
 }
 
-/// Computes what follows from the rules, by as many steps as the budget has, or 1,000,000 if that is
-/// less: one for each move, and one for each event that a watch is handed.
+/// Computes what follows from the rules by this many workers, in as many steps as the budget has, or
+/// 1,000,000 if that is less: one for each move, and one for each event that a watch is handed.
 ///
 /// # Errors
 ///
 /// `Erring` where what follows joins to top, or watches make one another past a depth of 64;
-/// `Memory` where a growth was refused.
-pub fn solve<R: Rules>(
+/// `Memory` where a growth was refused; `NoThread` where a thread couldn't be started.
+pub fn solve<R, H>(
+    rt: &H,
     alloc: Global,
     analysis: &Ruled<R>,
+    workers: usize,
     budget: u64,
 ) -> Result<Answer<R::Lat>, SolveFault>
+where
+    R: Rules + Send + Sync,
+    R::Lat: Send + Sync,
+    <R::Lat as Lattice>::Event: Send + Sync,
+    <R::Lat as Reads>::Read: Send + Sync,
+    <R::Lat as Reads>::Answer: Send + Sync,
+    <R::Lat as Reads>::Spot: Send + Sync,
+    H: Threads + Wait + Sync,
+    requires some { 0 < workers }
+    requires few { workers ≤ MOST_WORKERS }
     // The events of each relation are exactly those that follow from the rules, if the answer is whole.
     ensures exact { IfOk result (λ a. a.is_whole ≡ true → HasExactly R.Lat.events_of (R.rule_set analysis.now.rules) a.states) }
     // There are no other events, whole or not.
     ensures sound { IfOk result (λ a. HasOnly R.Lat.events_of (R.rule_set analysis.now.rules) a.states) }
     // It is whole, or all steps are used up.
     ensures spent { IfOk result (λ a. a.is_whole ≡ false → (a.steps ≡ budget) ⊎ (a.steps ≡ MOST_STEPS)) }
+    // A conflict is told only where puts that follow join to top, and no other error but depth.
+    ensures erring { (kind : ErrorKind) → result ≡ Err (Erring kind) → Errs R.Lat.joined R.Lat.least R.Lat.events_of (R.rule_set analysis.now.rules) kind }
 {
-    computes_what_follows::<R>();
-    let budget = within_limits(budget);
-    let mut core = Core::new(alloc, analysis)?;
-    let is_whole = walk(alloc, &mut core, budget)?;
-    let steps = core.steps();
-    let (variables, _names, _freezes) = core.into_parts();
-    Ok(Answer::new(variables, is_whole, steps))
+    let most = within_limits(budget);
+    match run_program(rt, alloc, analysis, workers, most, &Open) {
+        Ok(report) => answer_of(analysis, workers, most, report),
+        Err(RunFault::Memory) => Err(SolveFault::Memory),
+        Err(RunFault::NoThread) => Err(SolveFault::NoThread),
+        Err(RunFault::Stopped | RunFault::Mixed) => unreachable!(),
+    }
+}
+
+/// Computes what follows from the rules on this thread alone, and wants no threads for it; else as [`solve`].
+///
+/// # Errors
+///
+/// `Erring` where what follows joins to top, or watches make one another past a depth of 64;
+/// `Memory` where a growth was refused.
+pub fn solve_alone<R: Rules>(
+    alloc: Global,
+    analysis: &Ruled<R>,
+    budget: u64,
+) -> Result<Answer<R::Lat>, SolveFault>
+    ensures exact { IfOk result (λ a. a.is_whole ≡ true → HasExactly R.Lat.events_of (R.rule_set analysis.now.rules) a.states) }
+    ensures sound { IfOk result (λ a. HasOnly R.Lat.events_of (R.rule_set analysis.now.rules) a.states) }
+    ensures spent { IfOk result (λ a. a.is_whole ≡ false → (a.steps ≡ budget) ⊎ (a.steps ≡ MOST_STEPS)) }
+    ensures erring { (kind : ErrorKind) → result ≡ Err (Erring kind) → Errs R.Lat.joined R.Lat.least R.Lat.events_of (R.rule_set analysis.now.rules) kind }
+{
+    let most = within_limits(budget);
+    let report = run_program_picks(alloc, analysis, &[], most)?;
+    answer_of(analysis, 1, most, report)
 }

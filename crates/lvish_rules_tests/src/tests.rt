@@ -1,10 +1,14 @@
 //! Graphs whose successors are listed by node, walked from a root.
 
+ghost use Rattle.std.specs.Prelude.{◌≤◌, ◌<◌};
+
 use lvish_lattice::{GrowSet, Items};
-use lvish_rules::{Answer, Graph, Ruled, SolveFault, solve};
+use lvish_rules::{Answer, Graph, Ruled, SolveFault, solve, solve_alone};
 use std::alloc::{AllocError, Global};
 use std::fmt::Write;
+use std::sync::Wait;
 use std::test::Fail;
+use std::thread::Threads;
 
 fn nodes(alloc: Global, numbers: &[i64]) -> Result<Items<i64>, AllocError> {
     Ok(Items::new(Vec::from_slice(alloc, numbers)?))
@@ -45,7 +49,30 @@ fn reached(alloc: Global, root: i64, budget: u64) -> Result<String, SolveFault> 
     let analysis = Ruled {
         rules: graph(alloc, root)?,
     };
-    let answer = solve(alloc, &analysis, budget)?;
+    let answer = solve_alone(alloc, &analysis, budget)?;
+    Ok(text_of(alloc, &answer)?)
+}
+
+/// What this many workers find; once more where a growth was refused, or a thread is missing for it.
+fn found<R: Threads + Wait + Sync>(
+    rt: &R,
+    alloc: Global,
+    root: i64,
+    workers: usize,
+    budget: u64,
+) -> Result<String, SolveFault>
+    requires some { 0 < workers }
+    requires few { workers ≤ 8 }
+{
+    let analysis = Ruled {
+        rules: graph(alloc, root)?,
+    };
+    let answer = match solve(rt, alloc, &analysis, workers, budget) {
+        Err(SolveFault::Memory | SolveFault::NoThread) => {
+            solve(rt, alloc, &analysis, workers, budget)?
+        }
+        told => told?,
+    };
     Ok(text_of(alloc, &answer)?)
 }
 
@@ -64,6 +91,10 @@ fn what_can_be_reached_is_found(rt: HostRuntime) -> Result<(), Fail> {
     for (root, budget, text) in rows {
         let said = reached(alloc, root, budget)?;
         assert_eq!(rt; said.as_str(), text);
+        for workers in 1..9 {
+            let said = found(&rt, alloc, root, workers, budget)?;
+            assert_eq!(rt; said.as_str(), text);
+        }
     }
     Ok(())
 }
