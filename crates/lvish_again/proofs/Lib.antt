@@ -1,0 +1,6 @@
+mod Places
+mod Walking
+mod Cutting
+mod OfScript
+mod OneOutcome
+mod MadeAgain
