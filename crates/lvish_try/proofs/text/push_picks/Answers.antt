@@ -1,0 +1,6 @@
+use Rattle.std.proofs.Common.{sym, ◌∙◌}
+use Rattle.lvish_try.proofs.Written.{picks_written}
+use Rattle.lvish_try.proofs.text.push_picks.Goals as goal
+
+pub returns : goal.returns
+returns c = picks_written _ _ _ c.args.picks.now c.in_ok-push_some_picks.ensures c.in_ok-push_str.ensures.bytes (sym c.is_empty.ensures ∙ c.if-is_empty.false)
