@@ -1,0 +1,3 @@
+pub mod Knowing
+pub mod Lines
+pub mod Marks

@@ -1,0 +1,7 @@
+use Rattle.std.proofs.Common.{rules}
+use Rattle.std.proofs.lemmas.List.Sorted.{IsNonDecreasingBy-from_sort_by_key}
+use Rattle.lvish_outcome.specs.declared.told.LineCount.{LineCount}
+use Rattle.lvish_outcome.proofs.count.sort_rising.Goals as goal
+
+pub returns-clause-sorted : goal.returns-clause-sorted
+returns-clause-sorted c = IsNonDecreasingBy-from_sort_by_key (λ (x : LineCount). x.count) _ c.sort_unstable_by_key.ensures.sorted (λ a r q k. search rules)

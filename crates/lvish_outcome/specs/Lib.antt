@@ -1,0 +1,11 @@
+pub mod Spot
+pub mod Trouble
+pub mod Wait
+pub mod Standing
+pub mod Earlier
+pub mod Telling
+pub mod Count
+pub mod SoFar
+pub mod Rests
+pub mod Again
+pub mod Outcome

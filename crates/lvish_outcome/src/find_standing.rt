@@ -1,0 +1,95 @@
+//! Where a task stands, by the names of the text.
+
+ghost use Rattle.std.specs.Prelude.{◌≡◌, IfOk};
+
+use crate::standing::{Call, Local, Standing};
+use lvish_compound::Event;
+use lvish_names::TaskName;
+use lvish_retrace::{Standing as Stand, ToldProcedure};
+use std::alloc::{AllocError, Global};
+
+/// The name of the procedure with this number.
+fn name_at<'t>(procedures: &[ToldProcedure<'t>], number: usize) -> &'t [u8] {
+    match procedures.get(number) {
+        Some(procedure) => procedure.name,
+        None => b"?",
+    }
+}
+
+/// The locals of the procedure with this number, with their values.
+fn locals_of<'t>(
+    alloc: Global,
+    procedures: &[ToldProcedure<'t>],
+    stand: &Stand,
+) -> Result<Vec<Local<'t>>, AllocError> {
+    let mut locals = Vec::new(alloc);
+    let Some(procedure) = procedures.get(stand.procedure) else {
+        return Ok(locals);
+    };
+    for (name, value) in procedure
+        .locals
+        .as_slice()
+        .iter()
+        .zip(stand.values.as_slice())
+    {
+        locals.push(Local {
+            name,
+            value: *value,
+        })?;
+    }
+    Ok(locals)
+}
+
+/// A call, behind others.
+fn push_call<'t>(
+    calls: &mut Vec<Call<'t>>,
+    procedure: &'t [u8],
+    line: usize,
+) -> Result<(), AllocError> {
+    match calls.last_mut() {
+        Some(last) if last.line == line => {
+            last.times = last.times.saturating_add(1);
+            Ok(())
+        }
+        _ => {
+            calls.push(Call {
+                procedure,
+                line,
+                times: 1,
+            })?;
+            Ok(())
+        }
+    }
+}
+
+/// The calls, the innermost first.
+fn calls_of<'t>(
+    alloc: Global,
+    procedures: &[ToldProcedure<'t>],
+    stand: &Stand,
+) -> Result<Vec<Call<'t>>, AllocError> {
+    let mut calls = Vec::new(alloc);
+    for call in stand.calls.as_slice().iter().rev() {
+        push_call(&mut calls, name_at(procedures, call.procedure), call.line)?;
+    }
+    Ok(calls)
+}
+
+/// Where the task stands.
+pub fn standing_of<'a>(
+    alloc: Global,
+    procedures: &[ToldProcedure<'a>],
+    task: &'a TaskName<Event>,
+    stand: &Stand,
+) -> Result<Standing<'a>, AllocError>
+    ensures task { IfOk result (λ s. s.task.now ≡ task.now) }
+    ensures line { IfOk result (λ s. s.line ≡ stand.now.line) }
+{
+    Ok(Standing {
+        task,
+        procedure: name_at(procedures, stand.procedure),
+        line: stand.line,
+        locals: locals_of(alloc, procedures, stand)?,
+        calls: calls_of(alloc, procedures, stand)?,
+    })
+}
