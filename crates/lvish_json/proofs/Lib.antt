@@ -1,0 +1,4 @@
+mod Arrays
+mod StatesLeft
+mod Depths
+mod RetoldText

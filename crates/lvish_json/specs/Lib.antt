@@ -1,0 +1,6 @@
+pub mod Shape
+pub mod Content
+pub mod Report
+pub mod Answers
+pub mod Tried
+pub mod Retold
