@@ -1,0 +1,4 @@
+pub mod Deeds
+pub mod Text
+pub mod Dot
+pub mod Told
