@@ -1,23 +1,46 @@
 //! The program `lvish`: checks scripts, runs them and prints what came of it.
 #![tactic(auto)]
 
-use lvish_cli::{Status, command};
+use lvish_cli::{Ending, Hearer, Status, command_told, write_text};
 use std::alloc::Global;
-use std::io::ErrorKind;
+use std::env::VarError;
+use std::io::{ErrorKind, IsTerminal};
 use std::process::ExitCode;
 use std::{env, io};
 
 fn main(rt: HostRuntime) -> ExitCode {
-    let status = match words(&rt) {
-        Ok(words) => command(&rt, words.as_slice()),
-        Err(error) if error.kind() == ErrorKind::OutOfMemory => Status::Memory,
-        Err(_) => not_text(rt.alloc()),
+    let mut error = rt.stderr();
+    let Ending { status, told } = match words(&rt) {
+        Ok(words) => command_told(&rt, words.as_slice(), hearer(&rt, error.is_terminal())),
+        Err(error) if error.kind() == ErrorKind::OutOfMemory => untold(Status::Memory),
+        Err(_) => untold(not_text(rt.alloc())),
     };
+    // What can't be written on standard error changes no status.
     if let Some(text) = status.message() {
-        // A message that can't be written changes no status.
         let _ = rt.eprint(text);
     }
+    if let Some(told) = told {
+        let _ = write_text(&mut error, told.as_slice());
+    }
     ExitCode::from(status.number())
+}
+
+/// Where standard error goes. Colours are for terminals, where NO_COLOR is unset or empty.
+fn hearer(rt: &HostRuntime, is_terminal: bool) -> Hearer {
+    if !is_terminal {
+        return Hearer::Stream;
+    }
+    let colours = match env::var(rt, "NO_COLOR") {
+        Ok(text) => text.is_empty(),
+        Err(VarError::NotPresent) => true,
+        Err(_) => false,
+    };
+    Hearer::Terminal { colours }
+}
+
+/// The status, of which its message says all.
+fn untold(status: Status) -> Ending {
+    Ending { status, told: None }
 }
 
 /// The words after the program's own name.

@@ -13,7 +13,7 @@ use Rattle.lvish_task.specs.Run.{functions}
 use Rattle.lvish_alike.specs.Layered.{IsLayered}
 use Rattle.lvish_alike.specs.OneEnd.{HasOneEnd, OneEndShowsAll}
 use Rattle.lvish_alike.specs.Strata.{IsStratified}
-use Rattle.lvish_alike.proofs.Layered.{waited, stratified}
+use Rattle.lvish_alike.proofs.Stratified.{waited, stratified}
 use Rattle.lvish_alike.proofs.SameStates.{one_end_there, one_end_led, shows_all_led, shows_all_there}
 
 module _ (same : Any → Any → Bool) (event_same : Event → Event → Bool) (cmp : Event → Event → Ordering) (bottom : Any) (join : Any → Any → Option Any) (events : Any → List Event) (answer : AnyRead → Any → Option ℤ) (s : Script) (c : ScriptCode) where

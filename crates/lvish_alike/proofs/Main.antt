@@ -29,12 +29,12 @@ use Rattle.lvish_alike.proofs.OneEnd.{all_given, calls_named}
 module _ (c : flat.Code) (ly : IsLayered c) where
   -- ---- places of main
 
-  abbrev pub IsFreeze : ℕ → Type 0
-  IsFreeze i = (v : ℕ) × (ps : List ℕ) × FreezesAt c i v ps
+  abbrev pub HasFreeze : ℕ → Type 0
+  HasFreeze i = (v : ℕ) × (ps : List ℕ) × FreezesAt c i v ps
 
   -- the same freezes stand above two places
   abbrev pub Same : ℕ → ℕ → Type 0
-  Same p q = (i : ℕ) → IsFreeze i → (i < p) ↔ (i < q)
+  Same p q = (i : ℕ) → HasFreeze i → (i < p) ↔ (i < q)
 
   pub same_refl : (p : ℕ) → Same p p
   same_refl p i f = (λ lt. lt, λ lt. lt)
@@ -42,8 +42,8 @@ module _ (c : flat.Code) (ly : IsLayered c) where
   pub same_trans : (p q r : ℕ) → Same p q → Same q r → Same p r
   same_trans p q r a b i f = (λ lt. (b i f).0 ((a i f).0 lt), λ lt. (a i f).1 ((b i f).1 lt))
 
-  pub same_next : (p : ℕ) → (IsFreeze p → ⊥) → Same p (p + 1)
-  same_next p none i f = (λ lt. omega (arith, lt), λ lt. elim (below_or_at i p lt) [ inl e ↦ absurd (none (subst IsFreeze e f)) | inr less ↦ less ])
+  pub same_next : (p : ℕ) → (HasFreeze p → ⊥) → Same p (p + 1)
+  same_next p none i f = (λ lt. omega (arith, lt), λ lt. elim (below_or_at i p lt) [ inl e ↦ absurd (none (subst HasFreeze e f)) | inr less ↦ less ])
 
   -- a jump forward passes no freeze
   forward : (p q i : ℕ) → p < q → (p ≡ i → ⊥) → (p < i → q ≤ i) → (i < p) ↔ (i < q)
@@ -67,14 +67,14 @@ module _ (c : flat.Code) (ly : IsLayered c) where
   -- ---- routines that main calls
 
   -- a routine that main calls at this place, or calls through another one
-  abbrev pub IsCalledFrom : ℕ → ℕ → Type 0
-  IsCalledFrom i k = (j : ℕ) × (n : Instruction) × (m : ℕ) × (i ≤ j) × IsAt c.routines c.main j n × (instruction_calls n ≡ Some m) × Leads (given_by instruction_calls c.routines) m k
+  abbrev pub IsLedFrom : ℕ → ℕ → Type 0
+  IsLedFrom i k = (j : ℕ) × (n : Instruction) × (m : ℕ) × (i ≤ j) × IsAt c.routines c.main j n × (instruction_calls n ≡ Some m) × Leads (given_by instruction_calls c.routines) m k
 
   -- a routine that main runs above the frame that stands at this place
   pub record Upper (p k : ℕ) : Type 0 where
     pub not_main : k ≡ c.main → ⊥
     pub by_main : MainRuns c k
-    pub tail : (i : ℕ) → IsFreeze i → i < p → IsCalledFrom i k
+    pub tail : (i : ℕ) → HasFreeze i → i < p → IsLedFrom i k
 
   pub main_can : (k : ℕ) → MainRuns c k → CanRun (code_outline c) k
   main_can k at_once = at_once
@@ -177,7 +177,7 @@ module _ (c : flat.Code) (ly : IsLayered c) where
     pub at_main : (n : Instruction) → instruction c top ≡ Some n → IsAt c.routines c.main top.place n
     at_main n e = subst (λ k. slice_get (instructions_in (slice_get c.routines k)) top.place ≡ Some n) b.is e
 
-    pub no_freeze : (n : Instruction) → instruction c top ≡ Some n → ((x v : ℕ) (ps : List ℕ) (each : Option ℕ) → Some n ≡ Some (Ask (Freeze x v ps each)) → ⊥) → IsFreeze top.place → ⊥
+    pub no_freeze : (n : Instruction) → instruction c top ≡ Some n → ((x v : ℕ) (ps : List ℕ) (each : Option ℕ) → Some n ≡ Some (Ask (Freeze x v ps each)) → ⊥) → HasFreeze top.place → ⊥
     no_freeze n e never f = never f.2.0 f.0 f.1 f.2.1 (sym (at_main n e) ∙ f.2.2)
 
     main_puts : (v : ℕ) (t : Target) (o : Operand) → instruction c top ≡ Some (Ask (Put v t o)) → (d : Option Any) → TurnMain top.place (putting v d)

@@ -14,8 +14,10 @@ use Rattle.lvish_code.specs.declared.routine.Routine.{Routine}
 use Rattle.lvish_task.specs.Run.{instructions_in}
 use Rattle.lvish_code.specs.Flat as flat
 use Rattle.lvish_alike.specs.Reaching.{Leads, at_once, further, Outline, CanRun, FreezesOne, MainFreezes, HasOneOrder}
+use Rattle.lvish_alike.specs.declared.link.Link.{Link}
+use Rattle.lvish_alike.specs.declared.link.Link.TheVariants as link
 use Rattle.lvish_alike.specs.declared.sought.Sought.TheVariants as sought
-use Rattle.lvish_alike.specs.Sought.{instruction_names, instruction_starts, instruction_freezes, given_by, wanted, is_option, IsFound, IsNowhere, AreReached, FreezeOne, OthersFreezeNone, code_outline}
+use Rattle.lvish_alike.specs.Sought.{instruction_names, instruction_starts, instruction_freezes, given_by, wanted, is_option, IsFound, IsNowhere, linked, AreReached, AreLed, FreezeOne, OthersFreezeNone, code_outline}
 
 -- ---- lists
 
@@ -92,15 +94,15 @@ module _ (p : ℕ → Bool) (h : Instruction → Option ℕ) (v : ℕ) where
 abbrev pub open_marks : List Bool → ℕ
 open_marks marks = count_by not marks
 
--- after so many rounds: all that is marked is reached, and each round has set a mark
-pub record IsMarking (routines : List Routine) (from round : ℕ) (marks : List Bool) : Type 0 where
+-- after so many rounds: all that is marked is led to from a first mark, the first marks are set, and each round has set a mark
+pub record IsMarking (f : Instruction → Option ℕ) (routines : List Routine) (begun : List Bool) (round : ℕ) (marks : List Bool) : Type 0 where
   pub count : length marks ≡ length routines
-  pub sound : (k : ℕ) → slice_get marks k ≡ Some true → Leads (given_by instruction_names routines) from k
-  pub begun : slice_get marks from ≡ Some true
+  pub sound : (k : ℕ) → slice_get marks k ≡ Some true → (j : ℕ) × (slice_get begun j ≡ Some true) × Leads (given_by f routines) j k
+  pub still : (j : ℕ) → slice_get begun j ≡ Some true → slice_get marks j ≡ Some true
   pub left : round + open_marks marks ≤ length routines
 
 -- a mark that is set: the one that was set last, or one that was set before
-marked_after : (marks : List Bool) (place k : ℕ) → slice_get (set marks place true) k ≡ Some true → (k ≡ place) ⊎ (slice_get marks k ≡ Some true)
+pub marked_after : (marks : List Bool) (place k : ℕ) → slice_get (set marks place true) k ≡ Some true → (k ≡ place) ⊎ (slice_get marks k ≡ Some true)
 marked_after marks place k e = elim (cases_eq k place) [
   | inl same ↦ inl same
   | inr ne ↦
@@ -109,7 +111,7 @@ marked_after marks place k e = elim (cases_eq k place) [
 ]
 
 -- a mark stays set
-marked_still : (marks : List Bool) (place k : ℕ) → slice_get marks k ≡ Some true → slice_get (set marks place true) k ≡ Some true
+pub marked_still : (marks : List Bool) (place k : ℕ) → slice_get marks k ≡ Some true → slice_get (set marks place true) k ≡ Some true
 marked_still marks place k e =
     let lt = slice_get_within marks k true e in
     marked_at (set marks place true) k (length marks) (length-set marks place true) lt (elim (cases_eq k place) [
@@ -117,81 +119,75 @@ marked_still marks place k e =
       | inr ne ↦ get_or-set_other marks place k true false ne ∙ marked_is marks k e
     ])
 
-marked_new : (marks : List Bool) (place n : ℕ) → length marks ≡ n → place < n → slice_get (set marks place true) place ≡ Some true
+pub marked_new : (marks : List Bool) (place n : ℕ) → length marks ≡ n → place < n → slice_get (set marks place true) place ≡ Some true
 marked_new marks place n e lt = marked_at (set marks place true) place n (length-set marks place true ∙ e) lt (get_or-set_same marks place true false (subst (λ m. place < m) (sym e) lt))
 
-none_marked : (n k : ℕ) → slice_get (replicate n false) k ≡ Some true → ⊥
+pub none_marked : (n k : ℕ) → slice_get (replicate n false) k ≡ Some true → ⊥
 none_marked n k e = both_ways _ (get_or-replicate n k false false (marked_within (replicate n false) k n (length-replicate n false) e)) (marked_is (replicate n false) k e)
 
--- the first mark is set
-pub marking_begins : (routines : List Routine) (from : ℕ) (old : List Bool) → from < length routines → old ≡ replicate (length routines) false → IsMarking routines from 0 (set old from true)
-marking_begins routines from old lt e =
-    let count : length old ≡ length routines = ap length e ∙ length-replicate (length routines) false in
-    record {
-      count = length-set old from true ∙ count;
-      sound = λ k h. elim (marked_after old from k h) [
-        | inl same ↦ subst (λ j. Leads (given_by instruction_names routines) from j) (sym same) at_once
-        | inr was ↦ absurd (none_marked (length routines) k (subst (λ l. slice_get l k ≡ Some true) e was))
-      ];
-      begun = marked_new old from (length routines) count lt;
-      left = omega (arith, count_by-le-length not (set old from true), length-set old from true, count);
-    }
+pub marking_begins : (f : Instruction → Option ℕ) (routines : List Routine) (begun : List Bool) → length begun ≡ length routines → IsMarking f routines begun 0 begun
+marking_begins f routines begun count = record {
+  count = count;
+  sound = λ k h. (k, h, at_once);
+  still = λ j h. h;
+  left = omega (arith, count_by-le-length not begun, count);
+}
 
--- an unmarked routine that a marked one names
-module _ (routines : List Routine) (from : ℕ) (marks : List Bool) (place : ℕ) (f : IsFound routines marks sought.Unmarked place) where
-  found_named : IsAmong place (given_by instruction_names routines f.0) × (not (get_or marks place true) ≡ true)
-  found_named = wanted_among (λ k. not (get_or marks k true)) instruction_names place (instructions_in (slice_get routines f.0)) f.2
+-- an unmarked routine to which a link of a marked one leads
+module _ (l : Link) (routines : List Routine) (begun marks : List Bool) (place : ℕ) (found : IsFound routines marks (sought.Unmarked l) place) where
+  found_linked : IsAmong place (given_by (linked l) routines found.0) × (not (get_or marks place true) ≡ true)
+  found_linked = wanted_among (λ k. not (get_or marks k true)) (linked l) place (instructions_in (slice_get routines found.0)) found.2
 
   pub found_within : place < length marks
   found_within = elim (cases_lt place (length marks)) [
     | inl lt ↦ lt
-    | inr le ↦ absurd (both_ways _ (not-true _ found_named.1) (get_or_past marks place true le))
+    | inr le ↦ absurd (both_ways _ (not-true _ found_linked.1) (get_or_past marks place true le))
   ]
 
-  pub marking_goes : (round : ℕ) → IsMarking routines from round marks → IsMarking routines from (round + 1) (set marks place true)
+  pub marking_goes : (round : ℕ) → IsMarking (linked l) routines begun round marks → IsMarking (linked l) routines begun (round + 1) (set marks place true)
   marking_goes round m =
-      let was : get_or marks place false ≡ false = get_or_default marks place false true found_within ∙ not-true _ found_named.1 in
+      let was : get_or marks place false ≡ false = get_or_default marks place false true found_within ∙ not-true _ found_linked.1 in
       let counted = sum_by-set (λ b. if not b then 1 else 0) marks place true false found_within in
       let fewer : open_marks (set marks place true) + 1 ≡ open_marks marks + 0 = ap (λ b. open_marks (set marks place true) + (if not b then 1 else 0)) (sym was) ∙ counted in
       let before = m.left in
       record {
         count = length-set marks place true ∙ m.count;
         sound = λ k h. elim (marked_after marks place k h) [
-          | inl same ↦ subst (λ j. Leads (given_by instruction_names routines) from j) (sym same) (further (m.sound f.0 f.1) found_named.0)
+          | inl same ↦ let z = m.sound found.0 found.1 in (z.0, z.1, subst (Leads (given_by (linked l) routines) z.0) (sym same) (further z.2 found_linked.0))
           | inr old ↦ m.sound k old
         ];
-        begun = marked_still marks place from m.begun;
+        still = λ j h. marked_still marks place j (m.still j h);
         left = omega (arith, fewer, before);
       }
 
-module _ (routines : List Routine) (from round : ℕ) (marks : List Bool) (m : IsMarking routines from round marks) where
-  all_reached : ((k : ℕ) → Leads (given_by instruction_names routines) from k → k < length routines → get_or marks k false ≡ true) → AreReached routines from marks
-  all_reached all = record {
+module _ (l : Link) (routines : List Routine) (begun marks : List Bool) (round : ℕ) (m : IsMarking (linked l) routines begun round marks) where
+  all_led : ((j k : ℕ) → slice_get begun j ≡ Some true → Leads (given_by (linked l) routines) j k → k < length routines → get_or marks k false ≡ true) → AreLed (linked l) routines begun marks
+  all_led all = record {
     count = m.count;
-    each = λ k. ((λ h. (marked_within marks k (length routines) m.count h, m.sound k h)), (λ z. marked_at marks k (length routines) m.count z.0 (all k z.1 z.0)));
+    each = λ k. ((λ h. let z = m.sound k h in (z.0, marked_within marks k (length routines) m.count h, z.1, z.2)), (λ z. marked_at marks k (length routines) m.count z.1 (all z.0 k z.2 z.3 z.1)));
   }
 
-  -- where no routine is left that isn't marked and is named by a marked one, one that a marked one names is marked
-  named_marked : IsNowhere routines marks sought.Unmarked → (j k : ℕ) → slice_get marks j ≡ Some true → IsAmong k (given_by instruction_names routines j) → k < length routines → (b : Bool) → get_or marks k false ≡ b → b ≡ true
-  named_marked nowhere j k there a lt true e = refl
-  named_marked nowhere j k there a lt false e =
+  -- where no routine is left that isn't marked and to which a link of a marked one leads, such a routine is marked
+  linked_marked : IsNowhere routines marks (sought.Unmarked l) → (j k : ℕ) → slice_get marks j ≡ Some true → IsAmong k (given_by (linked l) routines j) → k < length routines → (b : Bool) → get_or marks k false ≡ b → b ≡ true
+  linked_marked nowhere j k there a lt true e = refl
+  linked_marked nowhere j k there a lt false e =
       let unset : not (get_or marks k true) ≡ true = ap not (get_or_default marks k true false (subst (λ n. k < n) (sym m.count) lt) ∙ e) in
-      let found = among_wanted (λ k. not (get_or marks k true)) instruction_names k (instructions_in (slice_get routines j)) unset a in
+      let found = among_wanted (λ k. not (get_or marks k true)) (linked l) k (instructions_in (slice_get routines j)) unset a in
       absurd (subst (λ l. IsAmong k l) (nowhere j there) found)
 
-  led : IsNowhere routines marks sought.Unmarked → (k : ℕ) → Leads (given_by instruction_names routines) from k → k < length routines → get_or marks k false ≡ true
-  led nowhere k at_once lt = marked_is marks k m.begun
-  led nowhere k (further {j = j} l a) lt =
-      let inside = given_within instruction_names routines j k a in
-      named_marked nowhere j k (marked_at marks j (length routines) m.count inside (led nowhere j l inside)) a lt (get_or marks k false) refl
+  led_on : IsNowhere routines marks (sought.Unmarked l) → (i k : ℕ) → slice_get begun i ≡ Some true → Leads (given_by (linked l) routines) i k → k < length routines → get_or marks k false ≡ true
+  led_on nowhere i k first at_once lt = marked_is marks k (m.still k first)
+  led_on nowhere i k first (further {j = j} leads a) lt =
+      let inside = given_within (linked l) routines j k a in
+      linked_marked nowhere j k (marked_at marks j (length routines) m.count inside (led_on nowhere i j first leads inside)) a lt (get_or marks k false) refl
 
-  -- so all that are reached are marked
-  pub marking_closed : IsNowhere routines marks sought.Unmarked → AreReached routines from marks
-  marking_closed nowhere = all_reached (λ k l lt. led nowhere k l lt)
+  -- so all that are led to are marked
+  pub marking_closed : IsNowhere routines marks (sought.Unmarked l) → AreLed (linked l) routines begun marks
+  marking_closed nowhere = all_led (λ j k first leads lt. led_on nowhere j k first leads lt)
 
   -- after as many rounds as there are routines, all are marked
-  pub marking_full : length routines ≤ round → AreReached routines from marks
-  marking_full le = all_reached (λ k l lt. by k lt (get_or marks k false) refl)
+  pub marking_full : length routines ≤ round → AreLed (linked l) routines begun marks
+  marking_full le = all_led (λ j k first leads lt. by k lt (get_or marks k false) refl)
     where
       by : (k : ℕ) → k < length routines → (b : Bool) → get_or marks k false ≡ b → b ≡ true
       by k lt true e = refl
@@ -200,6 +196,19 @@ module _ (routines : List Routine) (from round : ℕ) (marks : List Bool) (m : I
           let fewer : open_marks (set marks k true) + 1 ≡ open_marks marks + 0 = ap (λ b. open_marks (set marks k true) + (if not b then 1 else 0)) (sym e) ∙ counted in
           let left = m.left in
           absurd (omega (arith, fewer, left, le))
+
+-- where one is marked alone, one comes to what is led to from it
+pub reached_alone : (f : Instruction → Option ℕ) (routines : List Routine) (from : ℕ) (marks : List Bool) → from < length routines → AreLed f routines (set (replicate (length routines) false) from true) marks → AreReached f routines from marks
+reached_alone f routines from marks lt led = record {
+  count = led.count;
+  each = λ k. (
+    (λ h. let z = (led.each k).0 h in (z.1, subst (λ j. Leads (given_by f routines) j k) (only z.0 z.2) z.3)),
+    (λ z. (led.each k).1 (from, z.0, marked_new (replicate (length routines) false) from (length routines) (length-replicate (length routines) false) lt, z.1)),
+  );
+}
+  where
+    only : (j : ℕ) → slice_get (set (replicate (length routines) false) from true) j ≡ Some true → j ≡ from
+    only j h = elim (marked_after (replicate (length routines) false) from j h) [ inl same ↦ same | inr was ↦ absurd (none_marked (length routines) j was) ]
 
 -- ---- freezes
 
@@ -251,21 +260,21 @@ module _ (routines : List Routine) (marks : List Bool) where
   pub freeze_not : (v : ℕ) → IsNowhere routines marks (sought.Frozen None) → Freeze v → ⊥
   freeze_not v nowhere f = freeze_nowhere None v nowhere f refl
 
-  -- ---- routines that another task runs
+  -- ---- routines to which a link leads
 
-  -- one that a marked routine starts
-  abbrev pub Start : ℕ → Type 0
-  Start k = (i : ℕ) × (slice_get marks i ≡ Some true) × IsAmong k (given_by instruction_starts routines i)
+  -- one to which this link of a marked routine leads
+  abbrev pub LinkedTo : Link → ℕ → Type 0
+  LinkedTo l k = (i : ℕ) × (slice_get marks i ≡ Some true) × IsAmong k (given_by (linked l) routines i)
 
-  pub start_is : (k place : ℕ) → IsFound routines marks (sought.Start place) k → Start place
-  start_is k place f =
-      let z = wanted_among (nat_eq place) instruction_starts k (instructions_in (slice_get routines f.0)) f.2 in
+  pub linked_is : (l : Link) (k place : ℕ) → IsFound routines marks (sought.Linked l place) k → LinkedTo l place
+  linked_is l k place f =
+      let z = wanted_among (nat_eq place) (linked l) k (instructions_in (slice_get routines f.0)) f.2 in
       let same : place ≡ k = (Decides-eqb place k).0 z.1 in
-      (f.0, f.1, subst (λ n. IsAmong n (given_by instruction_starts routines f.0)) (sym same) z.0)
+      (f.0, f.1, subst (λ n. IsAmong n (given_by (linked l) routines f.0)) (sym same) z.0)
 
-  pub start_not : (place : ℕ) → IsNowhere routines marks (sought.Start place) → Start place → ⊥
-  start_not place nowhere s =
-      subst (λ l. IsAmong place l) (nowhere s.0 s.1) (among_wanted (nat_eq place) instruction_starts place (instructions_in (slice_get routines s.0)) ((Decides-eqb place place).1 refl) s.2)
+  pub linked_not : (l : Link) (place : ℕ) → IsNowhere routines marks (sought.Linked l place) → LinkedTo l place → ⊥
+  linked_not l place nowhere s =
+      subst (λ l. IsAmong place l) (nowhere s.0 s.1) (among_wanted (nat_eq place) (linked l) place (instructions_in (slice_get routines s.0)) ((Decides-eqb place place).1 refl) s.2)
 
   -- past the last routine nothing is led to but itself, and nothing is frozen
   past_freezes : (j k v : ℕ) → length routines ≤ j → Leads (given_by instruction_names routines) j k → IsAmong v (given_by instruction_freezes routines k) → ⊥
@@ -283,7 +292,7 @@ module _ (routines : List Routine) (marks : List Bool) where
   NoneBefore place = (i j k v : ℕ) → j < place → slice_get marks i ≡ Some true → IsAmong j (given_by instruction_starts routines i)
       → Leads (given_by instruction_names routines) j k → IsAmong v (given_by instruction_freezes routines k) → ⊥
 
-  pub none_more : (place : ℕ) → NoneBefore place → (Start place → (k v : ℕ) → Leads (given_by instruction_names routines) place k → IsAmong v (given_by instruction_freezes routines k) → ⊥) → NoneBefore (place + 1)
+  pub none_more : (place : ℕ) → NoneBefore place → (LinkedTo link.Starts place → (k v : ℕ) → Leads (given_by instruction_names routines) place k → IsAmong v (given_by instruction_freezes routines k) → ⊥) → NoneBefore (place + 1)
   none_more place none here i j k v lt hi a l b = elim (below_or_at j place lt) [
     | inl same ↦ here (i, hi, subst (λ n. IsAmong n (given_by instruction_starts routines i)) same a) k v (subst (λ n. Leads (given_by instruction_names routines) n k) same l) b
     | inr less ↦ none i j k v less hi a l b
@@ -296,14 +305,14 @@ module _ (routines : List Routine) (marks : List Bool) where
   ]
 
   -- what one comes to from a started routine
-  module _ (place : ℕ) (others : List Bool) (reached : AreReached routines place others) where
+  module _ (place : ℕ) (others : List Bool) (reached : AreReached instruction_names routines place others) where
     freeze_led : (k v : ℕ) → Leads (given_by instruction_names routines) place k → IsAmong v (given_by instruction_freezes routines k) → slice_get others k ≡ Some true
     freeze_led k v l a = (reached.each k).1 (given_within instruction_freezes routines k v a, l)
 
     -- where it freezes, another task does
-    pub other_freezes : (k v : ℕ) → IsFound routines marks (sought.Start place) k → IsFound routines others (sought.Frozen None) v → OthersFreezeNone routines marks → ⊥
+    pub other_freezes : (k v : ℕ) → IsFound routines marks (sought.Linked link.Starts place) k → IsFound routines others (sought.Frozen None) v → OthersFreezeNone routines marks → ⊥
     other_freezes k v s f none =
-        let start = start_is k place s in
+        let start = linked_is link.Starts k place s in
         let found = wanted_among (λ v. not (is_option None v)) instruction_freezes v (instructions_in (slice_get routines f.0)) f.2 in
         none start.0 place f.0 v start.1 start.2 ((reached.each f.0).0 f.1).1 found.0
 
@@ -313,8 +322,8 @@ module _ (routines : List Routine) (marks : List Bool) where
         subst (λ l. IsAmong v l) (nowhere k (freeze_led k v l a)) (among_wanted (λ v. not (is_option None v)) instruction_freezes v (instructions_in (slice_get routines k)) refl a))
 
   -- a routine that isn't started
-  pub not_started : (place : ℕ) → NoneBefore place → IsNowhere routines marks (sought.Start place) → NoneBefore (place + 1)
-  not_started place none nowhere = none_more place none (λ s k v l a. start_not place nowhere s)
+  pub not_started : (place : ℕ) → NoneBefore place → IsNowhere routines marks (sought.Linked link.Starts place) → NoneBefore (place + 1)
+  not_started place none nowhere = none_more place none (λ s k v l a. linked_not link.Starts place nowhere s)
 
 -- ---- what is looked for, by whether it is found
 
@@ -328,7 +337,7 @@ none_there (Some x) P e h = absurd (cc e)
 
 -- ---- code
 
-module _ (c : flat.Code) (marks : List Bool) (reached : AreReached c.routines c.main marks) where
+module _ (c : flat.Code) (marks : List Bool) (reached : AreReached instruction_names c.routines c.main marks) where
   abbrev o : Outline
   o = code_outline c
 

@@ -5,4 +5,6 @@ pub mod Alike
 pub mod Sought
 pub mod TooLate
 pub mod Strata
+pub mod Parts
+pub mod Deciding
 pub mod Layered

@@ -4,6 +4,7 @@ ghost use Rattle.lvish_alike.specs.Reaching.{HasOneOrder};
 ghost use Rattle.lvish_alike.specs.Sought.{code_outline, FreezeOne, OthersFreezeNone};
 
 use crate::laws::one_end;
+use crate::link::Link;
 use crate::reached::reached_from;
 use crate::sought::{Sought, first};
 use lvish_code::{Code, Routine};
@@ -30,7 +31,7 @@ fn has_one_order(alloc: Global, code: &Code) -> Result<bool, AllocError>
     ensures { IfOk result (λ alike. (alike ≡ true) ↔ HasOneOrder (code_outline code.now)) }
 {
     let routines = code.routines();
-    let marks = reached_from(alloc, routines, code.main())?;
+    let marks = reached_from(alloc, routines, Link::Names, code.main())?;
     if freezes_one(routines, &marks) {
         return Ok(true);
     }
@@ -54,8 +55,8 @@ fn no_other_freezes(alloc: Global, routines: &[Routine], marks: &[bool]) -> Resu
     ensures { IfOk result (λ none. (none ≡ true) ↔ OthersFreezeNone routines.now marks.now) }
 {
     for place in 0..routines.len() {
-        if first(routines, marks, Sought::Start(place)).is_some() {
-            let by_others = reached_from(alloc, routines, place)?;
+        if first(routines, marks, Sought::Linked(Link::Starts, place)).is_some() {
+            let by_others = reached_from(alloc, routines, Link::Names, place)?;
             if first(routines, &by_others, Sought::Frozen(None)).is_some() {
                 return Ok(false);
             }

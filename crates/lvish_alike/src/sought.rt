@@ -1,16 +1,17 @@
 ghost use Rattle.std.specs.Prelude.{◌≡◌, IfSome, IfNone, length, not, nat_eq, true};
 ghost use Rattle.std.specs.List.{slice_get, slice_index_or, filter_map};
-ghost use Rattle.lvish_alike.specs.Sought.{found_in, instruction_names, instruction_starts, instruction_freezes, wanted, is_option, IsFound, IsNowhere};
+ghost use Rattle.lvish_alike.specs.Sought.{found_in, linked, instruction_freezes, wanted, is_option, IsFound, IsNowhere};
 
+use crate::link::{Link, linked_by};
 use lvish_code::{Action, Instruction, Routine};
 
 /// What is looked for among the instructions of marked routines.
 #[derive(Clone, Copy)]
 pub enum Sought {
-    /// A routine that is named, and isn't marked.
-    Unmarked,
-    /// This routine, where another task is to run it.
-    Start(usize),
+    /// A routine to which this link leads, and which isn't marked.
+    Unmarked(Link),
+    /// This routine, where this link leads to it.
+    Linked(Link, usize),
     /// A variable that is frozen, other than this one.
     Frozen(Option<usize>),
 }
@@ -50,8 +51,8 @@ fn found_in(instruction: &Instruction, marks: &[bool], sought: Sought) -> Option
     ensures { result ≡ found_in marks.now sought instruction.now }
 {
     match sought {
-        Sought::Unmarked => unmarked(marks, named_by(instruction)),
-        Sought::Start(routine) => only(routine, started_by(instruction)),
+        Sought::Unmarked(link) => unmarked(marks, linked_by(instruction, link)),
+        Sought::Linked(link, routine) => only(routine, linked_by(instruction, link)),
         Sought::Frozen(but) => other_than(but, frozen_by(instruction)),
     }
 }
@@ -96,32 +97,8 @@ fn other_than(but: Option<usize>, named: Option<usize>) -> Option<usize>
     }
 }
 
-/// The routine that an instruction names.
-fn named_by(instruction: &Instruction) -> Option<usize>
-    ensures { result ≡ instruction_names instruction.now }
-{
-    match instruction {
-        Instruction::Ask(Action::Fork(routine, _)) => Some(*routine),
-        Instruction::Ask(Action::Handle(_, routine)) => Some(*routine),
-        Instruction::Ask(Action::Freeze(_, _, _, each)) => *each,
-        Instruction::Call(routine, _) => Some(*routine),
-        _ => None,
-    }
-}
-
-/// The routine that an instruction has run by another task.
-fn started_by(instruction: &Instruction) -> Option<usize>
-    ensures { result ≡ instruction_starts instruction.now }
-{
-    match instruction {
-        Instruction::Ask(Action::Fork(routine, _)) => Some(*routine),
-        Instruction::Ask(Action::Handle(_, routine)) => Some(*routine),
-        _ => None,
-    }
-}
-
 /// The variable that an instruction freezes.
-fn frozen_by(instruction: &Instruction) -> Option<usize>
+pub fn frozen_by(instruction: &Instruction) -> Option<usize>
     ensures { result ≡ instruction_freezes instruction.now }
 {
     match instruction {

@@ -1,2 +1,3 @@
 pub mod Moved
+mod Named
 mod Orders

@@ -1,5 +1,5 @@
 -- What the program does with words, from standard input to standard output.
-use Rattle.std.specs.Prelude.{◌≡◌, ◌≢◌, ◌⊎◌, ℕ, List, [], Option, None, true, string_bytes}
+use Rattle.std.specs.Prelude.{◌≡◌, ◌≢◌, ◌⊎◌, ℕ, List, [], Option, None, string_bytes}
 use Rattle.std.specs.Io.KnownBytes.{Appends, Keeps}
 use Rattle.lvish_syntax.specs.declared.script.Script.{Script}
 use Rattle.lvish_run.specs.declared.scripts.RunMeaning as runs
@@ -11,7 +11,7 @@ use Rattle.lvish_cli.specs.declared.order.UsageFault.{UsageFault}
 use Rattle.lvish_cli.specs.declared.order.UsageFault.TheVariants.{Help, Refused, Memory}
 use Rattle.lvish_cli.specs.declared.status.Status.{Status}
 use Rattle.lvish_cli.specs.declared.status.Status.TheVariants as status
-use Rattle.lvish_cli.specs.Orders.{IsInBounds}
+use Rattle.lvish_cli.specs.Orders.{IsInBounds, usual_run}
 use Rattle.lvish_cli.specs.Performs.{Performs}
 use Rattle.lvish_cli.specs.Streams.{TakesFront}
 
@@ -33,7 +33,7 @@ module _ (given old new : Option (List ℕ)) where
     pub order : Order
     pub source : Source
     pub within : IsInBounds order
-    pub usual : words ≡ [] → (order ≡ Run 2 100000 true) × (source ≡ StandardInput)
+    pub usual : words ≡ [] → (order ≡ Run usual_run) × (source ≡ StandardInput)
     pub performed : Performs of order (given_at given source) old new s
 
   -- what came of words: they were an order, or why they are none was told

@@ -1,7 +1,16 @@
 pub mod Answers
+pub mod Checked
 pub mod Commands
+pub mod Derivations
+pub mod Graphs
+pub mod Layouts
 pub mod Lines
 pub mod Orders
+pub mod Painted
 pub mod Performs
+pub mod Refusals
+pub mod Runs
 pub mod Statuses
 pub mod Streams
+pub mod Tries
+pub mod Why

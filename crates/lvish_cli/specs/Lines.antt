@@ -1,5 +1,7 @@
 -- The lines that the program prints where it prints no report.
-use Rattle.std.specs.Prelude.{ℕ, Bool, true, false, List, [], ◌∷◌, ◌++◌, Option, Some, None, codes, decimal}
+use Rattle.std.specs.Prelude.{ℕ, List, [], ◌∷◌, ◌++◌, Option, Some, None, codes, decimal, flat_map}
+use Rattle.lvish_json.specs.declared.alike.Alike.{Alike}
+use Rattle.lvish_json.specs.declared.alike.Alike.TheVariants.{Always, Ends, Unknown}
 
 -- the text, and the end of its line
 abbrev pub text_line : List ℕ → List ℕ
@@ -14,11 +16,16 @@ abbrev pub bound_text : Option ℕ → List ℕ
 bound_text (Some n) = text_line (codes "always ends " ++ decimal n)
 bound_text None = text_line (codes "unknown")
 
--- whether all ends of a script are the same, or that it isn't known
-abbrev pub alike_text : Bool → List ℕ
-alike_text true = text_line (codes "ends alike")
-alike_text false = text_line (codes "unknown")
+-- what is known of a script's ends: after how many steps each run has come to the same one, or whether all without an error are the same
+abbrev pub alike_text : Alike → List ℕ
+alike_text (Always n) = text_line (codes "always alike " ++ decimal n)
+alike_text Ends = text_line (codes "ends alike")
+alike_text Unknown = text_line (codes "unknown")
 
 -- a script's fault, by its number and its name, and its line
 abbrev pub refusal_text : ℕ → List ℕ → ℕ → List ℕ
 refusal_text number name line = codes "refused " ++ (decimal number ++ (codes " " ++ (name ++ (codes " line " ++ (decimal line ++ 10 ∷ [])))))
+
+-- the picks that make a run again
+abbrev pub picks_text : List ℕ → List ℕ
+picks_text picks = codes "picks" ++ (flat_map (λ n. codes " " ++ decimal n) picks ++ 10 ∷ [])

@@ -8,8 +8,9 @@ use Rattle.lvish_run.specs.declared.fault.RunFault.TheVariants as run
 use Rattle.lvish_run.specs.declared.scripts.RunMeaning as runs
 use Rattle.lvish_cli.specs.declared.order.Order.{Order}
 use Rattle.lvish_cli.specs.declared.status.Status.{Status}
-use Rattle.lvish_cli.specs.declared.status.Status.TheVariants.{Done, Blocked, Usage, Unreadable, Refused, Error, Budget, Memory, NoThread, Stopped, Mixed, Unwritten}
+use Rattle.lvish_cli.specs.declared.status.Status.TheVariants.{Done, Blocked, Differ, Absent, Usage, Unreadable, Refused, Error, Budget, Memory, NoThread, Stopped, Mixed, Unwritten}
 use Rattle.lvish_cli.specs.Answers.{IsAnswer, CanMeet}
+use Rattle.lvish_cli.specs.Orders.{AsksEvent}
 use Rattle.lvish_cli.specs.Streams.{TakesFront, text_seen}
 
 module _ (of : runs.Ghosts Script) (order : Order) (given : Option (List ℕ)) where
@@ -36,7 +37,9 @@ module _ (of : runs.Ghosts Script) (order : Order) (given : Option (List ℕ)) w
     abbrev pub Performs : Status → Type 0
     Performs Done = WritesAnswer Done
     Performs Blocked = WritesAnswer Blocked
-    Performs (Usage text) = ⊥
+    Performs Differ = WritesAnswer Differ
+    Performs Absent = WritesAnswer Absent
+    Performs (Usage text) = AsksEvent order × WritesAnswer (Usage text)
     Performs Unreadable = Keeps old new
     Performs Refused = WritesAnswer Refused
     Performs Error = WritesAnswer Error

@@ -4,12 +4,14 @@ use Rattle.lvish_run.specs.declared.fault.RunFault.{RunFault}
 use Rattle.lvish_run.specs.declared.fault.RunFault.TheVariants as run
 use Rattle.lvish_cli.specs.Lines.{text_line}
 use Rattle.lvish_cli.specs.declared.status.Status.{Status}
-use Rattle.lvish_cli.specs.declared.status.Status.TheVariants.{Done, Blocked, Usage, Unreadable, Refused, Error, Budget, Memory, NoThread, Stopped, Mixed, Unwritten}
+use Rattle.lvish_cli.specs.declared.status.Status.TheVariants.{Done, Blocked, Differ, Absent, Usage, Unreadable, Refused, Error, Budget, Memory, NoThread, Stopped, Mixed, Unwritten}
 
 -- the exit status of the process
 abbrev pub status_number : Status → ℕ
 status_number Done = 0
 status_number Blocked = 1
+status_number Differ = 1
+status_number Absent = 1
 status_number (Usage text) = 2
 status_number Unreadable = 3
 status_number Refused = 4
@@ -25,6 +27,8 @@ status_number Unwritten = 8
 abbrev pub status_message : Status → Option (List ℕ)
 status_message Done = None
 status_message Blocked = None
+status_message Differ = None
+status_message Absent = None
 status_message (Usage text) = Some (string_bytes text)
 status_message Unreadable = Some (text_line (codes "unreadable"))
 status_message Refused = None

@@ -1,8 +1,10 @@
 //! The words that the program knows, with their help.
 
-use clap::builder::ValueParser;
-use clap::{Arg, ArgAction, Command, value_parser};
-use lvish_run::{MOST_STEPS, MOST_WORKERS};
+use crate::arguments::{
+    alike, all, depth, dot, ends, file, json, numbers, picks, picks_line, seed, steps, times,
+    trace, tried_steps, variable, why, workers,
+};
+use clap::Command;
 use std::alloc::{AllocError, Global};
 
 /// The budget of a run whose words give none.
@@ -11,38 +13,86 @@ pub const USUAL_STEPS: u64 = 100_000;
 /// The number of workers of a run whose words give none.
 pub const USUAL_WORKERS: usize = 2;
 
-/// The greatest pick.
-const MOST_PICK: i64 = 1_000_000;
+/// The number of runs that are tried where words give none.
+pub const USUAL_TIMES: u64 = 100;
 
-/// The program with its three commands.
-pub fn program<'a>(alloc: Global) -> Result<Command<'a>, AllocError> {
-    Command::new(alloc, "lvish")
-        .bin_name("lvish")?
-        .no_binary_name(true)
-        .about("Runs scripts whose tasks share variables that only grow")
-        .override_usage(PROGRAM_USAGE)
-        .after_help(PROGRAM_HELP)
-        .subcommand_required(true)
-        .disable_help_subcommand(true)
-        .subcommand(check(alloc)?)?
-        .subcommand(run(alloc)?)?
-        .subcommand(pick(alloc)?)
+/// The seed of runs that are tried where words give none: always the same, so that answers are alike.
+pub const USUAL_SEED: u64 = 1;
+
+/// How many causes deep a tree is printed where words don't say.
+pub const USUAL_DEPTH: u64 = 10;
+
+/// The program with the command of this name, or with all commands where none has it. So words that name
+/// one don't wait for the others.
+pub fn program<'a>(alloc: Global, name: &str) -> Result<Command<'a>, AllocError> {
+    let program = without_commands(alloc)?;
+    match name {
+        "check" => program.subcommand(check(alloc)?),
+        "run" => program.subcommand(run(alloc)?),
+        "pick" => program.subcommand(pick(alloc)?),
+        "try" => program.subcommand(tries(alloc)?),
+        "why" => program.subcommand(derivation(alloc)?),
+        "graph" => program.subcommand(graph(alloc)?),
+        "fmt" => program.subcommand(format(alloc)?),
+        _ => with_all(alloc, program),
+    }
 }
 
+/// What the program says of itself.
+fn without_commands<'a>(alloc: Global) -> Result<Command<'a>, AllocError> {
+    Ok(
+        Command::new(alloc, "lvish")
+            .bin_name("lvish")?
+            .no_binary_name(true)
+            .version(VERSION)
+            .about("Runs scripts whose tasks share variables that only grow")
+            .override_usage(PROGRAM_USAGE)
+            .after_help(PROGRAM_HELP)
+            .subcommand_required(true)
+            .disable_help_subcommand(true),
+    )
+}
+
+/// The program with all commands.
+fn with_all<'a>(alloc: Global, program: Command<'a>) -> Result<Command<'a>, AllocError> {
+    program
+        .subcommand(check(alloc)?)?
+        .subcommand(run(alloc)?)?
+        .subcommand(pick(alloc)?)?
+        .subcommand(tries(alloc)?)?
+        .subcommand(derivation(alloc)?)?
+        .subcommand(graph(alloc)?)?
+        .subcommand(format(alloc)?)
+}
+
+/// What `--version` prints behind the name of the program.
+const VERSION: &str = "0.1.0";
+
 const PROGRAM_USAGE: &str = "lvish
-       lvish check FILE [--ends] [--alike] [--steps N]
-       lvish run FILE [--workers N] [--steps N] [--all]
-       lvish pick FILE [--steps N] [--all] [N]...";
+       lvish check FILE [--ends] [--alike] [--steps N] [--json] [--why[=no]]
+       lvish run FILE [--workers N] [--steps N] [--all] [--trace] [--picks] [--json] [--why[=no]]
+       lvish pick FILE [--steps N] [--all] [--json] [--why[=no]] [N]...
+       lvish try FILE [--times N] [--seed S] [--steps N] [--json] [--why[=no]]
+       lvish why FILE VAR [KEY] NUMBER [N]... [--steps N] [--depth N] [--dot]
+       lvish graph FILE [--dot]
+       lvish fmt FILE
+       lvish --version";
 
 const PROGRAM_HELP: &str = "\
-With no words, standard input is run as by `lvish run --all`.
+With no words, standard input is run as by `lvish run - --all`. `-` as FILE is standard input.
+
+What came of a check or a run is explained on standard error, where that is a terminal or with
+--why, and not with --why=no: why a script is refused, what stands behind an error, where tasks are
+blocked, where the steps of a used-up budget went. Colours are only for terminals, and only without
+NO_COLOR.
 
 Example:
   lvish run first.lvish --all
 
 Statuses:
-  0  the text is a script; the run ended and no task is blocked; or help was asked for
-  1  the run ended with blocked tasks
+  0  the text is a script; the run ended and no task is blocked; all runs agree; the event is there;
+     or help was asked for
+  1  the run ended with blocked tasks; runs don't agree; or the event isn't there
   2  the words are refused
   3  the script can't be opened or read
   4  the script is refused: a line says which fault it has, and where
@@ -59,7 +109,9 @@ fn check<'a>(alloc: Global) -> Result<Command<'a>, AllocError> {
         .arg(file(alloc))?
         .arg(ends(alloc))?
         .arg(alike(alloc))?
-        .arg(tries(alloc))
+        .arg(tried_steps(alloc))?
+        .arg(json(alloc))?
+        .arg(why(alloc))
 }
 
 const CHECK_HELP: &str = "\
@@ -70,9 +122,10 @@ and the number of workers, never errs and never takes more than N steps, and tha
 goes on to its end has the same report; else it is `unknown`. One run shows it, which --steps
 limits; of a script with a line `freeze` none does.
 
-With --alike a line `ends alike` follows where all runs that end without an error have the same
-report, as far as the lines of the script show it: its tasks freeze one variable at most, or no
-task but `main` freezes. Else it is `unknown`.
+With --alike one more line follows. `always alike N` says the same of a script that may freeze: its
+lines show that `main` freezes each variable after all that write to it, and one run, which --steps
+limits, shows the rest. Else `ends alike` says that all runs that end without an error have the same
+report: the tasks freeze one variable at most, or no task but `main` freezes. Else it is `unknown`.
 
 Examples:
   lvish check first.lvish
@@ -88,15 +141,23 @@ fn run<'a>(alloc: Global) -> Result<Command<'a>, AllocError> {
         .arg(file(alloc))?
         .arg(workers(alloc))?
         .arg(steps(alloc))?
-        .arg(all(alloc))
+        .arg(all(alloc))?
+        .arg(trace(alloc)?)?
+        .arg(picks_line(alloc))?
+        .arg(json(alloc))?
+        .arg(why(alloc))
 }
 
 const RUN_HELP: &str = "\
 The report has a line for each frozen variable, or for each with --all, and then
 `steps N` and `blocked N`.
 
-Example:
+With --trace the trace stands before it, as `lvish pick` prints it. With --picks the last line is
+`picks N N ..`: `lvish pick` with these numbers and the same --steps makes just this run again.
+
+Examples:
   lvish run first.lvish --steps 500 --all
+  lvish run first.lvish --workers 8 --trace --picks
 
 Statuses: 0 ended, 1 ended with blocked tasks, 3 unreadable, 4 script refused,
 5 run in error, 6 stopped by its budget, 7 memory, 8 another fault";
@@ -109,7 +170,9 @@ fn pick<'a>(alloc: Global) -> Result<Command<'a>, AllocError> {
         .arg(file(alloc))?
         .arg(picks(alloc))?
         .arg(steps(alloc))?
-        .arg(all(alloc))
+        .arg(all(alloc))?
+        .arg(json(alloc))?
+        .arg(why(alloc))
 }
 
 const PICK_HELP: &str = "\
@@ -126,69 +189,94 @@ Example:
 Statuses: 0 ended, 1 ended with blocked tasks, 3 unreadable, 4 script refused,
 5 run in error, 6 stopped by its budget, 7 memory, 8 another fault";
 
-// Each argument has a function of its own, so that a command that is refused drops no other.
-
-fn file<'a>(alloc: Global) -> Arg<'a> {
-    Arg::new(alloc, "file")
-        .value_name("FILE")
-        .help("The script")
-        .value_parser(ValueParser::NonEmptyString)
-        .required(true)
+/// The words of runs by drawn picks.
+fn tries<'a>(alloc: Global) -> Result<Command<'a>, AllocError> {
+    Command::new(alloc, "try")
+        .about("Runs a script many times by drawn picks and prints each outcome once")
+        .after_help(TRY_HELP)
+        .arg(file(alloc))?
+        .arg(times(alloc))?
+        .arg(seed(alloc))?
+        .arg(steps(alloc))?
+        .arg(json(alloc))?
+        .arg(why(alloc))
 }
 
-fn steps<'a>(alloc: Global) -> Arg<'a> {
-    Arg::new(alloc, "steps")
-        .long("steps")
-        .value_name("N")
-        .help("Stop the run after N steps, 0 to 1000000")
-        .value_parser(value_parser!(u64).range(0..=MOST_STEPS as i64))
-        .default_value("100000")
+const TRY_HELP: &str = "\
+Each outcome stands once, with how often it came and a list of few picks that gives it:
+`lvish pick` with them makes its run again. The same seed draws the same runs.
+
+Example:
+  lvish try crossing.lvish --times 1000 --seed 7
+
+Statuses: 0 all runs agree, 1 they don't, 3 unreadable, 4 script refused, 7 memory,
+8 another fault";
+
+/// The words that ask how an event came about.
+fn derivation<'a>(alloc: Global) -> Result<Command<'a>, AllocError> {
+    Command::new(alloc, "why")
+        .about("Runs a script by picks and prints how one event came about")
+        .override_usage(WHY_USAGE)
+        .after_help(WHY_HELP)
+        .arg(file(alloc))?
+        .arg(variable(alloc))?
+        .arg(numbers(alloc))?
+        .arg(steps(alloc))?
+        .arg(depth(alloc))?
+        .arg(dot(alloc))
 }
 
-fn all<'a>(alloc: Global) -> Arg<'a> {
-    Arg::new(alloc, "all")
-        .long("all")
-        .help("Report every variable, not frozen ones alone")
-        .action(ArgAction::SetTrue)
+const WHY_USAGE: &str = "lvish why FILE VAR [KEY] NUMBER [N]... [--steps N] [--depth N] [--dot]";
+
+const WHY_HELP: &str = "\
+An event of a cell, a set or a counter is its NUMBER. One of a map, a pair or a tally has a KEY
+before it: of a pair the side, 1 or 2. The numbers behind it pick the steps of the run, as of
+`lvish pick`.
+
+The tree says which put brought the event, in which task and on which line, which event started that
+task, and what it had read, and so on down to `main`. Of an event that isn't there it says which
+tasks could put it, and where they are blocked.
+
+Examples:
+  lvish why reach.lvish reached 3
+  lvish why reach.lvish link 1 2 --depth 4
+
+Statuses: 0 the event is there, 1 it isn't, 2 the script has no such variable, or a number is
+missing or too great, 3 unreadable, 4 script refused, 7 memory, 8 another fault";
+
+/// The words of a graph.
+fn graph<'a>(alloc: Global) -> Result<Command<'a>, AllocError> {
+    Command::new(alloc, "graph")
+        .about("Prints what each procedure of a script does")
+        .after_help(GRAPH_HELP)
+        .arg(file(alloc))?
+        .arg(dot(alloc))
 }
 
-fn ends<'a>(alloc: Global) -> Arg<'a> {
-    Arg::new(alloc, "ends")
-        .long("ends")
-        .help("Say as well whether all runs of the script end")
-        .action(ArgAction::SetTrue)
+const GRAPH_HELP: &str = "\
+Below the name of each procedure stands what it does: which variables it puts into, reads and
+freezes, for which pools it waits, which procedures it forks and calls, and by which it handles a
+pool.
+
+Example:
+  lvish graph reach.lvish --dot
+
+Statuses: 0 printed, 3 unreadable, 4 script refused, 7 memory, 8 another fault";
+
+/// The words of a layout.
+fn format<'a>(alloc: Global) -> Result<Command<'a>, AllocError> {
+    Command::new(alloc, "fmt")
+        .about("Prints a text in one layout")
+        .after_help(FORMAT_HELP)
+        .arg(file(alloc))
 }
 
-fn alike<'a>(alloc: Global) -> Arg<'a> {
-    Arg::new(alloc, "alike")
-        .long("alike")
-        .help("Say as well whether all ends of the script are the same")
-        .action(ArgAction::SetTrue)
-}
+const FORMAT_HELP: &str = "\
+One space stands between words, and two for each open block and procedure. Comments and empty lines
+stay. The printed text spells the same script, or has the same fault on the same line.
 
-fn tries<'a>(alloc: Global) -> Arg<'a> {
-    Arg::new(alloc, "steps")
-        .long("steps")
-        .value_name("N")
-        .help("Try so many steps for --ends, 0 to 1000000")
-        .value_parser(value_parser!(u64).range(0..=MOST_STEPS as i64))
-        .default_value("100000")
-}
+Example:
+  lvish fmt first.lvish
 
-fn workers<'a>(alloc: Global) -> Arg<'a> {
-    Arg::new(alloc, "workers")
-        .long("workers")
-        .value_name("N")
-        .help("How many workers run the script, 1 to 8")
-        .value_parser(value_parser!(u64).range(1..=MOST_WORKERS as i64))
-        .default_value("2")
-}
-
-fn picks<'a>(alloc: Global) -> Arg<'a> {
-    Arg::new(alloc, "picks")
-        .value_name("N")
-        .help("Which of the enabled steps is made, in turn, 0 to 1000000")
-        .value_parser(value_parser!(u64).range(0..=MOST_PICK))
-        .num_args(0..)
-        .action(ArgAction::Append)
-}
+Statuses: 0 printed, 3 unreadable, 4 the text, or the printed one, is too long for a script,
+7 memory, 8 another fault";

@@ -2,22 +2,38 @@
 #![tactic(auto)]
 
 mod answering;
+mod arguments;
+mod checking;
 mod commands;
+mod explaining;
+mod graphing;
+mod layout;
 mod lines;
 mod order;
+mod output;
 mod performing;
 mod program;
 mod reading;
+mod refusing;
 mod running;
+mod seeking;
 mod status;
+mod telling;
+mod trying;
 mod words;
 mod writing;
 
-pub use answering::{Output, answer_to};
-pub use order::{Order, Picks, Source, UsageFault};
+pub use answering::answer_to;
+pub use explaining::{why_of_text, why_read};
+pub use order::{
+    CheckOrder, GraphOrder, Numbers, Order, PickOrder, Picks, RunOrder, Source, TryOrder,
+    UsageFault, WhyOrder,
+};
+pub use output::Output;
 pub use performing::perform;
-pub use program::{command, command_with};
+pub use program::{Ending, command, command_told, command_with};
 pub use reading::{MOST_READ, ReadFault, read_text};
 pub use status::Status;
+pub use telling::Hearer;
 pub use words::order_of;
 pub use writing::{WriteFault, write_text};

@@ -1,6 +1,7 @@
 ghost use Rattle.std.specs.Prelude.{◌≡◌, IfOk, string_bytes};
-ghost use Rattle.lvish_cli.specs.Lines.{ok_text, bound_text, alike_text, refusal_text};
+ghost use Rattle.lvish_cli.specs.Lines.{ok_text, bound_text, alike_text, refusal_text, picks_text};
 
+use lvish_json::Alike;
 use std::alloc::{AllocError, Global};
 
 /// `ok`, for a script without a fault.
@@ -20,11 +21,16 @@ pub fn bound_line(alloc: Global, bound: Option<u64>) -> Result<String, AllocErro
     }
 }
 
-/// `ends alike`, for a script of which all ends without an error are the same, or `unknown`.
-pub fn alike_line(alike: bool) -> &'static str
-    ensures { result.now ≡ alike_text alike }
+/// What is known of all ends: `always alike N` of a script whose runs have all come to the same end
+/// after N steps, `ends alike` of one of which all ends without an error are the same, or `unknown`.
+pub fn alike_line(alloc: Global, alike: Alike) -> Result<String, AllocError>
+    ensures { IfOk result (λ text. string_bytes text ≡ alike_text alike) }
 {
-    if alike { "ends alike\n" } else { "unknown\n" }
+    match alike {
+        Alike::Always(steps) => format!(in alloc; "always alike {steps}\n"),
+        Alike::Ends => String::from_str(alloc, "ends alike\n"),
+        Alike::Unknown => String::from_str(alloc, "unknown\n"),
+    }
 }
 
 /// `refused NUMBER NAME line L`, for a script's fault and the line on which it is.
@@ -37,4 +43,16 @@ pub fn refusal_line(
     ensures { IfOk result (λ text. string_bytes text ≡ refusal_text number name.now line) }
 {
     format!(in alloc; "refused {number} {name} line {line}\n")
+}
+
+/// `picks N N ..`, for the picks that make a run again.
+pub fn picks_line(alloc: Global, picks: &[u64]) -> Result<String, AllocError>
+    ensures { IfOk result (λ text. string_bytes text ≡ picks_text picks.now) }
+{
+    let mut text = String::from_str(alloc, "picks")?;
+    for pick in picks {
+        text.push_str(format!(in alloc; " {pick}")?.as_str())?;
+    }
+    text.push('\n')?;
+    Ok(text)
 }

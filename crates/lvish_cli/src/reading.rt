@@ -3,17 +3,18 @@ ghost use Rattle.std.specs.Io.KnownBytes.{Consumes, IsAtEnd, Keeps};
 ghost use Rattle.lvish_cli.specs.Streams.{GivesUpTo, text_seen};
 
 use std::alloc::Global;
-use std::io::Read;
+use std::io::{Error as IoError, Read};
 use thiserror::Error;
 
 /// The most bytes that are read: one more than a script may have, so that a longer text is noticed.
 pub const MOST_READ: usize = 65_537;
 
 /// Why no text came from a reader.
-#[derive(Clone, Copy, Debug, PartialEq, Eq, Error)]
+#[derive(Clone, Copy, Debug, Error)]
 pub enum ReadFault {
+    /// A read failed, and the system said this.
     #[error("unreadable")]
-    Unreadable,
+    Unreadable(IoError),
     #[error("memory")]
     Memory,
 }
@@ -67,14 +68,14 @@ fn fill<R: Read>(reader: &mut R, buffer: &mut [u8]) -> Result<usize, ReadFault>
         filled < length buffer.new → IsAtEnd (R.remaining reader.new)) }
     ensures err { OnErr result
         (GivesUpTo (length buffer.new) (R.remaining reader.old) (R.remaining reader.new)) }
-    ensures unreadable { OnErr result (IsErrOf result ReadFault.Unreadable) }
+    ensures unreadable { IsErrOf result ReadFault.Memory → ⊥ }
 {
     let mut filled = 0;
     while filled < buffer.len() {
         match reader.read(&mut buffer[filled..]) {
             Ok(0) => break,
             Ok(count) => filled += count,
-            Err(_) => return Err(ReadFault::Unreadable),
+            Err(error) => return Err(ReadFault::Unreadable(error)),
         }
     }
     Ok(filled)

@@ -1,11 +1,19 @@
-ghost use Rattle.std.specs.Prelude.{◌<◌, ◌≤◌, ◌≡◌, ◌≢◌, Err, IfOk, length, string_bytes};
+ghost use Rattle.std.specs.Prelude.{◌<◌, ◌≤◌, ◌≡◌, ◌≢◌, Err, IfOk, length, option_map, string_bytes};
+ghost use Rattle.lvish_again.specs.Again.{IsCoreRun};
+ghost use Rattle.lvish_run.specs.Scripts.{script_machine};
+ghost use Rattle.lvish_trace.specs.Traced.{labels_of};
 ghost use Rattle.lvish_trace.specs.declared.outcome.Outcome.TheVariants.{Ended};
 ghost use Rattle.lvish_report.specs.Text.{variables_of};
-ghost use Rattle.lvish_cli.specs.Answers.{outcome_status, IsReportAnswer, IsRunAnswer, IsPickAnswer};
+ghost use Rattle.lvish_cli.specs.Runs.{ArePicksKnown, IsPickAnswer, IsReportText, IsRunAnswer, outcome_status, traced_text};
 
-use crate::answering::Output;
+use crate::lines::picks_line;
+use crate::order::{PickOrder, RunOrder};
+use crate::output::Output;
 use crate::status::Status;
+use lvish_again::laws::reports_are_core_runs;
+use lvish_again::picks_of;
 use lvish_compound::{Any, Event};
+use lvish_json::report_json;
 use lvish_run::{
     MOST_STEPS, MOST_WORKERS, Open, Outcome, Report, RunFault, RunMeaning, report_text, run,
     run_picks, trace_text,
@@ -15,67 +23,125 @@ use std::alloc::{AllocError, Global};
 use std::sync::Wait;
 use std::thread::Threads;
 
-/// The answer to a script that this many workers run.
+/// The answer to a script that workers run.
 pub fn run_answer<R: Threads + Wait + Sync>(
     rt: &R,
     alloc: Global,
     script: &Script,
-    workers: usize,
-    budget: u64,
-    all: bool,
+    asked: &RunOrder,
 ) -> Result<Output, RunFault>
-    requires some { 0 < workers }
-    requires few { workers ≤ MOST_WORKERS }
-    requires bounded { budget ≤ MOST_STEPS }
+    requires some { 0 < asked.now.workers }
+    requires few { asked.now.workers ≤ MOST_WORKERS }
+    requires bounded { asked.now.budget ≤ MOST_STEPS }
     ensures ok { IfOk result (λ answer.
-        IsRunAnswer ⟦<Script as RunMeaning>⟧.is_run script.now workers budget all answer.status (string_bytes answer.text)) }
+        IsRunAnswer ⟦<Script as RunMeaning>⟧.is_run script.now asked.now answer.status answer.text.items) }
     ensures patient { result ≢ Err RunFault.Stopped }
-    ensures alone { workers ≡ 1 → result ≢ Err RunFault.NoThread }
+    ensures whole { result ≢ Err RunFault.Mixed }
+    ensures alone { asked.now.workers ≡ 1 → result ≢ Err RunFault.NoThread }
 {
-    let report = run(rt, alloc, script, workers, budget, &Open)?;
-    Ok(report_answer(alloc, script, report, all)?)
+    let report = run(rt, alloc, script, asked.workers, asked.budget, &Open)?;
+    reports_are_core_runs();
+    let picks = picks_asked(alloc, script, &report, asked.picks)?;
+    let (json, all, trace) = (asked.json, asked.all, asked.trace);
+    let text = told_text(alloc, script, &report, json, all, trace, slice_of(&picks))?;
+    Ok(report_output(text, report))
+}
+
+/// The picks that make the report's run again, where they are asked for.
+fn picks_asked(
+    alloc: Global,
+    script: &Script,
+    report: &Report<Any, Event>,
+    asked: bool,
+) -> Result<Option<Vec<u64>>, AllocError>
+    requires { IsCoreRun (script_machine script.now) (labels_of report.now.trace) }
+    ensures { IfOk result (λ picks. ArePicksKnown asked script.now report.now (option_map (λ v. v.items) picks)) }
+{
+    if !asked {
+        return Ok(None);
+    }
+    match picks_of(alloc, script, report)? {
+        Some(picks) => Ok(Some(picks)),
+        None => unreachable!(),
+    }
+}
+
+/// The numbers that a vector holds, if there is one.
+fn slice_of(numbers: &Option<Vec<u64>>) -> Option<&[u64]>
+    ensures { option_map (λ p. p.now) result ≡ option_map (λ v. v.items) numbers.now }
+{
+    match numbers {
+        Some(numbers) => Some(numbers.as_slice()),
+        None => None,
+    }
+}
+
+/// What is said of a report: as JSON, of every variable, with its trace before it, each where it is asked
+/// for; and with the picks that are given behind it.
+fn told_text(
+    alloc: Global,
+    script: &Script,
+    report: &Report<Any, Event>,
+    json: bool,
+    all: bool,
+    trace: bool,
+    picks: Option<&[u64]>,
+) -> Result<Vec<u8>, AllocError>
+    requires { report.now.outcome ≡ Ended → length report.now.states ≡ length (variables_of script.now.declarations) }
+    ensures { IfOk result (λ text. IsReportText json script.now report.now all trace (option_map (λ p. p.now) picks.entry) text.items) }
+{
+    if json {
+        return report_json(alloc, script, report, picks);
+    }
+    let mut text = traced_text(alloc, script, report, all, trace)?;
+    if let Some(picks) = picks {
+        text.push_str(picks_line(alloc, picks)?.as_str())?;
+    }
+    Ok(text.into_bytes())
 }
 
 /// The answer to a script that is run by picks: the trace comes before the text of the report.
-pub fn pick_answer(
-    alloc: Global,
-    script: &Script,
-    picks: &[u64],
-    budget: u64,
-    all: bool,
-) -> Result<Output, AllocError>
-    requires { budget ≤ MOST_STEPS }
+pub fn pick_answer(alloc: Global, script: &Script, asked: &PickOrder) -> Result<Output, AllocError>
+    requires { asked.now.budget ≤ MOST_STEPS }
     ensures { IfOk result (λ answer.
-        IsPickAnswer ⟦<Script as RunMeaning>⟧.is_picked_run script.now picks.now budget all answer.status (string_bytes answer.text)) }
+        IsPickAnswer ⟦<Script as RunMeaning>⟧.is_picked_run script.now asked.now answer.status answer.text.items) }
 {
-    let report = run_picks(alloc, script, picks, budget)?;
-    let mut text = trace_text(alloc, &report)?;
-    let answer = report_answer(alloc, script, report, all)?;
-    text.push_str(answer.text.as_str())?;
-    Ok(Output {
-        status: answer.status,
-        text,
-        report: answer.report,
-    })
+    let report = run_picks(alloc, script, asked.picks.as_slice(), asked.budget)?;
+    let text = told_text(alloc, script, &report, asked.json, asked.all, true, None)?;
+    Ok(report_output(text, report))
 }
 
-/// What is said of a report, and with which status.
-fn report_answer(
+/// The text of a report, and before it that of its trace where it is asked for.
+fn traced_text(
     alloc: Global,
     script: &Script,
-    report: Report<Any, Event>,
+    report: &Report<Any, Event>,
     all: bool,
-) -> Result<Output, AllocError>
-    requires { report.outcome ≡ Ended → length report.states ≡ length (variables_of script.now.declarations) }
-    ensures { IfOk result (λ answer.
-        IsReportAnswer script.now all report answer.status (string_bytes answer.text)) }
+    trace: bool,
+) -> Result<String, AllocError>
+    requires { report.now.outcome ≡ Ended → length report.now.states ≡ length (variables_of script.now.declarations) }
+    ensures { IfOk result (λ text. string_bytes text ≡ traced_text script.now report.now all trace) }
 {
-    let text = report_text(alloc, script, &report, all)?;
-    Ok(Output {
+    let told = report_text(alloc, script, report, all)?;
+    if !trace {
+        return Ok(told);
+    }
+    let mut text = trace_text(alloc, report)?;
+    text.push_str(told.as_str())?;
+    Ok(text)
+}
+
+/// The text, with the report that it tells of and its status.
+fn report_output(text: Vec<u8>, report: Report<Any, Event>) -> Output
+    ensures status { result.status ≡ outcome_status report.blocked report.outcome }
+    ensures text { result.text ≡ text }
+{
+    Output {
         status: status_of(&report),
         text,
+        script: None,
         report: Some(report),
-    })
+    }
 }
 
 /// The status that goes with a report.

@@ -11,6 +11,10 @@ pub enum Status {
     Done,
     /// The run ended with blocked tasks.
     Blocked,
+    /// Runs that were tried came to different ends.
+    Differ,
+    /// The event isn't there.
+    Absent,
     /// The words are refused, with the text that says why.
     Usage(String),
     /// The script can't be opened or read.
@@ -40,6 +44,8 @@ impl Drop for Status {
             Status::Usage(_) => {}
             Status::Done
             | Status::Blocked
+            | Status::Differ
+            | Status::Absent
             | Status::Unreadable
             | Status::Refused
             | Status::Error
@@ -60,7 +66,7 @@ impl Status {
     {
         match self {
             Status::Done => 0,
-            Status::Blocked => 1,
+            Status::Blocked | Status::Differ | Status::Absent => 1,
             Status::Usage(_) => 2,
             Status::Unreadable => 3,
             Status::Refused => 4,
@@ -84,6 +90,8 @@ impl Status {
             Status::Mixed => Some("mixed\n"),
             Status::Done
             | Status::Blocked
+            | Status::Differ
+            | Status::Absent
             | Status::Refused
             | Status::Error
             | Status::Budget

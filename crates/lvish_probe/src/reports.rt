@@ -25,12 +25,13 @@ pub fn report_of(
 }
 
 fn report_by(alloc: Global, order: &Order, script: &[u8]) -> Result<ProbeAnswer, AllocError> {
-    let Order::Pick { picks, budget, .. } = order else {
+    let Order::Pick(asked) = order else {
         return misuse(alloc, "no pick\n");
     };
     match read_script(alloc, script) {
         Ok(script) => {
-            let report = run_picks(alloc, &script, picks.as_slice(), (*budget).min(MOST_PICKED))?;
+            let budget = asked.budget.min(MOST_PICKED);
+            let report = run_picks(alloc, &script, asked.picks.as_slice(), budget)?;
             Ok(done(report_line(alloc, &report)?))
         }
         Err(refused) => refusal(alloc, &refused),

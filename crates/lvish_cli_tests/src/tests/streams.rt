@@ -4,7 +4,7 @@ ghost use Rattle.std.specs.Prelude.{◌<◌, ◌≤◌};
 
 use super::fakes::{LongReader, Refusal, ShortWriter, SlowReader};
 use super::{COUNTING, willing};
-use lvish_cli::{Order, Picks, Status, perform};
+use lvish_cli::{CheckOrder, Order, PickOrder, Picks, RunOrder, Status, perform};
 use std::alloc::{AllocError, Global};
 use std::io::{ErrorKind, Read};
 use std::sync::Wait;
@@ -51,11 +51,12 @@ fn end<T: Threads + Wait + Sync, R: Read>(
 ) -> Status {
     match asked {
         StreamsAsked::Check => {
-            let order = Order::Check {
+            let order = Order::Check(CheckOrder {
                 ends: true,
                 alike: true,
                 budget: 100,
-            };
+                json: false,
+            });
             perform(rt, alloc, &order, reader, writer)
         }
         StreamsAsked::Alone => run(rt, alloc, 1, reader, writer),
@@ -74,11 +75,14 @@ fn run<T: Threads + Wait + Sync, R: Read>(
     requires some { 0 < workers }
     requires few { workers ≤ 8 }
 {
-    let order = Order::Run {
+    let order = Order::Run(RunOrder {
         workers,
         budget: 100_000,
         all: true,
-    };
+        trace: false,
+        picks: false,
+        json: false,
+    });
     perform(rt, alloc, &order, reader, writer)
 }
 
@@ -88,11 +92,12 @@ fn pick<T: Threads + Wait + Sync, R: Read>(
     reader: &mut R,
     writer: &mut ShortWriter,
 ) -> Status {
-    let order = Order::Pick {
+    let order = Order::Pick(PickOrder {
         picks: Picks::from(Vec::new(alloc)),
         budget: 100_000,
         all: false,
-    };
+        json: false,
+    });
     perform(rt, alloc, &order, reader, writer)
 }
 

@@ -10,6 +10,7 @@ use crate::replayed::replay_question::{MOST_REPLAYED, ReplayQuestion};
 use crate::replayed::retracing::retrace;
 use lvish_compound::{Any, Event};
 use lvish_core::Core;
+use lvish_lattice::Plain;
 use lvish_names::TaskName;
 use lvish_run::{Gate, Open, Report, RunFault, TraceEntry, run, run_picks, trace_text};
 use lvish_syntax::Script;
@@ -24,7 +25,7 @@ impl Gate for Crowd {
 
     ghost patient = { true };
 
-    fn enter(&self, _worker: usize, _task: &TaskName<Event>) {}
+    fn enter<E: Plain>(&self, _worker: usize, _task: &TaskName<E>) {}
 
     fn idle(&self, _worker: usize) -> bool {
         true
@@ -74,7 +75,7 @@ fn run_by_picks(
 }
 
 /// The run by so many workers at this gate.
-fn run_by<R: Host, G: Gate>(
+fn run_by<R: Host, G: Gate + Sync>(
     rt: &R,
     script: &Script,
     workers: usize,
@@ -106,7 +107,7 @@ impl<'s> Runs<'s> {
     }
 
     /// Replays the run by so many workers at this gate.
-    fn by<R: Host, G: Gate>(
+    fn by<R: Host, G: Gate + Sync>(
         &self,
         rt: &R,
         workers: usize,

@@ -1,4 +1,4 @@
-use Rattle.std.proofs.Common.{◌≤◌, string_bytes, subst}
+use Rattle.std.proofs.Common.{◌≤◌, subst}
 use Rattle.std.proofs.KnownBytes.{Keeps-refl}
 use Rattle.lvish_run.specs.contracts.scripts.ScriptRunMeaning.TheImpl.{ghosts}
 use Rattle.lvish_cli.specs.declared.reading.TheConstants.{MOST_READ}
@@ -11,7 +11,7 @@ returns-in-Err-clause-performs g c = rw c.unanswered.ensures (failed ghosts c.ar
 
 pub returns-clause-performs : goal.returns-clause-performs
 returns-clause-performs g c = answered ghosts c.args.order.now (g.R.Read.remaining c.args.reader.now) (g.W.Write.contents c.args.writer.now) (g.W.Write.contents c.write_answer.new.writer)
-    c.in-Ok.input.items c.in-Ok.ensures.given c.in-Ok-answer_to.answer.status c.write_answer.result (string_bytes c.in-Ok-answer_to.answer.text) (rw c.as_slice.ensures.value at c.in-Ok-answer_to.ensures.ok) (rw c.as_bytes.ensures.value at c.write_answer.ensures)
+    c.in-Ok.input.items c.in-Ok.ensures.given c.in-Ok-answer_to.answer.status c.write_answer.result c.in-Ok-answer_to.answer.text.items (rw c.as_slice.ensures.value at c.in-Ok-answer_to.ensures.ok) (rw c.as_slice-2.ensures.value at c.write_answer.ensures)
 
 pub returns-clause-reads : goal.returns-clause-reads
 returns-clause-reads g c = (c.in-Ok.input.items, subst (λ n. n ≤ MOST_READ) c.in-Ok.input.ok.0 c.in-Ok.ensures.most, c.in-Ok.ensures.consumed)
