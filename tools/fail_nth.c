@@ -1,7 +1,7 @@
 /* A heap that stands before the C library's, and refuses one growth: for tools/refused_growths, which
    builds it with the kit's compiler and has it loaded before a program. So no header is read.
 
-   A growth is a call of malloc, calloc or realloc. Which one is refused, and the counts, stand in the
+   A growth is a call of malloc, calloc or realloc, or the start of a thread. Which one is refused, and the counts, stand in the
    file that the environment's FAIL_NTH names, so that they are there however the program ends. */
 
 typedef unsigned long size;
@@ -14,8 +14,9 @@ int open(const char *path, int flags, ...);
 int *__errno_location(void);
 char *getenv(const char *name);
 void *mmap(void *at, size bytes, int rights, int how, int file, long offset);
+void *dlsym(void *from, const char *name);
 
-enum { NO_MEMORY = 12, READ_WRITE = 2, SHARED = 1 };
+enum { TRY_AGAIN = 11, NO_MEMORY = 12, READ_WRITE = 2, SHARED = 1 };
 
 struct counts {
   long growths; /* asked for */
@@ -80,4 +81,12 @@ void free(void *block) {
   if (block)
     __atomic_sub_fetch(&counts->held, 1, __ATOMIC_SEQ_CST);
   __libc_free(block);
+}
+
+/* The C library's own, which stands behind this one. */
+int pthread_create(unsigned long *thread, const void *how, void *(*begin)(void *), void *with) {
+  if (is_refused())
+    return TRY_AGAIN;
+  int (*own)(unsigned long *, const void *, void *(*)(void *), void *) = dlsym((void *)-1, "pthread_create");
+  return own(thread, how, begin, with);
 }

@@ -74,6 +74,8 @@ def calls_of(question):
         asked = [("pick", file, "--all", *it) for it in ([], *map(picks_of, range(LISTS)))]
     elif first == "often":
         asked = [(*words[1:], "--workers", it) for it in WORKERS for _ in range(OFTEN)]
+    elif first == "said":
+        asked = [words[1:]]
     elif first == "run" and "--workers" not in words:
         asked = [words, *([*words, "--workers", it] for it in WORKERS)]
     else:
@@ -88,6 +90,8 @@ def answer_to(question, rans):
         return 0, stretches([it.status for it in rans])
     if first == "lists":
         return 0, ends(rans)
+    if first == "said":
+        return rans[0].status, rans[0].text + rans[0].said
     usual = rans[0]
     other = next((it for it in rans if it[:2] != usual[:2]), None)
     text = usual.text
