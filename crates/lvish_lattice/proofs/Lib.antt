@@ -1,3 +1,4 @@
 pub mod Puts
 pub mod Rows
+pub mod Several
 pub mod Top

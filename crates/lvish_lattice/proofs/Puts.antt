@@ -87,3 +87,8 @@ module _ {K : Type 0} {R : K → K → Ordering} (o : IsTotalOrder R) where
   -- lists of which the same is a member contain the same
   pub members_there : ((x y : K) → R x y ≡ Equal → x ≡ y) → (xs ys : List K) → ((q : K) → is_member (eq_by_cmp R) xs q ≡ is_member (eq_by_cmp R) ys q) → (x : K) → Contains xs x → Contains ys x
   members_there same xs ys h x m = Contains-from_any (λ a b t. same a b ((Equal-is (R a b)).0 t)) x ys (sym (h x) ∙ list_any-from_Contains (eq_by_cmp_equiv o) x xs m)
+
+-- what a put of several leaves
+pub all_stay_rising : {K A E : Type 0} {R : K → K → Ordering} (o : IsTotalOrder R) (put old new : List K) (r : Result A E) → IfOk r (λ _. new ≡ sorted_merge R true put old) → IfErr r (λ _. new ≡ old) → IsStrictlySortedBy R put → IsStrictlySortedBy R old → IsStrictlySortedBy R new
+all_stay_rising {R = R} o put old new (Ok a) done refused t s = subst (IsStrictlySortedBy R) (sym done) (merge_rises o put old t s)
+all_stay_rising {R = R} o put old new (Err e) done refused t s = subst (IsStrictlySortedBy R) (sym refused) s

@@ -25,16 +25,17 @@ module _ {K : Type 0} {R : K → K → Ordering} (o : IsTotalOrder R) where
   back_less : (x y : K) → R x y ≡ Less → R y x ≡ Greater
   back_less x y h = o.antisymm y x ∙ ap ordering_reverse h
 
-  abbrev AllBelow : K → List K → Type 0
+  -- all are below this one
+  abbrev pub AllBelow : K → List K → Type 0
   AllBelow x xs = AllByRecursion (λ y. R y x ≡ Less) xs
 
-  all_below : (x : K) (xs : List K) → IsStrictlySortedBy R xs → EndsBelow R x xs → AllBelow x xs
+  pub all_below : (x : K) (xs : List K) → IsStrictlySortedBy R xs → EndsBelow R x xs → AllBelow x xs
   unfolding IsStrictlySortedBy
   all_below x [] s e = tt
   all_below x (y ∷ []) s e = (e, tt)
   all_below x (y ∷ z ∷ zs) s e = let rest = all_below x (z ∷ zs) s.1 (simp unary_clauses (simp unary_clauses at e)) in (o.trans y z x s.0.0 rest.0, rest)
 
-  behind_all : (x : K) (xs : List K) → AllBelow x xs → sorted_merge R true (x ∷ []) xs ≡ xs ++ x ∷ []
+  pub behind_all : (x : K) (xs : List K) → AllBelow x xs → sorted_merge R true (x ∷ []) xs ≡ xs ++ x ∷ []
   behind_all x [] h = refl
   behind_all x (y ∷ ys) h = ap (λ r. match_ordering r (x ∷ y ∷ ys) (x ∷ ys) (y ∷ sorted_merge R true (x ∷ []) ys)) (back_less y x h.0) ∙ ap (λ zs. y ∷ zs) (behind_all x ys h.1)
 

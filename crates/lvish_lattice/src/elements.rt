@@ -1,14 +1,14 @@
 ghost use Rattle.std.specs.Prelude.{◌≡◌, ◌↔◌, not, IfOk, IfErr, IsTrue, Contains, MatchOption, [], ◌∷◌, true, filter, length, ⊤};
-ghost use Rattle.std.specs.BTreeSet.{IsFromIterResult};
 ghost use Rattle.std.specs.Cmp.Lexicographic.{pointwise};
 ghost use Rattle.std.specs.Set.{sorted_merge, is_member};
 ghost use Rattle.std.specs.List.Sorted.{IsStrictlySortedBy};
-ghost use Rattle.lvish_lattice.specs.Elements.{few, elements};
+ghost use Rattle.lvish_lattice.specs.Elements.{few, elements, AreApart};
 
 use crate::lattice::Plain;
 use crate::ranked::Ranked;
 use crate::row::Row;
 use crate::set_iter::SetIter;
+use crate::trees::{put_all_in_tree, put_in_tree, tree_copy, tree_of_row, tree_of_two};
 use std::alloc::{AllocError, Global};
 use std::cmp::Ordering;
 use std::collections::BTreeSet;
@@ -58,39 +58,6 @@ impl<V: Ord> Model for Elements<V> {
     ghost view = { λ s. elements s.stored };
 }
 
-/// Puts the value in its place in the tree.
-fn put_in_tree<V: Plain>(tree: &mut BTreeSet<Ranked<V>>, x: V) -> Result<bool, AllocError>
-    ensures added { IfOk result (λ added. added ≡ not (is_member V.eq tree.old.keys x)) }
-    ensures put { IfOk result (λ _. tree.new.keys ≡ sorted_merge V.cmp true (x ∷ []) tree.old.keys) }
-    ensures refused { IfErr result (λ _. tree.new ≡ tree.old) }
-{
-    let added = tree.insert(Ranked::new(x))?;
-    Ok(added)
-}
-
-/// A tree of two elements.
-fn tree_of_two<V: Plain>(alloc: Global, x: V, y: V) -> Result<BTreeSet<Ranked<V>>, AllocError>
-    ensures { IfOk result (λ t. t.keys ≡ sorted_merge V.cmp true (x ∷ []) (y ∷ [])) }
-{
-    let mut tree = BTreeSet::new(alloc);
-    put_in_tree(&mut tree, y)?;
-    put_in_tree(&mut tree, x)?;
-    Ok(tree)
-}
-
-/// A tree of the elements of a row.
-fn tree_of_row<V: Plain>(alloc: Global, row: &Row<V>) -> Result<BTreeSet<Ranked<V>>, AllocError>
-    ensures made { IfOk result (λ t. IsFromIterResult V.cmp row.now t) }
-    ensures ascending { IsStrictlySortedBy V.cmp row.now }
-{
-    let ranked = row.as_slice().iter().map(
-        |x| -> Ranked<V>
-            ensures { result ≡ x.now }
-        { Ranked::new(*x) },
-    );
-    ranked.collect::<BTreeSet<Ranked<V>>>(alloc)
-}
-
 /// A row with an element that doesn't come behind the others.
 fn broken<V: Plain>(alloc: Global, row: &Row<V>, x: V) -> Result<Stored<V>, AllocError>
     ensures { IfOk result (λ s. elements s ≡ sorted_merge V.cmp true (x ∷ []) row.now) }
@@ -98,6 +65,43 @@ fn broken<V: Plain>(alloc: Global, row: &Row<V>, x: V) -> Result<Stored<V>, Allo
     let mut tree = tree_of_row(alloc, row)?;
     put_in_tree(&mut tree, x)?;
     Ok(Stored::Tree(Box::new(alloc, tree)?))
+}
+
+/// A row with elements that don't come behind the others.
+fn broken_by_all<V: Plain>(
+    alloc: Global,
+    row: &Row<V>,
+    missing: &[V],
+) -> Result<Stored<V>, AllocError>
+    requires values { IsStrictlySortedBy V.cmp missing.now }
+    requires apart { AreApart V.cmp row.now missing.now }
+    ensures { IfOk result (λ s. elements s ≡ sorted_merge V.cmp true missing.now row.now) }
+{
+    let mut tree = tree_of_row(alloc, row)?;
+    put_all_in_tree(&mut tree, missing)?;
+    Ok(Stored::Tree(Box::new(alloc, tree)?))
+}
+
+/// A row of the first elements.
+fn first_row<V: Plain>(alloc: Global, values: Vec<V>) -> Result<Stored<V>, AllocError>
+    requires { IsStrictlySortedBy V.cmp values.items }
+    ensures { IfOk result (λ s. elements s ≡ sorted_merge V.cmp true values.items []) }
+{
+    Ok(Stored::Row(Row::of(alloc, values)?))
+}
+
+/// One element, with others.
+fn spread<V: Plain>(alloc: Global, x: V, missing: &[V]) -> Result<Stored<V>, AllocError>
+    requires values { IsStrictlySortedBy V.cmp missing.now }
+    requires apart { AreApart V.cmp (x ∷ []) missing.now }
+    ensures { IfOk result (λ s. elements s ≡ sorted_merge V.cmp true missing.now (x ∷ [])) }
+{
+    let mut row = Row::of_one(alloc, x)?;
+    if row.goes_on(missing) {
+        row.push_all(missing)?;
+        return Ok(Stored::Row(row));
+    }
+    broken_by_all(alloc, &row, missing)
 }
 
 /// One element, with another.
@@ -112,17 +116,6 @@ fn grown<V: Plain>(alloc: Global, y: V, x: V) -> Result<Stored<V>, AllocError>
             Ok(Stored::Tree(Box::new(alloc, tree)?))
         }
     }
-}
-
-/// A tree of the same elements.
-fn tree_copy<V: Plain>(
-    alloc: Global,
-    tree: &BTreeSet<Ranked<V>>,
-) -> Result<BTreeSet<Ranked<V>>, AllocError>
-    ensures made { IfOk result (λ t. IsFromIterResult V.cmp tree.now.keys t) }
-    ensures ascending { IsStrictlySortedBy V.cmp tree.now.keys }
-{
-    tree.iter().copied().collect::<BTreeSet<Ranked<V>>>(alloc)
 }
 
 impl<V: Plain> Elements<V> {
@@ -218,15 +211,35 @@ impl<V: Plain> Elements<V> {
         Ok(true)
     }
 
-    /// Puts all of the others in their places.
-    fn put_all(&mut self, alloc: Global, others: &Elements<V>) -> Result<(), AllocError>
+    /// Puts all of the others in their places, or none of them.
+    pub fn put_all(&mut self, alloc: Global, others: &Elements<V>) -> Result<(), AllocError>
         requires first { IsStrictlySortedBy V.cmp self.old }
         requires second { IsStrictlySortedBy V.cmp others.now }
-        ensures { IfOk result (λ _. self.new ≡ sorted_merge V.cmp true others.now self.old) }
+        ensures put { IfOk result (λ _. self.new ≡ sorted_merge V.cmp true others.now self.old) }
+        ensures refused { IfErr result (λ _. self.new ≡ self.old) }
     {
-        for x in others.iter() {
-            self.put(alloc, *x)?;
+        let missing = self.beyond(alloc, others)?;
+        if missing.is_empty() {
+            return Ok(());
         }
+        self.put_missing(alloc, missing)
+    }
+
+    /// Puts ascending values, of which none is there, in their places, or none of them.
+    fn put_missing(&mut self, alloc: Global, missing: Vec<V>) -> Result<(), AllocError>
+        requires ascending { IsStrictlySortedBy V.cmp self.old }
+        requires values { IsStrictlySortedBy V.cmp missing.items }
+        requires apart { AreApart V.cmp self.old missing.items }
+        ensures put { IfOk result (λ _. self.new ≡ sorted_merge V.cmp true missing.items self.old) }
+        ensures refused { IfErr result (λ _. self.new ≡ self.old) }
+    {
+        self.stored = match &mut self.stored {
+            Stored::Nothing => first_row(alloc, missing)?,
+            Stored::One(x) => spread(alloc, *x, &missing)?,
+            Stored::Row(row) if row.goes_on(&missing) => return row.push_all(&missing),
+            Stored::Row(row) => broken_by_all(alloc, row, &missing)?,
+            Stored::Tree(tree) => return put_all_in_tree(tree, &missing),
+        };
         Ok(())
     }
 

@@ -178,7 +178,7 @@ impl<V: Plain + Hash> Lattice for GrowSet<V> {
             self.items.put(alloc, x)?;
             return Ok(true);
         }
-        self.items = put.items.joined(alloc, &self.items)?;
+        self.items.put_all(alloc, &put.items)?;
         Ok(true)
     }
 

@@ -40,6 +40,7 @@ mod ranked;
 mod reads;
 mod row;
 mod set_iter;
+mod trees;
 mod tuples;
 
 pub use brought::Brought;

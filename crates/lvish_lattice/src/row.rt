@@ -2,7 +2,7 @@ ghost use Rattle.std.specs.Prelude.{◌≡◌, ◌↔◌, [], ◌∷◌, IfOk, I
 ghost use Rattle.std.specs.Set.{sorted_merge, is_member};
 ghost use Rattle.std.specs.declared.cmp.Ordering.TheVariants.{Less};
 ghost use Rattle.std.specs.List.Sorted.{IsStrictlySortedBy};
-ghost use Rattle.lvish_lattice.specs.Elements.{EndsBelow};
+ghost use Rattle.lvish_lattice.specs.Elements.{EndsBelow, GoesOn};
 
 use crate::lattice::Plain;
 use std::alloc::{AllocError, Global};
@@ -34,6 +34,25 @@ impl<V: Ord> Model for Row<V> {
 }
 
 impl<V: Plain> Row<V> {
+    /// One element, which others may follow.
+    pub fn of_one(alloc: Global, x: V) -> Result<Row<V>, AllocError>
+        ensures { IfOk result (λ r. r ≡ x ∷ []) }
+    {
+        let mut items = Vec::with_capacity(alloc, 2)?;
+        items.push(x)?;
+        Row::of(alloc, items)
+    }
+
+    /// The elements of an ascending list.
+    pub fn of(alloc: Global, items: Vec<V>) -> Result<Row<V>, AllocError>
+        requires { IsStrictlySortedBy V.cmp items.items }
+        ensures { IfOk result (λ r. r ≡ items.items) }
+    {
+        Ok(Row {
+            items: Box::new(alloc, items)?,
+        })
+    }
+
     /// The two in this order.
     pub fn of_two(alloc: Global, first: V, second: V) -> Result<Row<V>, AllocError>
         requires { V.cmp first second ≡ Less }
@@ -42,9 +61,7 @@ impl<V: Plain> Row<V> {
         let mut items = Vec::with_capacity(alloc, 2)?;
         items.push(first)?;
         items.push(second)?;
-        Ok(Row {
-            items: Box::new(alloc, items)?,
-        })
+        Row::of(alloc, items)
     }
 
     /// The elements in ascending order.
@@ -63,6 +80,27 @@ impl<V: Plain> Row<V> {
             Some(last) => *last < x,
             None => true,
         }
+    }
+
+    /// Whether all are below the first of these values.
+    pub fn goes_on(&self, values: &[V]) -> bool
+        ensures { IsTrue result ↔ GoesOn V.cmp values.now self.now }
+    {
+        match values.first() {
+            Some(first) => self.ends_below(*first),
+            None => true,
+        }
+    }
+
+    /// Puts ascending values behind all others.
+    pub fn push_all(&mut self, values: &[V]) -> Result<(), AllocError>
+        requires behind { GoesOn V.cmp values.now self.old }
+        requires ascending { IsStrictlySortedBy V.cmp values.now }
+        ensures put { IfOk result (λ _. self.new ≡ sorted_merge V.cmp true values.now self.old) }
+        ensures refused { IfErr result (λ _. self.new ≡ self.old) }
+    {
+        self.items.extend_from_slice(values)?;
+        Ok(())
     }
 
     /// Puts an element behind all others, and answers true, since it wasn't there.

@@ -68,6 +68,74 @@ fn a_set_grows(rt: HostRuntime) -> Result<(), Fail> {
     Ok(())
 }
 
+/// Whether a set of the first list grows by the second one to the third one, all at once.
+fn grows_at_once(
+    rt: &impl Abort,
+    alloc: Global,
+    held: &[i64],
+    put: &[i64],
+    after: &[i64],
+) -> Result<bool, AllocError> {
+    let mut set = GrowSet::of(alloc, held)?;
+    let put = GrowSet::of(alloc, put)?;
+    let before = events_of(alloc, &set)?;
+    grows(rt, alloc, &mut set, &put, before.as_slice(), after)
+}
+
+#[test]
+fn a_set_grows_by_elements_behind_its_own(rt: HostRuntime) -> Result<(), Fail> {
+    let alloc = rt.alloc();
+    assert!(rt; grows_at_once(&rt, alloc, &[], &[1, 2], &[1, 2])?);
+    assert!(rt; grows_at_once(&rt, alloc, &[1], &[2, 3], &[1, 2, 3])?);
+    assert!(rt; grows_at_once(&rt, alloc, &[1, 2], &[2, 3, 4], &[1, 2, 3, 4])?);
+    Ok(())
+}
+
+#[test]
+fn a_set_grows_by_elements_among_its_own(rt: HostRuntime) -> Result<(), Fail> {
+    let alloc = rt.alloc();
+    assert!(rt; grows_at_once(&rt, alloc, &[2], &[1, 3], &[1, 2, 3])?);
+    assert!(rt; grows_at_once(&rt, alloc, &[1, 3], &[2, 4], &[1, 2, 3, 4])?);
+    assert!(rt; grows_at_once(&rt, alloc, &[3, 1], &[2, 4], &[1, 2, 3, 4])?);
+    Ok(())
+}
+
+#[test]
+fn a_set_has_all_that_is_put(rt: HostRuntime) -> Result<(), Fail> {
+    let alloc = rt.alloc();
+    assert!(rt; grows_at_once(&rt, alloc, &[1, 2, 3], &[1, 3], &[1, 2, 3])?);
+    assert!(rt; grows_at_once(&rt, alloc, &[3, 2, 1], &[1, 3], &[1, 2, 3])?);
+    Ok(())
+}
+
+/// So many numbers from this one on, each greater by the step than the one before it.
+fn numbers(alloc: Global, first: i64, step: i64, count: i64) -> Result<Vec<i64>, AllocError> {
+    let mut numbers = Vec::new(alloc);
+    for k in 0..count {
+        numbers.push(first.wrapping_add(step.wrapping_mul(k)))?;
+    }
+    Ok(numbers)
+}
+
+// A tree has few elements in a block, so that growths are refused between those that are put.
+#[test]
+fn a_tree_grows_by_many_elements(rt: HostRuntime) -> Result<(), Fail> {
+    let alloc = rt.alloc();
+    let held = numbers(alloc, 58, -2, 30)?;
+    let put = numbers(alloc, 1, 2, 30)?;
+    let after = numbers(alloc, 0, 1, 60)?;
+    assert!(rt;
+        grows_at_once(
+            &rt,
+            alloc,
+            held.as_slice(),
+            put.as_slice(),
+            after.as_slice()
+        )?
+    );
+    Ok(())
+}
+
 fn one(alloc: Global, key: i64, value: i64) -> Result<MergedCells, AllocError> {
     MapOf::one(alloc, key, Flat::Value(value))
 }

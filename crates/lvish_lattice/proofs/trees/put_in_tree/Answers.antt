@@ -2,7 +2,7 @@ use Rattle.std.proofs.Common.{◌∙◌, ap}
 use Rattle.std.specs.BTreeSet.{insert_key}
 use Rattle.lvish_lattice.specs.Ascending.{ties_are_same}
 use Rattle.lvish_lattice.proofs.Puts.{insert_is_merge}
-use Rattle.lvish_lattice.proofs.elements.put_in_tree.Goals as goal
+use Rattle.lvish_lattice.proofs.trees.put_in_tree.Goals as goal
 
 pub returns-clause-put : goal.returns-clause-put
 returns-clause-put g c =
