@@ -6,7 +6,7 @@ use Rattle.lvish_compound.specs.contracts.event.EventOrd.TheImpl.{ghosts as even
 use Rattle.lvish_compound.specs.contracts.event.EventOrd.TheImpl.Laws.{total-law}
 use Rattle.lvish_calculus.specs.Calculus.{Running, start}
 use Rattle.lvish_calculus.specs.FreezeOrder.{freeze_order}
-use Rattle.lvish_core.specs.declared.limits.TheConstants.{MOST_STEPS}
+use Rattle.lvish_run.specs.declared.limits.TheConstants.{MOST_STEPS}
 use Rattle.lvish_syntax.specs.declared.script.Script.{Script}
 use Rattle.lvish_report.specs.declared.report.Report.{Report}
 use Rattle.lvish_report.specs.Text.{variables_of, variable_lines, count_lines, budget_line, outcome_text}

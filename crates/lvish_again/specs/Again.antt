@@ -6,7 +6,7 @@ use Rattle.lvish_calculus.specs.declared.label.Label.{Label}
 use Rattle.lvish_calculus.specs.Machine.{Machine}
 use Rattle.lvish_calculus.specs.Calculus.{Configuration, Running, IsRun, start}
 use Rattle.lvish_calculus.specs.Handing.{HandsOldestFirst}
-use Rattle.lvish_core.specs.declared.limits.TheConstants.{MOST_STEPS}
+use Rattle.lvish_core.specs.declared.limits.TheConstants.{MOST_PROGRAM_STEPS}
 use Rattle.lvish_syntax.specs.declared.script.Script.{Script}
 use Rattle.lvish_report.specs.declared.report.Report.{Report}
 use Rattle.lvish_trace.specs.Traced.{labels_of}
@@ -18,7 +18,7 @@ pub record IsCoreRun {S E R A L : Type 0} (M : Machine S E R A L) (xs : List (La
   pub last : Configuration S E L
   pub run : IsRun M (Running (start M)) xs last
   pub core : HandsOldestFirst M xs
-  pub within : length xs ≤ MOST_STEPS
+  pub within : length xs ≤ MOST_PROGRAM_STEPS
 
 -- the second report is of the first one's run, step by step, and tells the same
 pub record IsMadeAgain (script : Script) (r q : Report Any Event) : Type 0 where

@@ -7,7 +7,7 @@ use Rattle.lvish_names.specs.Names.{same_name, same_handler}
 use Rattle.lvish_calculus.specs.Machine.{Machine}
 use Rattle.lvish_calculus.specs.Calculus.{Running, start}
 use Rattle.lvish_core.specs.declared.fault.Stepped.{Stepped}
-use Rattle.lvish_core.specs.declared.limits.TheConstants.{MOST_STEPS}
+use Rattle.lvish_core.specs.declared.limits.TheConstants.{MOST_PROGRAM_STEPS}
 use Rattle.lvish_core.specs.Core.{CoreView, CanTake, IsRunTo, IsStep}
 use Rattle.lvish_core.specs.Labels.{AreLabels}
 use Rattle.lvish_run.specs.Picked.{IsPicked}
@@ -22,7 +22,7 @@ same_label eq (Hand h e) (Hand k f) = same_handler eq h k && eq e f
 module _ {P S E R A L : Type 0} (M : Machine S E R A L) where
   -- the core can't take the label, or has made as many steps as a core makes at most
   abbrev pub CantGo : CoreView P S E L → Label E → Type 0
-  CantGo c l = (CanTake M c l → ⊥) ⊎ (c.steps ≡ MOST_STEPS)
+  CantGo c l = (CanTake M c l → ⊥) ⊎ (c.steps ≡ MOST_PROGRAM_STEPS)
 
 -- one step with the label, which has this place among those that the core can take
 pub record IsPickedStep {P S E R A L : Type 0} (cmp : E → E → Ordering) (M : Machine S E R A L) (old : CoreView P S E L) (l : Label E) (n : ℕ) (new : CoreView P S E L) : Type 0 where

@@ -5,7 +5,7 @@ ghost use Rattle.lvish_compound.specs.declared.any.Any.{Any};
 ghost use Rattle.lvish_compound.specs.declared.event.Event.{Event};
 ghost use Rattle.lvish_compound.specs.contracts.event.EventOrd.TheImpl.{ghosts as event_order};
 ghost use Rattle.lvish_calculus.specs.Calculus.{Running, start};
-ghost use Rattle.lvish_core.specs.declared.limits.TheConstants.{MOST_STEPS};
+ghost use Rattle.lvish_run.specs.declared.limits.TheConstants.{MOST_STEPS};
 ghost use Rattle.lvish_syntax.specs.declared.script.Script.{Script};
 ghost use Rattle.lvish_report.specs.declared.report.Report.{Report};
 ghost use Rattle.lvish_trace.specs.Traced.{labels_of};

@@ -15,7 +15,7 @@ use lvish_task::laws::same_runs;
 use std::alloc::{AllocError, Global};
 
 /// The picks that make the report's run again, one for each step up to the last that doesn't take the
-/// first label; `None` where its trace is no run of the script of at most 1,000,000 steps in which each
+/// first label; `None` where its trace is no run of the script of at most 4,294,967,295 steps in which each
 /// event is handed in the order of its introduction. A report of a run of the script, by workers or by
 /// picks, has such a trace.
 ///

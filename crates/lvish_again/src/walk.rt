@@ -2,7 +2,7 @@
 
 ghost use Rattle.std.specs.Prelude.{◌≡◌, ◌⊎◌, [], IfOk, IfSome, MatchOption};
 ghost use Rattle.lvish_calculus.specs.Calculus.{Running, start};
-ghost use Rattle.lvish_core.specs.declared.limits.TheConstants.{MOST_STEPS};
+ghost use Rattle.lvish_core.specs.declared.limits.TheConstants.{MOST_PROGRAM_STEPS};
 ghost use Rattle.lvish_trace.specs.Traced.{labels_of};
 ghost use Rattle.lvish_run.specs.Picked.{IsPicked};
 ghost use Rattle.lvish_again.specs.Again.{IsCoreRun, EndsInZero};
@@ -18,7 +18,7 @@ use lvish_trace::TraceEntry;
 use std::alloc::{AllocError, Global};
 
 /// The picks of the run of these entries, without zeros at the end; `None` where they are no run of the
-/// program of at most 1,000,000 steps in which each event is handed in the order of its introduction.
+/// program of at most 4,294,967,295 steps in which each event is handed in the order of its introduction.
 pub fn picks_of_entries<P: Program>(
     alloc: Global,
     program: &P,
@@ -41,7 +41,7 @@ pub fn picks_of_entries<P: Program>(
 }
 
 /// Makes the step with the label. Answers the pick that names it, which is its place among the labels
-/// that the core can take; `None` where it isn't one of them, or 1,000,000 steps were made.
+/// that the core can take; `None` where it isn't one of them, or as many steps were made as a core makes at most.
 fn step_by<P: Program>(
     alloc: Global,
     core: &mut Core<'_, P>,

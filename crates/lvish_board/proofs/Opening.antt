@@ -4,7 +4,7 @@ use Rattle.lvish_calculus.specs.Machine.{Machine}
 use Rattle.lvish_calculus.specs.Calculus.{Running, State, IsLive, is_live, start}
 use Rattle.lvish_names.specs.Names.{main}
 use Rattle.lvish_calculus.specs.Handing.{IsAmong, NoRepeats}
-use Rattle.lvish_board.specs.Vocabulary.{RunError, MOST_STEPS, TraceEntry}
+use Rattle.lvish_board.specs.Vocabulary.{RunError, MOST_PROGRAM_STEPS, TraceEntry}
 use Rattle.lvish_core.specs.Core.{CoreView, IsBegun, IsRunTo, at_fault, state}
 use Rattle.lvish_core.specs.laws.Runs.{at_state, running_same}
 use Rattle.lvish_board.specs.Place.{TaskPlace}
@@ -16,7 +16,7 @@ unfailed s r None e = refl
 unfailed s r (Some f) e = absurd (let n : ⊥ = cc in n)
 
 pub opened : {P S E R A L : Type 0} (M : Machine S E R A L) (program : P) (budget : ℕ) (c : CoreView P S E L) → IsBegun M program c
-    → (trace : List (TraceEntry E)) → trace ≡ [] → (parked : List (TaskPlace E L)) → parked ≡ [] → budget ≤ MOST_STEPS
+    → (trace : List (TraceEntry E)) → trace ≡ [] → (parked : List (TaskPlace E L)) → parked ≡ [] → budget ≤ MOST_PROGRAM_STEPS
     → IsBoardSound M program budget (record { trace = trace; core = c; over = None; parked = parked })
 opened {S = S} {E = E} {L = L} M program budget c begun trace none parked nobody bounded = record {
   program_is = begun.program;

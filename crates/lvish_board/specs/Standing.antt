@@ -1,6 +1,6 @@
 -- What a board stands for.
 use Rattle.std.specs.Prelude.{◌≡◌, ◌≤◌, ℕ, List, [], map, length, Option, None, Some}
-use Rattle.lvish_board.specs.Vocabulary.{MOST_STEPS, Label, Act, TraceEntry, Outcome, EndedOver as Ended, ErrorOver as Error, Budget}
+use Rattle.lvish_board.specs.Vocabulary.{MOST_PROGRAM_STEPS, Label, Act, TraceEntry, Outcome, EndedOver as Ended, ErrorOver as Error, Budget}
 use Rattle.lvish_calculus.specs.Machine.{Machine}
 use Rattle.lvish_calculus.specs.Calculus.{IsEnded, IsLive}
 use Rattle.lvish_names.specs.Names.{Name}
@@ -55,7 +55,7 @@ pub record IsBoardSound {P S E R A L : Type 0} (M : Machine S E R A L) (program 
   pub leads : IsRunTo M s.core (labels_of s.trace)
   pub counted : s.core.steps ≡ length s.trace
   pub within : length s.trace ≤ budget
-  pub bounded : budget ≤ MOST_STEPS
+  pub bounded : budget ≤ MOST_PROGRAM_STEPS
   pub over_is : OverIs M budget s s.over
   pub not_at_end : s.over ≡ None → AreAllParked M s → AreDrained s.core.table → ⊥
   pub blocked : (p : TaskPlace E L) → IsAmong p s.parked → IsBlocked M s.core p

@@ -19,7 +19,7 @@ use crate::room::Room;
 use crate::ticket::Ticket;
 use crate::work::Work;
 use lvish_calculus::{Meaning, Program};
-use lvish_core::{Core, CoreMeaning, MOST_STEPS};
+use lvish_core::{Core, CoreMeaning, MOST_PROGRAM_STEPS};
 use lvish_history::{Opened, Stamp};
 use lvish_lattice::Lattice;
 use lvish_names::TaskName;
@@ -86,7 +86,7 @@ impl<'p, P: Program, J: Named<P>> Board<'p, P, J> {
         requires program { program.now ≡ J.program }
         requires budget { budget ≡ J.budget }
         requires history { history.seen.book ≡ J.book }
-        requires bounded { J.budget ≤ MOST_STEPS }
+        requires bounded { J.budget ≤ MOST_PROGRAM_STEPS }
         ensures board { IfOk result (λ r. IsOpened (⟦<P as Meaning>⟧.machine J.program) J.program r.0) }
         ensures first { IfOk result (λ r. r.1 ≡ Stretch (record { task = main; from = (P.functions J.program).start })) }
         ensures err { IfErr result (λ h. h ≡ history) }

@@ -6,12 +6,14 @@ use crate::board_desk::{write_calls, write_calls_after};
 use crate::calls::Calls;
 use crate::naming::{Naming, Of};
 use lvish_board::Place;
-use lvish_core::MOST_STEPS;
 use lvish_history::Opened;
 use lvish_script::{Fault, ScriptFault, read_script};
 use lvish_task::ScriptCode;
 use std::alloc::{AllocError, Global};
 use std::marker::Brand;
+
+/// The most steps that a run of a script may have.
+const MOST_STEPS: u64 = 1_000_000;
 
 /// The status and the text of the answer to what was read: a script, and calls that stand below it.
 pub fn answer_to(alloc: Global, budget: u64, input: &str) -> Result<(u8, String), AllocError> {

@@ -8,7 +8,7 @@ use crate::seat::Seat;
 use crate::text::{write_machine, write_outcome};
 use lvish_board::{Acted, Board, Named, Place, Ticket, Work, Works, stretch};
 use lvish_calculus::Program;
-use lvish_core::MOST_STEPS;
+use lvish_core::MOST_PROGRAM_STEPS;
 use lvish_history::Opened;
 use lvish_lattice::{Lattice, Numbered};
 use lvish_names::{HandlerName, TaskName};
@@ -44,7 +44,7 @@ where
     <P::Lat as Lattice>::Event: Numbered,
     requires program { program.now ≡ J.program }
     requires budget { budget ≡ J.budget }
-    requires bounded { J.budget ≤ MOST_STEPS }
+    requires bounded { J.budget ≤ MOST_PROGRAM_STEPS }
     requires history { history.seen.book ≡ J.book }
 {
     let (board, work) = opened::<P, J>(alloc, program, budget, history)?;
@@ -68,7 +68,7 @@ where
     <P::Lat as Lattice>::Event: Numbered,
     requires program { program.now ≡ J.program }
     requires budget { budget ≡ J.budget }
-    requires bounded { J.budget ≤ MOST_STEPS }
+    requires bounded { J.budget ≤ MOST_PROGRAM_STEPS }
     requires history { history.seen.book ≡ J.book }
 {
     let (board, work) = opened::<P, J>(alloc, program, budget, history)?;
@@ -113,7 +113,7 @@ fn opened<P: Program, J: Named<P>>(
 ) -> Result<(Board<'_, P, J>, Work<P, J>), AllocError>
     requires program { program.now ≡ J.program }
     requires budget { budget ≡ J.budget }
-    requires bounded { J.budget ≤ MOST_STEPS }
+    requires bounded { J.budget ≤ MOST_PROGRAM_STEPS }
     requires history { history.seen.book ≡ J.book }
 {
     let history = match Board::new(alloc, program, budget, history) {

@@ -4,7 +4,7 @@ use mathlib.Core.Path.{fun_ext}
 use Rattle.std.proofs.lemmas.Bool.{false_from_ne_true, false≢true}
 use Rattle.std.proofs.lemmas.Option.{same_Some}
 use Rattle.lvish_lattice.specs.Lattice.{fresh_of}
-use Rattle.lvish_core.specs.Vocabulary.{Request, Put, Get, Fork, Freeze, End, Reply, Done, Answer, Content, Frozen, Deep, Act, Entry, MOST_STEPS, HandlerPlace, PutOn, EndedIn, Other, Touched}
+use Rattle.lvish_core.specs.Vocabulary.{Request, Put, Get, Fork, Freeze, End, Reply, Done, Answer, Content, Frozen, Deep, Act, Entry, MOST_PROGRAM_STEPS, HandlerPlace, PutOn, EndedIn, Other, Touched}
 use Rattle.lvish_calculus.specs.Machine.{Machine, IsLawful}
 use Rattle.lvish_calculus.specs.Calculus.{Task, Absent, Live, Ended, IsReady, State, Running, Change, Changes, Fails, just, get_effect, put_effect, request_effect, after, with_task}
 use Rattle.lvish_calculus.specs.Program.{IsReplyTo}
@@ -67,7 +67,7 @@ module _ {P S E R A L : Type 0} {M : Machine S E R A L} {c : CoreView P S E L} {
       by false e = is_there e
 
   -- it has fewer forks, handlers and puts than steps may be made
-  pub few_numbers : {variables n : ℕ} {places : List (Handler E × HandlerPlace)} → IsKept M variables n places c → c.steps < MOST_STEPS → (f < MOST_STEPS) × (a < MOST_STEPS) × (p < MOST_STEPS)
+  pub few_numbers : {variables n : ℕ} {places : List (Handler E × HandlerPlace)} → IsKept M variables n places c → c.steps < MOST_PROGRAM_STEPS → (f < MOST_PROGRAM_STEPS) × (a < MOST_PROGRAM_STEPS) × (p < MOST_PROGRAM_STEPS)
   few_numbers kept room = let few = kept.numbers t acts.local f a p acts.asking.live in (omega (arith, few.0), omega (arith, few.1), omega (arith, few.2))
 
 -- a request that is ready is made
@@ -93,7 +93,7 @@ module _ {P S E R A L : Type 0} {M : Machine S E R A L} {old : CoreView P S E L}
 module _ {P S E R A L : Type 0} {M : Machine S E R A L} (ok : IsLawful M) {variables n : ℕ} {places : List (Handler E × HandlerPlace)} {old : CoreView P S E L} (kept : IsKept M variables n places old) {t : Name E} {at : L} {f a p : ℕ} where
   -- ---- a put
 
-  module _ {v : ℕ} {d : S} (acts : IsActing M old t at f a p (Put v d)) (room : old.steps < MOST_STEPS) (law : ActKept IsPutStep M) (law2 : ActCounted IsPutStep M)
+  module _ {v : ℕ} {d : S} (acts : IsActing M old t at f a p (Put v d)) (room : old.steps < MOST_PROGRAM_STEPS) (law : ActKept IsPutStep M) (law2 : ActCounted IsPutStep M)
       {vs : List (Variable S E)} (w : PutAt M.join M.event_same M.events t (suc p) d v old.table.variables vs) {us : List (Name E × Task L)} (sets : Sets M.event_same old.table.tasks t (Live (M.resume at Done) f a (suc p)) us) where
     abbrev put_table : Table S E L
     put_table = record { variables = vs; handlers = old.table.handlers; tasks = us }
@@ -147,7 +147,7 @@ module _ {P S E R A L : Type 0} {M : Machine S E R A L} (ok : IsLawful M) {varia
 
   -- ---- a freeze
 
-  module _ {v : ℕ} {pools : List ℕ} (acts : IsActing M old t at f a p (Freeze v pools)) (room : old.steps < MOST_STEPS) (law : ActKept IsFreezeStep M) (law2 : ActCounted IsFreezeStep M) {vs : List (Variable S E)} (w : FrozenAt v old.table.variables vs)
+  module _ {v : ℕ} {pools : List ℕ} (acts : IsActing M old t at f a p (Freeze v pools)) (room : old.steps < MOST_PROGRAM_STEPS) (law : ActKept IsFreezeStep M) (law2 : ActCounted IsFreezeStep M) {vs : List (Variable S E)} (w : FrozenAt v old.table.variables vs)
       {us : List (Name E × Task L)} (x : Variable S E) (x_at : slice_get old.table.variables v ≡ Some x) (sets : Sets M.event_same old.table.tasks t (Live (M.resume at (Content x.state)) f a p) us) where
     abbrev frozen_table : Table S E L
     frozen_table = record { variables = vs; handlers = old.table.handlers; tasks = us }
@@ -192,7 +192,7 @@ module _ {P S E R A L : Type 0} {M : Machine S E R A L} (ok : IsLawful M) {varia
 
   -- ---- a get, a pause, a fork and an end, which change nothing but tasks and the counts of pools
 
-  plainly : ActKept IsPlainStep M → PlainCounted M → old.steps < MOST_STEPS → (r : Request S R L) (acts : IsActing M old t at f a p r) (own made : Option (Name E × Task L)) (about : Touched) (hss : List (Handlers E)) (us : List (Name E × Task L))
+  plainly : ActKept IsPlainStep M → PlainCounted M → old.steps < MOST_PROGRAM_STEPS → (r : Request S R L) (acts : IsActing M old t at f a p r) (own made : Option (Name E × Task L)) (about : Touched) (hss : List (Handlers E)) (us : List (Name E × Task L))
       → request_effect M (state M old) t at f a p r ≡ Changes (task_change own made) → about ≡ touched_in M (state M old) None own → Turn (state M old).tasks own → Start (state M old).tasks made → AreTasks M.event_same old.table.tasks own made us → KeepsIndices old.table.tasks us
       → ((x : Name E × Task L) → made ≡ Some x → IsAt us (length old.table.tasks) x.0) → AreCounts M (state M old) own made old.table.handlers hss × AreHeld old.table.handlers hss
       → Moves ok kept (Act t) (task_change own made) (record { variables = old.table.variables; handlers = hss; tasks = us }) places about
@@ -227,7 +227,7 @@ module _ {P S E R A L : Type 0} {M : Machine S E R A L} (ok : IsLawful M) {varia
       })
 
   -- a get and a pause
-  pub going_on : {reply : Reply S A} (h : IsReplied M old t at f a p reply) → old.steps < MOST_STEPS → ActKept IsPlainStep M → PlainCounted M → RestIsFollowed M → {us : List (Name E × Task L)} → Sets M.event_same old.table.tasks t (Live (M.resume at reply) f a p) us
+  pub going_on : {reply : Reply S A} (h : IsReplied M old t at f a p reply) → old.steps < MOST_PROGRAM_STEPS → ActKept IsPlainStep M → PlainCounted M → RestIsFollowed M → {us : List (Name E × Task L)} → Sets M.event_same old.table.tasks t (Live (M.resume at reply) f a p) us
       → Moves ok kept (Act t) (just t (Live (M.resume at reply) f a p)) (record { variables = old.table.variables; handlers = old.table.handlers; tasks = us }) places Other
   going_on {reply} h room law law2 rest {us} sets =
       let own : Option (Name E × Task L) = Some (t, Live (M.resume at reply) f a p) in
@@ -240,7 +240,7 @@ module _ {P S E R A L : Type 0} {M : Machine S E R A L} (ok : IsLawful M) {varia
 
   module _ (known : (k v : ℕ) → M.pool_variable k ≡ Some v → v < variables) (law : ActKept IsPlainStep M) (law2 : PlainCounted M) (rest : RestIsFollowed M) {us : List (Name E × Task L)} {place : Option HandlerPlace} (place_is : IsPlaceOf M (state M old) t place) {hss : List (Handlers E)} where
     -- a fork
-    pub forking : {child_at : L} → IsActing M old t at f a p (Fork child_at) → old.steps < MOST_STEPS → is_deep t ≡ false → StartIsFollowed M → NewTaskIsNew M → {mid : List (Name E × Task L)}
+    pub forking : {child_at : L} → IsActing M old t at f a p (Fork child_at) → old.steps < MOST_PROGRAM_STEPS → is_deep t ≡ false → StartIsFollowed M → NewTaskIsNew M → {mid : List (Name E × Task L)}
         → Sets M.event_same old.table.tasks (forked t (suc f)) (Live child_at 0 0 0) mid → (task_of M.event_same old.table.tasks (forked t (suc f)) ≡ Absent → IsAt mid (length old.table.tasks) (forked t (suc f)))
         → Sets M.event_same mid t (Live (M.resume at Done) (suc f) a p) us → CountsAt one_more_in old.table.handlers place hss
         → Moves ok kept (Act t) (task_change (Some (t, Live (M.resume at Done) (suc f) a p)) (Some (forked t (suc f), Live child_at 0 0 0))) (record { variables = old.table.variables; handlers = hss; tasks = us }) places Other
@@ -255,7 +255,7 @@ module _ {P S E R A L : Type 0} {M : Machine S E R A L} (ok : IsLawful M) {varia
         (started kept known follows rest own t (forked t (suc f)) (Live child_at 0 0 0) place hss place_is refl (λ q. refl) counts)
 
     -- the end of a task
-    pub ending : IsActing M old t at f a p End → old.steps < MOST_STEPS → EndIsFollowed M → Sets M.event_same old.table.tasks t Ended us → CountsAt one_less_in old.table.handlers place hss
+    pub ending : IsActing M old t at f a p End → old.steps < MOST_PROGRAM_STEPS → EndIsFollowed M → Sets M.event_same old.table.tasks t Ended us → CountsAt one_less_in old.table.handlers place hss
         → Moves ok kept (Act t) (just t Ended) (record { variables = old.table.variables; handlers = hss; tasks = us }) places (touching (λ v. EndedIn v) (option_map (λ q. q.variable) place))
     ending acts room follows sets counts =
         plainly law law2 room End acts (Some (t, Ended)) None _ hss us refl (ap (touching (λ v. EndedIn v)) (pool_variable_is M (state M old) t place place_is))

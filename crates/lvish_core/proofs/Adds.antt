@@ -1,7 +1,7 @@
 -- The adding of a handler, over any machine.
 use Rattle.std.proofs.Common.{◌≡◌, ◌<◌, ◌++◌, ℕ, suc, Bool, true, false, if◌then◌else◌, List, length, take, drop, Option, Some, None, slice_get, unwrap_or, option_map, Result, Ok, Err, IsErrAnd, refl, sym, ap, subst, ◌∙◌, arith}
 use Rattle.std.proofs.lemmas.Option.{same_Some}
-use Rattle.lvish_core.specs.Vocabulary.{Add, Done, Late, Deep, Act, Held, MOST_STEPS, HandlerPlace, Other, Stepped, StepFault, Memory, Moved}
+use Rattle.lvish_core.specs.Vocabulary.{Add, Done, Late, Deep, Act, Held, MOST_PROGRAM_STEPS, HandlerPlace, Other, Stepped, StepFault, Memory, Moved}
 use Rattle.lvish_calculus.specs.Machine.{Machine, IsLawful}
 use Rattle.lvish_calculus.specs.Calculus.{Post, Task, Live, Change, Changes, Fails, effect, add_effect}
 use Rattle.lvish_names.specs.Names.{Name, Handler, is_deep, same_handler}
@@ -102,7 +102,7 @@ module _ {P S E R A L : Type 0} {M : Machine S E R A L} (ok : IsLawful M) {varia
           let seated : IsHandlerSeated old.table s.0 s.1 s.2 s.3 = s.4 in
           absurd (not_held fresh s.0 s.2 seated.beside (subst (λ (k : Handler E). IsHeld (s.2).held k) s.5 (contained _ _ (among_map (λ (k : Held E). k.name) s.3 (s.2).held (among _ _ seated.held)))))
 
-  module _ (room : old.steps < MOST_STEPS) (law : ActKept IsAddStep M) (law2 : ActCounted IsAddStep M) (shallow : is_deep t ≡ false) {v : ℕ} (own : M.pool_variable pool ≡ Some v) (x : Variable S E) (x_at : slice_get old.table.variables v ≡ Some x) (unfrozen : (state M old).frozen v ≡ false)
+  module _ (room : old.steps < MOST_PROGRAM_STEPS) (law : ActKept IsAddStep M) (law2 : ActCounted IsAddStep M) (shallow : is_deep t ≡ false) {v : ℕ} (own : M.pool_variable pool ≡ Some v) (x : Variable S E) (x_at : slice_get old.table.variables v ≡ Some x) (unfrozen : (state M old).frozen v ≡ false)
       {more : List (Handler E × HandlerPlace)} (put_in : PlacesAt M.event_same places name (Some (record { variable = v; pool = pool; procedure = procedure })) more) {hss : List (Handlers E)}
       (w : AddedAt (record { name = name; pool = pool; procedure = procedure; handed = 0 }) v old.table.handlers hss) {us : List (Name E × Task L)} (sets : Sets M.event_same old.table.tasks t (Live (M.resume at Done) f (suc a) p) us) where
     abbrev new : Table S E L

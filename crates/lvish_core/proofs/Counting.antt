@@ -1,7 +1,7 @@
 -- The counts of a pool, as a task starts or ends in it.
 use Rattle.std.proofs.Common.{◌≡◌, ◌<◌, ◌≤◌, ℕ, if◌then◌else◌, List, [], ◌∷◌, length, map, Option, Some, None, slice_get, slice_set, option_map, option_and_then, zero, suc, refl, sym, ap, subst, ◌∙◌, arith}
 use Rattle.std.proofs.lemmas.Option.{same_Some}
-use Rattle.lvish_core.specs.Vocabulary.{MOST_STEPS, HandlerPlace}
+use Rattle.lvish_core.specs.Vocabulary.{MOST_PROGRAM_STEPS, HandlerPlace}
 use Rattle.lvish_calculus.specs.Machine.{Machine}
 use Rattle.lvish_calculus.specs.Calculus.{Task, Ended, State, IsLive}
 use Rattle.lvish_names.specs.Names.{Name, Handler}
@@ -30,7 +30,7 @@ module _ {P S E R A L : Type 0} {M : Machine S E R A L} {variables n : ℕ} {pla
       let same : length old.table.handlers ≡ length old.table.variables = kept.standing.pictured.table.beside in
       get_there old.table.handlers p.variable (omega arith)
 
-  pub can_start : FewRun M → old.steps < MOST_STEPS → (p : HandlerPlace) → M.pool_variable p.pool ≡ Some p.variable → IsPoolAt (λ k. k < MOST_STEPS) old.table.handlers p
+  pub can_start : FewRun M → old.steps < MOST_PROGRAM_STEPS → (p : HandlerPlace) → M.pool_variable p.pool ≡ Some p.variable → IsPoolAt (λ k. k < MOST_PROGRAM_STEPS) old.table.handlers p
   can_start law room p own =
       let b = beside p own in
       let c = kept.counted p.variable b.0 p.pool b.1 own in
@@ -44,7 +44,7 @@ module _ {P S E R A L : Type 0} {M : Machine S E R A L} {variables n : ℕ} {pla
       let c = kept.counted p.variable b.0 p.pool b.1 own in
       record { beside = b.0; at = b.1; there = c.0; fits = law old.table t p.pool _ c.1 live is }
 
-  pub can_start_in : FewRun M → old.steps < MOST_STEPS → (t : Name E) (o : Option HandlerPlace) → IsPlaceOf M (state M old) t o → CanCount (λ k. k < MOST_STEPS) old.table.handlers o
+  pub can_start_in : FewRun M → old.steps < MOST_PROGRAM_STEPS → (t : Name E) (o : Option HandlerPlace) → IsPlaceOf M (state M old) t o → CanCount (λ k. k < MOST_PROGRAM_STEPS) old.table.handlers o
   can_start_in law room t None is = tt
   can_start_in law room t (Some p) is = can_start law room p (is.own p refl)
 

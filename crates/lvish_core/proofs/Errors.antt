@@ -1,6 +1,6 @@
 -- A step that is an error, over any machine.
 use Rattle.std.proofs.Common.{◌≡◌, ◌⊎◌, inl, inr, take, drop, ◌+◌, ◌≤◌, ◌<◌, ◌++◌, ℕ, List, [], ◌∷◌, length, Option, Some, append_assoc, refl, sym, ap, subst, ◌∙◌, arith, append-nil, length-append}
-use Rattle.lvish_core.specs.Vocabulary.{MOST_STEPS, ErrorKind, Conflict, Frozen, Put, Label, Act, PutFault, PutConflict, PutFrozen, HandlerPlace, Other, ErrorStep}
+use Rattle.lvish_core.specs.Vocabulary.{MOST_PROGRAM_STEPS, ErrorKind, Conflict, Frozen, Put, Label, Act, PutFault, PutConflict, PutFrozen, HandlerPlace, Other, ErrorStep}
 use Rattle.lvish_calculus.specs.Machine.{Machine}
 use Rattle.lvish_calculus.specs.Calculus.{State, Configuration, Running, Error, Changes, Fails, Nothing, Effect, IsEnabled, CanStep, IsRun, after, next, effect, start, step}
 use Rattle.lvish_names.specs.Names.{Name, Handler}
@@ -60,7 +60,7 @@ module _ {S E R A L : Type 0} (M : Machine S E R A L) where
   fails_does c Nothing kind v t e = absurd (cc e)
 
 module _ {P S E R A L : Type 0} {M : Machine S E R A L} (law : ErrorsAreSteps M) {variables n : ℕ} {places : List (Handler E × HandlerPlace)} {old : CoreView P S E L}
-    (kept : IsKept M variables n places old) {t : Name E} {kind : ErrorKind} {v : Option ℕ} (h : IsFailing M old t kind v) (room : old.steps < MOST_STEPS) where
+    (kept : IsKept M variables n places old) {t : Name E} {kind : ErrorKind} {v : Option ℕ} (h : IsFailing M old t kind v) (room : old.steps < MOST_PROGRAM_STEPS) where
   abbrev later : Name E → CoreView P S E L
   later u = record { program = old.program; table = old.table; steps = old.steps + 1; fault = Some (record { kind = kind; variable = v; task = u }); touched = Some Other; freezes = old.freezes }
 

@@ -1,7 +1,7 @@
 -- A step of a core that isn't an error, over any machine.
 use Rattle.std.proofs.Common.{◌≡◌, ◌+◌, ◌<◌, ◌≤◌, ℕ, List, [], ◌∷◌, ◌++◌, length, Option, Some, None, option_and_then, slice_get, slice_set, refl, sym, ap, subst, ◌∙◌, arith, length-append, append-nil}
 use Rattle.std.proofs.lemmas.Option.{same_Some, slice_get_within}
-use Rattle.lvish_core.specs.Vocabulary.{MOST_STEPS, Label, Act, Request, Entry, HandlerPlace, Touched, DoneStep, Made}
+use Rattle.lvish_core.specs.Vocabulary.{MOST_PROGRAM_STEPS, Label, Act, Request, Entry, HandlerPlace, Touched, DoneStep, Made}
 use Rattle.lvish_calculus.specs.Machine.{Machine, IsLawful}
 use Rattle.lvish_calculus.specs.Calculus.{Task, State, Configuration, IsLive, Running, Change, Changes, CanStep, after, changed, next, effect, request_effect, start, task_effect, with_task}
 use Rattle.lvish_names.specs.Names.{Name, Handler}
@@ -89,7 +89,7 @@ module _ {P S E R A L : Type 0} {M : Machine S E R A L} (ok : IsLawful M) {varia
   abbrev pub Moves : Label E → Change S E L → Table S E L → List (Handler E × HandlerPlace) → Touched → Type 0
   Moves l change new more on = MovesTo l change new more on (more_frozen old.freezes (state M old).frozen change.froze)
 
-  module _ (l : Label E) (change : Change S E L) (new : Table S E L) (more : List (Handler E × HandlerPlace)) (on : Touched) (no_fault : old.fault ≡ None) (room : old.steps < MOST_STEPS) (takes : HandsNext M old l)
+  module _ (l : Label E) (change : Change S E L) (new : Table S E L) (more : List (Handler E × HandlerPlace)) (on : Touched) (no_fault : old.fault ≡ None) (room : old.steps < MOST_PROGRAM_STEPS) (takes : HandsNext M old l)
       (touches : on ≡ touched_by M (state M old) l) (g : Going l change new more) where
     -- each log grows by what the step brings
     logs_brought : (ys : List (Label E)) → IsPictured M old.table ys → ((v : ℕ) (x : Variable S E) → slice_get old.table.variables v ≡ Some x → x.log ≡ brought_by_run M (Running (start M)) ys v)
@@ -159,6 +159,6 @@ module _ {P S E R A L : Type 0} {M : Machine S E R A L} (ok : IsLawful M) {varia
     pub moves : Moves l change new more on
     moves = (record { step = is_step; change = sym (ap moved_in g.does) }, is_kept)
 
-  pub acted : {t : Name E} {at : L} {f a p : ℕ} {r : Request S R L} (acts : IsActing M old t at f a p r) (change : Change S E L) (new : Table S E L) (more : List (Handler E × HandlerPlace)) (on : Touched) → on ≡ task_touches M (state M old) (Changes change) → old.steps < MOST_STEPS
+  pub acted : {t : Name E} {at : L} {f a p : ℕ} {r : Request S R L} (acts : IsActing M old t at f a p r) (change : Change S E L) (new : Table S E L) (more : List (Handler E × HandlerPlace)) (on : Touched) → on ≡ task_touches M (state M old) (Changes change) → old.steps < MOST_PROGRAM_STEPS
       → Going (Act t) change new more → Moves (Act t) change new more on
   acted {t = t} acts change new more on touches room g = moves (Act t) change new more on acts.no_fault room tt (touches ∙ sym (ap (task_touches M (state M old)) g.does)) g

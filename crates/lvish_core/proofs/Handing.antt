@@ -2,7 +2,7 @@
 use Rattle.std.proofs.Common.{◌≡◌, ◌+◌, ◌<◌, ℕ, List, length, map, Contains, Some, None, slice_set, slice_index, option_map, option_and_then, refl, sym, ap, subst, ◌∙◌}
 use Rattle.std.proofs.lemmas.List.{map-set}
 use Rattle.std.proofs.lemmas.Option.{same_Some}
-use Rattle.lvish_core.specs.Vocabulary.{Hand, Held, MOST_STEPS, HandlerPlace, Handed}
+use Rattle.lvish_core.specs.Vocabulary.{Hand, Held, MOST_PROGRAM_STEPS, HandlerPlace, Handed}
 use Rattle.lvish_calculus.specs.Machine.{Machine, IsLawful}
 use Rattle.lvish_calculus.specs.Calculus.{Post, Task, Absent, Live, Change, hand_effect}
 use Rattle.lvish_names.specs.Names.{Name, Handler, handed}
@@ -26,7 +26,7 @@ use Rattle.lvish_core.proofs.Seated.{next_enabled}
 
 module _ {P S E R A L : Type 0} {M : Machine S E R A L} (ok : IsLawful M) {variables n : ℕ} {places : List (Handler E × HandlerPlace)} {old : CoreView P S E L} (kept : IsKept M variables n places old)
     (known : (k v : ℕ) → M.pool_variable k ≡ Some v → v < variables) {h : Handler E} {place : HandlerPlace} {e : E} (hands : IsHanding M old h place e) where
-  pub can_hand : FewRun M → old.steps < MOST_STEPS → CanHand M.event_same old.table.variables h place old.table.handlers
+  pub can_hand : FewRun M → old.steps < MOST_PROGRAM_STEPS → CanHand M.event_same old.table.variables h place old.table.handlers
   can_hand law room = record {
     at = hands.at;
     at_is = hands.at_is;
@@ -47,7 +47,7 @@ module _ {P S E R A L : Type 0} {M : Machine S E R A L} (ok : IsLawful M) {varia
     next = hands.next;
   }))
 
-  module _ (room : old.steps < MOST_STEPS) (law : HandKept M) (law2 : HandCounted M) (posts : PostsAreHeld M) (follows : StartIsFollowed M) (absent : task_of M.event_same old.table.tasks (handed h.adder h.number e) ≡ Absent) {us : List (Name E × Task L)}
+  module _ (room : old.steps < MOST_PROGRAM_STEPS) (law : HandKept M) (law2 : HandCounted M) (posts : PostsAreHeld M) (follows : StartIsFollowed M) (absent : task_of M.event_same old.table.tasks (handed h.adder h.number e) ≡ Absent) {us : List (Name E × Task L)}
       (made : Sets M.event_same old.table.tasks (handed h.adder h.number e) (Live (M.start_handler place.procedure e) 0 0 0) us) {hss : List (Handlers E)} (w : HandedAt M.event_same old.table.variables h place old.table.handlers hss) where
     abbrev new : Table S E L
     new = record { variables = old.table.variables; handlers = hss; tasks = us }

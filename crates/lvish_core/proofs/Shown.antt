@@ -2,7 +2,7 @@
 use Rattle.std.proofs.Common.{◌≡◌, ◌↔◌, ◌<◌, ℕ, Bool, true, false, List, length, Option, Some, None, refl, sym, ap, subst, ◌∙◌, is_some, option_map, unwrap_or, arith, inl, inr, ◌≤◌, IsTrue, IsSome, IfOk, MatchResult, Result, Ok, Err, slice_get}
 use Rattle.std.proofs.lemmas.Bool.{false≢true, both_ways, cases_lt}
 use Rattle.std.proofs.lemmas.Option.{same_Some}
-use Rattle.lvish_core.specs.Vocabulary.{MOST_STEPS, Request, Freeze, Label, Act, RunError, HandlerPlace, Stepped, StepFault, NotEnabled, Full, Memory, Moved}
+use Rattle.lvish_core.specs.Vocabulary.{MOST_PROGRAM_STEPS, Request, Freeze, Label, Act, RunError, HandlerPlace, Stepped, StepFault, NotEnabled, Full, Memory, Moved}
 use Rattle.lvish_calculus.specs.Machine.{Machine}
 use Rattle.lvish_calculus.specs.Calculus.{Task, Absent, Live, Ended, IsReady, IsReadyTask, IsEnabled, CanStep}
 use Rattle.lvish_names.specs.Names.{Name, Handler}
@@ -71,14 +71,14 @@ module _ {P S E R A L : Type 0} (M : Machine S E R A L) (n running : ℕ) (place
 
 -- ---- a task's step
 
-pub not_full : (n : ℕ) (b : Bool) → IsTrue b ↔ (MOST_STEPS ≤ n) → b ≡ false → n < MOST_STEPS
-not_full n b full e = elim (cases_lt n MOST_STEPS) [
+pub not_full : (n : ℕ) (b : Bool) → IsTrue b ↔ (MOST_PROGRAM_STEPS ≤ n) → b ≡ false → n < MOST_PROGRAM_STEPS
+not_full n b full e = elim (cases_lt n MOST_PROGRAM_STEPS) [
   | inl lt ↦ lt
   | inr ge ↦ absurd (false≢true (sym e ∙ full.1 ge))
 ]
 
-pub is_full : (n : ℕ) (b : Bool) → n ≤ MOST_STEPS → IsTrue b ↔ (MOST_STEPS ≤ n) → b ≡ true → n ≡ MOST_STEPS
-is_full n b le full e = let ge : MOST_STEPS ≤ n = full.0 e in omega arith
+pub is_full : (n : ℕ) (b : Bool) → n ≤ MOST_PROGRAM_STEPS → IsTrue b ↔ (MOST_PROGRAM_STEPS ≤ n) → b ≡ true → n ≡ MOST_PROGRAM_STEPS
+is_full n b le full e = let ge : MOST_PROGRAM_STEPS ≤ n = full.0 e in omega arith
 
 -- a live task whose step can be made: there is no error, and its request is ready
 pub can_acting : {P S E R A L : Type 0} (M : Machine S E R A L) (n running : ℕ) (places : List (Handler E × HandlerPlace)) (c : CoreView P S E L) (k : IsKept M n running places c) (t : Name E) (l : L) (f a p : ℕ) → task_of M.event_same c.table.tasks t ≡ Live l f a p

@@ -1,6 +1,6 @@
 -- Changes to one variable, or to the handlers of one, among all.
 use Rattle.std.specs.Prelude.{◌≡◌, ◌<◌, ◌+◌, ◌-◌, ℕ, Bool, true, List, Option, Some, None, length, slice_get, slice_set, slice_index}
-use Rattle.lvish_core.specs.Vocabulary.{MOST_STEPS, PutFault, Held, HandlerPlace}
+use Rattle.lvish_core.specs.Vocabulary.{MOST_PROGRAM_STEPS, PutFault, Held, HandlerPlace}
 use Rattle.lvish_names.specs.Names.{Name, Handler}
 use Rattle.lvish_variable.specs.Variable.{VariableView as Variable, IsPut, IsPutRefused}
 use Rattle.lvish_handlers.specs.Places.{IsAt}
@@ -76,7 +76,7 @@ pub record CanHand {S E : Type 0} (eq : E → E → Bool) (variables : List (Var
   pub within : (hs : Handlers E) → slice_get hss p.variable ≡ Some hs → IsWithin hs at.log
   pub event : E
   pub next : (hs : Handlers E) → slice_get hss p.variable ≡ Some hs → next_of eq at.log hs.held name ≡ Some event
-  pub pool : IsPoolAt (λ n. n < MOST_STEPS) hss p
+  pub pool : IsPoolAt (λ n. n < MOST_PROGRAM_STEPS) hss p
 
 -- a handler of this name may be added
 pub record CanAdd {E : Type 0} (name : Handler E) (p : HandlerPlace) (hss : List (Handlers E)) : Type 0 where

@@ -1,6 +1,6 @@
 -- What a core stands for.
-use Rattle.std.specs.Prelude.{◌≡◌, ◌<◌, ◌+◌, ℕ, Bool, List, [], ◌∷◌, ◌++◌, length, Option, Some, None, slice_get}
-use Rattle.lvish_core.specs.Vocabulary.{MOST_STEPS, Label, Act, Hand, ErrorKind, RunError, Stepped, DoneStep, ErrorStep, StepFault, NotEnabled, Full, Memory, Touched, Made}
+use Rattle.std.specs.Prelude.{◌≡◌, ◌≤◌, ◌+◌, ℕ, Bool, List, [], ◌∷◌, ◌++◌, length, Option, Some, None, slice_get}
+use Rattle.lvish_core.specs.Vocabulary.{MOST_PROGRAM_STEPS, Label, Act, Hand, ErrorKind, RunError, Stepped, DoneStep, ErrorStep, StepFault, NotEnabled, Full, Memory, Touched, Made}
 use Rattle.lvish_calculus.specs.Machine.{Machine}
 use Rattle.lvish_calculus.specs.Calculus.{State, Configuration, Running, Error, IsRun, CanStep, effect, next, start}
 use Rattle.lvish_names.specs.Names.{Handler}
@@ -89,7 +89,7 @@ pub record IsStep {P S E R A L : Type 0} (M : Machine S E R A L) (old : CoreView
   pub enabled : CanTake M old l
   pub program : new.program ≡ old.program
   pub steps : new.steps ≡ old.steps + 1
-  pub small : new.steps < 1000001
+  pub small : new.steps ≤ MOST_PROGRAM_STEPS
   pub stepped : picture M new ≡ next M (picture M old) l
   pub answer : says (picture M new) said
   -- each run that led to the old core leads to the new one, with the label added
@@ -103,8 +103,8 @@ pub record IsStep {P S E R A L : Type 0} (M : Machine S E R A L) (old : CoreView
   -- after an error the variables, the handlers and the tasks are as they were before it
   pub shows_before : (kind : ErrorKind) → said ≡ ErrorStep kind → new.table ≡ old.table
 
--- a step isn't made where the core can't take it, else where 1,000,000 were made; memory may be refused in any case
+-- a step isn't made where the core can't take it, else where as many were made as a run may have; memory may be refused in any case
 abbrev pub IsStepRefused : {P S E R A L : Type 0} → Machine S E R A L → CoreView P S E L → Label E → StepFault → Type 0
 IsStepRefused M c l NotEnabled = CanTake M c l → ⊥
-IsStepRefused M c l Full = CanTake M c l × (c.steps ≡ MOST_STEPS)
+IsStepRefused M c l Full = CanTake M c l × (c.steps ≡ MOST_PROGRAM_STEPS)
 IsStepRefused M c l Memory = Unit {0}

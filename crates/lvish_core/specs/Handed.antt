@@ -1,6 +1,6 @@
 -- What a handler's step takes and leaves.
 use Rattle.std.specs.Prelude.{◌≡◌, Some, None, Result, MatchResult, length, slice_get}
-use Rattle.lvish_core.specs.Vocabulary.{MOST_STEPS, Hand, Stepped, StepFault, NotEnabled, Full, Memory, Moved, HandlerPlace}
+use Rattle.lvish_core.specs.Vocabulary.{MOST_PROGRAM_STEPS, Hand, Stepped, StepFault, NotEnabled, Full, Memory, Moved, HandlerPlace}
 use Rattle.lvish_calculus.specs.Machine.{Machine}
 use Rattle.lvish_names.specs.Names.{Handler, handed}
 use Rattle.lvish_variable.specs.Variable.{VariableView as Variable}
@@ -19,7 +19,7 @@ pub record IsHanded {P S E R A L : Type 0} (M : Machine S E R A L) (old : CoreVi
 -- why no event is handed to h: what holds of the step with each event
 abbrev pub IsNotHanded : {P S E R A L : Type 0} → Machine S E R A L → CoreView P S E L → Handler E → StepFault → Type 0
 IsNotHanded {E = E} M c h NotEnabled = (e : E) → CanTake M c (Hand h e) → ⊥
-IsNotHanded {E = E} M c h Full = (e : E) × CanTake M c (Hand h e) × (c.steps ≡ MOST_STEPS)
+IsNotHanded {E = E} M c h Full = (e : E) × CanTake M c (Hand h e) × (c.steps ≡ MOST_PROGRAM_STEPS)
 IsNotHanded M c h Memory = Unit {0}
 
 -- there is no error, and e comes next for h, which is at this place

@@ -1,6 +1,6 @@
 -- What a core keeps.
 use Rattle.std.specs.Prelude.{◌≡◌, ◌≤◌, ◌+◌, ℕ, List, length}
-use Rattle.lvish_core.specs.Vocabulary.{MOST_STEPS, Label, HandlerPlace}
+use Rattle.lvish_core.specs.Vocabulary.{MOST_PROGRAM_STEPS, Label, HandlerPlace}
 use Rattle.lvish_calculus.specs.Machine.{Machine}
 use Rattle.lvish_calculus.specs.Calculus.{Task, Live}
 use Rattle.lvish_names.specs.Names.{Name, Handler}
@@ -29,6 +29,6 @@ pub record IsKept {P S E R A L : Type 0} (M : Machine S E R A L) (variables runn
   pub counted : CountsRunning M c.table
   pub live : HasLive (state M c) running
   pub index : IsIndex M (state M c) places
-  pub steps : c.steps ≤ MOST_STEPS
+  pub steps : c.steps ≤ MOST_PROGRAM_STEPS
   pub few : running ≤ c.steps + 1
   pub numbers : AreFew (state M c).tasks c.steps

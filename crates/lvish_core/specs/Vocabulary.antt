@@ -9,7 +9,7 @@ pub use Rattle.lvish_calculus.specs.declared.request.Reply.{Reply}
 pub use Rattle.lvish_calculus.specs.declared.request.Reply.TheVariants.{Done, Answer, Content}
 pub use Rattle.lvish_variable.specs.declared.entry.Entry.{Entry}
 pub use Rattle.lvish_handlers.specs.declared.held.Held.{Held}
-pub use Rattle.lvish_core.specs.declared.limits.TheConstants.{MOST_STEPS}
+pub use Rattle.lvish_core.specs.declared.limits.TheConstants.{MOST_PROGRAM_STEPS}
 pub use Rattle.lvish_core.specs.declared.fault.RunError.{RunError}
 pub use Rattle.lvish_core.specs.declared.fault.Stepped.{Stepped}
 pub use Rattle.lvish_core.specs.declared.fault.Stepped.TheVariants.{Done as DoneStep, Error as ErrorStep}

@@ -4,7 +4,7 @@ ghost use Rattle.std.specs.Prelude.{◌≡◌, ◌<◌, ◌++◌, ◌∷◌, [],
 ghost use Rattle.lvish_core.specs.Beside.{PutAt, RefusedAt, FrozenAt, AddedAt, HandedAt, CountsAt, CanCount, CanHand, IsPostedAt, CanAdd, one_more_in, one_less_in};
 
 use crate::handler_place::HandlerPlace;
-use crate::limits::MOST_STEPS;
+use crate::limits::MOST_PROGRAM_STEPS;
 use lvish_handlers::{AddFault, Handlers, NothingToHand};
 use lvish_lattice::Lattice;
 use lvish_names::{HandlerName, TaskName};
@@ -96,7 +96,7 @@ pub(crate) fn hand_at<L: Lattice>(
 
 /// Counts one more task in the pool, if there is one.
 pub(crate) fn start_at<L: Lattice>(handlers: &mut [Handlers<L>], place: Option<HandlerPlace>)
-    requires { CanCount (λ n. n < MOST_STEPS) handlers.old place }
+    requires { CanCount (λ n. n < MOST_PROGRAM_STEPS) handlers.old place }
     ensures { CountsAt one_more_in handlers.old place handlers.new }
 {
     if let Some(place) = place {

@@ -4,7 +4,7 @@ ghost use Rattle.std.specs.Prelude.{◌≡◌, ◌+◌, ◌<◌, Some};
 ghost use Rattle.lvish_names.specs.Names.{Name};
 ghost use Rattle.lvish_core.specs.Tasks.{IsAt, Sets, standing};
 
-use crate::limits::MOST_STEPS;
+use crate::limits::MOST_PROGRAM_STEPS;
 use crate::stage::Stage;
 use crate::tasks::Tasks;
 use crate::touched::Touched;
@@ -21,7 +21,7 @@ pub(crate) fn close<E: Plain + Hash, L: Drop>(
     stage: Stage<L>,
     concerned: Touched,
 )
-    requires room { steps.old < MOST_STEPS }
+    requires room { steps.old < MOST_PROGRAM_STEPS }
     ensures tasks { (t : Name E) → IsAt tasks.old index t → Sets E.eq tasks.old t (standing stage) tasks.new }
     ensures steps { steps.new ≡ steps.old + 1 }
     ensures touched { touched.new ≡ Some concerned }

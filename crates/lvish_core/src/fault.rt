@@ -37,7 +37,7 @@ pub enum Stepped {
 pub enum StepFault {
     /// The label isn't enabled, or hands another event than the log's next.
     NotEnabled,
-    /// 1,000,000 steps were made.
+    /// 4,294,967,295 steps were made.
     Full,
     /// A growth was refused.
     Memory,

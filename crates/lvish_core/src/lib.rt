@@ -41,7 +41,7 @@ mod touched;
 
 pub use core_meaning::CoreMeaning;
 pub use fault::{RunError, StepFault, Stepped};
-pub use limits::MOST_STEPS;
+pub use limits::MOST_PROGRAM_STEPS;
 pub use machine::Core;
 pub use moved::{Made, Moved};
 pub use stage::TaskNumbers;

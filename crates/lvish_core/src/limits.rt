@@ -1,2 +1,2 @@
 /// The most steps of a run.
-pub const MOST_STEPS: u64 = lvish_handlers::MOST_STEPS;
+pub const MOST_PROGRAM_STEPS: u64 = lvish_handlers::MOST_PROGRAM_STEPS;

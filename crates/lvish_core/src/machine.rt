@@ -129,7 +129,7 @@ impl<'p, P: Program> Core<'p, P> {
     /// # Errors
     ///
     /// `NotEnabled` where the label isn't enabled or hands another event than the log's next, else
-    /// `Full` where 1,000,000 steps were made; `Memory` where a growth was refused. The core is as
+    /// `Full` where 4,294,967,295 steps were made; `Memory` where a growth was refused. The core is as
     /// it was.
     pub fn step(
         &mut self,

@@ -6,7 +6,7 @@ ghost use Rattle.lvish_handlers.specs.Handlers.{IsHeld, IsByName, IsWithin, IsAd
 
 use crate::fault::{AddFault, NothingToHand};
 use crate::held::{Held, place_of};
-use crate::limits::MOST_STEPS;
+use crate::limits::MOST_PROGRAM_STEPS;
 use lvish_lattice::Lattice;
 use lvish_names::HandlerName;
 use lvish_variable::Variable;
@@ -227,7 +227,7 @@ impl<L: Lattice> Handlers<L> {
     /// One more task runs in the pool.
     pub fn task_started(&mut self, pool: usize)
         requires pool_is_there { pool < length self.old.running }
-        requires few { slice_index self.old.running pool < MOST_STEPS }
+        requires few { slice_index self.old.running pool < MOST_PROGRAM_STEPS }
         ensures { self.new ≡ record { held = self.old.held; running = slice_set self.old.running pool (slice_index self.old.running pool + 1) } }
     {
         self.running[pool] += 1;

@@ -27,4 +27,4 @@ mod limits;
 pub use fault::{AddFault, NothingToHand};
 pub use handlers::Handlers;
 pub use held::Held;
-pub use limits::MOST_STEPS;
+pub use limits::MOST_PROGRAM_STEPS;

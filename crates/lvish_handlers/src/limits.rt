@@ -1,2 +1,3 @@
-/// The most steps of a run. A step starts one task at most, so no more of them run.
-pub const MOST_STEPS: u64 = 1_000_000;
+/// The most steps of a run of any program. A step starts one task at most, so the index of each task has
+/// 32 bits, and no more of them run.
+pub const MOST_PROGRAM_STEPS: u64 = 4_294_967_295;

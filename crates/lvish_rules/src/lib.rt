@@ -22,6 +22,7 @@ mod solving;
 
 pub use answer::Answer;
 pub use fault::SolveFault;
+pub use lvish_run::{MOST_PROGRAM_STEPS, MOST_WORKERS};
 pub use moves::Move;
 pub use reach::Graph;
 pub use ruled::Ruled;

@@ -15,7 +15,8 @@ use crate::rules::Rules;
 use lvish_calculus::{Meaning, Program};
 use lvish_lattice::{Lattice, Reads};
 use lvish_run::{
-    MOST_STEPS, MOST_WORKERS, Open, Outcome, Report, RunFault, run_program, run_program_picks,
+    MOST_PROGRAM_STEPS, MOST_WORKERS, Open, Outcome, Report, RunFault, run_program,
+    run_program_picks,
 };
 use std::alloc::Global;
 use std::sync::Wait;
@@ -52,20 +53,20 @@ fn answer_of<R: Rules>(
     told(report)
 }
 
-/// The lesser of the budget and [`MOST_STEPS`].
+/// The lesser of the budget and [`MOST_PROGRAM_STEPS`].
 fn within_limits(budget: u64) -> u64
-    ensures small { result ≤ MOST_STEPS }
-    ensures either { (result ≡ budget) ⊎ (result ≡ MOST_STEPS) }
+    ensures small { result ≤ MOST_PROGRAM_STEPS }
+    ensures either { (result ≡ budget) ⊎ (result ≡ MOST_PROGRAM_STEPS) }
 {
-    if budget < MOST_STEPS {
+    if budget < MOST_PROGRAM_STEPS {
         budget
     } else {
-        MOST_STEPS
+        MOST_PROGRAM_STEPS
     }
 }
 
 /// Computes what follows from the rules by this many workers, in as many steps as the budget has, or
-/// 1,000,000 if that is less: one for each move, and one for each event that a watch is handed.
+/// 4,294,967,295 if that is less: one for each move, and one for each event that a watch is handed.
 ///
 /// # Errors
 ///
@@ -93,7 +94,7 @@ where
     // There are no other events, whole or not.
     ensures sound { IfOk result (λ a. HasOnly R.Lat.events_of (R.rule_set analysis.now.rules) a.states) }
     // It is whole, or all steps are used up.
-    ensures spent { IfOk result (λ a. a.is_whole ≡ false → (a.steps ≡ budget) ⊎ (a.steps ≡ MOST_STEPS)) }
+    ensures spent { IfOk result (λ a. a.is_whole ≡ false → (a.steps ≡ budget) ⊎ (a.steps ≡ MOST_PROGRAM_STEPS)) }
     // A conflict is told only where puts that follow join to top, and no other error but depth.
     ensures erring { (kind : ErrorKind) → result ≡ Err (Erring kind) → Errs R.Lat.joined R.Lat.least R.Lat.events_of (R.rule_set analysis.now.rules) kind }
 {
@@ -119,7 +120,7 @@ pub fn solve_alone<R: Rules>(
 ) -> Result<Answer<R::Lat>, SolveFault>
     ensures exact { IfOk result (λ a. a.is_whole ≡ true → HasExactly R.Lat.events_of (R.rule_set analysis.now.rules) a.states) }
     ensures sound { IfOk result (λ a. HasOnly R.Lat.events_of (R.rule_set analysis.now.rules) a.states) }
-    ensures spent { IfOk result (λ a. a.is_whole ≡ false → (a.steps ≡ budget) ⊎ (a.steps ≡ MOST_STEPS)) }
+    ensures spent { IfOk result (λ a. a.is_whole ≡ false → (a.steps ≡ budget) ⊎ (a.steps ≡ MOST_PROGRAM_STEPS)) }
     ensures erring { (kind : ErrorKind) → result ≡ Err (Erring kind) → Errs R.Lat.joined R.Lat.least R.Lat.events_of (R.rule_set analysis.now.rules) kind }
 {
     let most = within_limits(budget);

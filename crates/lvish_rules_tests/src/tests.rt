@@ -2,6 +2,7 @@
 
 ghost use Rattle.std.specs.Prelude.{◌≤◌, ◌<◌};
 
+use crate::weighed::Weighed;
 use lvish_lattice::{GrowSet, Items};
 use lvish_rules::{Answer, Graph, Ruled, SolveFault, solve, solve_alone};
 use std::alloc::{AllocError, Global};
@@ -94,6 +95,66 @@ fn what_can_be_reached_is_found(rt: HostRuntime) -> Result<(), Fail> {
         for workers in 1..9 {
             let said = found(&rt, alloc, root, workers, budget)?;
             assert_eq!(rt; said.as_str(), text);
+        }
+    }
+    Ok(())
+}
+
+/// Node 0 leads to nodes 1 to 200, each of these to two others up to 600.
+fn fan(alloc: Global) -> Result<Graph, AllocError> {
+    let mut next = Vec::new(alloc);
+    let mut first = Vec::new(alloc);
+    for node in 1..201i64 {
+        first.push(node)?;
+    }
+    next.push(Items::new(first))?;
+    for node in 1..201i64 {
+        next.push(nodes(alloc, &[node + 200, node + 400])?)?;
+    }
+    Ok(Graph {
+        root: 0,
+        next: Items::new(next),
+    })
+}
+
+/// What this many workers find in the fan; once more where a growth was refused, or a thread is missing
+/// for it.
+fn found_in_fan<R: Threads + Wait + Sync>(
+    rt: &R,
+    alloc: Global,
+    statements: usize,
+    workers: usize,
+) -> Result<Answer<GrowSet<i64>>, SolveFault>
+    requires some { 0 < workers }
+    requires few { workers ≤ 8 }
+{
+    let analysis = Ruled {
+        rules: Weighed {
+            graph: fan(alloc)?,
+            statements,
+        },
+    };
+    match solve(rt, alloc, &analysis, workers, 10_000) {
+        Err(SolveFault::Memory | SolveFault::NoThread) => {
+            solve(rt, alloc, &analysis, workers, 10_000)
+        }
+        told => told,
+    }
+}
+
+/// A crew is called where moves are said to take a thousand statements, and none where they take none.
+#[test]
+fn a_crew_finds_what_one_worker_finds(rt: HostRuntime) -> Result<(), Fail> {
+    let alloc = rt.alloc();
+    for statements in [0, 1000] {
+        for workers in 1..9 {
+            let answer = found_in_fan(&rt, alloc, statements, workers)?;
+            assert!(rt; answer.is_whole());
+            assert_eq!(rt; answer.steps(), 1805);
+            let Some(set) = answer.state(0) else {
+                return Err(Fail::from("no relation"));
+            };
+            assert_eq!(rt; set.len(), 601);
         }
     }
     Ok(())

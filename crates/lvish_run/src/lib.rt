@@ -51,7 +51,7 @@ pub use closing::report_of;
 pub use ends::{always_alike, always_ends};
 pub use fault::RunFault;
 pub use gate::{Gate, Open};
-pub use limits::{MOST_STEPS, MOST_WORKERS};
+pub use limits::{MOST_PROGRAM_STEPS, MOST_STEPS, MOST_WORKERS};
 pub use lvish_report::{Counts, FinalState, Freezes, Report, States, report_text, trace_text};
 pub use lvish_trace::{Outcome, Trace, TraceEntry};
 pub use picks::pick_at;

@@ -16,7 +16,7 @@ ghost use Rattle.lvish_run.specs.Walk.{IsStuck, IsDrawn, IsFirstHandler, IsTurn,
 use crate::account::outcome_of;
 use crate::agenda::Agenda;
 use crate::closing::told;
-use crate::limits::MOST_STEPS;
+use crate::limits::MOST_PROGRAM_STEPS;
 use crate::naming::{Naming, Of};
 use crate::opening::open_one;
 use crate::picks::pick_at;
@@ -210,7 +210,7 @@ fn opened<'p, P: Program, J: Named<P>>(
 ) -> Result<(Board<'p, P, J>, Agenda<P, J>), AllocError>
     requires program { program.now ≡ J.program }
     requires budget { budget ≡ J.budget }
-    requires small { budget ≤ MOST_STEPS }
+    requires small { budget ≤ MOST_PROGRAM_STEPS }
     requires history { history.seen.book ≡ J.book }
     ensures board { IfOk result (λ r. IsOpened (⟦<P as Meaning>⟧.machine J.program) J.program r.0) }
     ensures agenda { IfOk result (λ r. IsFor P.Lat.Event.cmp (⟦<P as Meaning>⟧.machine J.program) r.0 r.1) }
@@ -236,7 +236,7 @@ fn walked<'p, P: Program, J: Named<P>>(
 ) -> Result<Board<'p, P, J>, AllocError>
     requires program { program.now ≡ J.program }
     requires budget { budget ≡ J.budget }
-    requires small { budget ≤ MOST_STEPS }
+    requires small { budget ≤ MOST_PROGRAM_STEPS }
     requires history { history.seen.book ≡ J.book }
     ensures { IfOk result (λ b. IsWalked P.Lat.Event.cmp (⟦<P as Meaning>⟧.machine J.program) J.program picks.now J.budget b.core b.trace) }
 {
@@ -257,7 +257,7 @@ pub fn run_program_picks<P: Runnable>(
     picks: &[u64],
     budget: u64,
 ) -> Result<Report<P::Lat, <P::Lat as Lattice>::Event>, AllocError>
-    requires { budget ≤ MOST_STEPS }
+    requires { budget ≤ MOST_PROGRAM_STEPS }
     ensures honest { IfOk result (λ r. IsHonest (⟦<P as Meaning>⟧.machine program.now) (P.functions program.now).variables 1 budget r) }
     ensures picked { IfOk result (λ r. IsPicked P.Lat.Event.cmp (⟦<P as Meaning>⟧.machine program.now) picks.now [] (Running (start (⟦<P as Meaning>⟧.machine program.now))) (labels_of r.trace)) }
     // What handlers are handed in it.
@@ -282,7 +282,7 @@ fn run_named<P: Runnable, N: Naming<P>>(
 ) -> Result<Report<P::Lat, <P::Lat as Lattice>::Event>, AllocError>
     requires program { program.now ≡ unwrap_or N.program P.blank }
     requires budget { budget ≡ N.budget }
-    requires small { budget ≤ MOST_STEPS }
+    requires small { budget ≤ MOST_PROGRAM_STEPS }
     requires history { history.seen.book ≡ N.book }
     ensures honest { IfOk result (λ r. IsHonest (⟦<P as Meaning>⟧.machine (unwrap_or N.program P.blank)) (P.functions (unwrap_or N.program P.blank)).variables 1 N.budget r) }
     ensures picked { IfOk result (λ r. IsPicked P.Lat.Event.cmp (⟦<P as Meaning>⟧.machine (unwrap_or N.program P.blank)) picks.now [] (Running (start (⟦<P as Meaning>⟧.machine (unwrap_or N.program P.blank)))) (labels_of r.trace)) }

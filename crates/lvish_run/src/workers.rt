@@ -11,7 +11,7 @@ ghost use Rattle.lvish_run.specs.Least.{IsLeast, IsClosedEnd};
 use crate::fault::RunFault;
 use crate::gate::Gate;
 use crate::hall::Hall;
-use crate::limits::{MOST_STEPS, MOST_WORKERS};
+use crate::limits::{MOST_PROGRAM_STEPS, MOST_STEPS, MOST_WORKERS};
 use crate::naming::{Naming, Of, Staff};
 use crate::order::Order;
 use crate::own::OwnSite;
@@ -87,7 +87,7 @@ pub fn run_program<P: Shareable, R: Threads + Wait + Sync, G: Gate + Sync>(
 ) -> Result<Report<P::Lat, <P::Lat as Lattice>::Event>, RunFault>
     requires some { 0 < workers }
     requires few { workers ≤ MOST_WORKERS }
-    requires bounded { budget ≤ MOST_STEPS }
+    requires bounded { budget ≤ MOST_PROGRAM_STEPS }
     ensures honest { IfOk result (λ r. IsHonest (⟦<P as Meaning>⟧.machine program.now) (P.functions program.now).variables workers budget r) }
     // What handlers are handed in it.
     ensures handed { IfOk result (λ r. IsWellHanded (⟦<P as Meaning>⟧.machine program.now) (labels_of r.trace)) }
@@ -121,7 +121,7 @@ fn run_named<
 ) -> Result<Report<P::Lat, <P::Lat as Lattice>::Event>, RunFault>
     requires some { 0 < workers }
     requires few { workers ≤ MOST_WORKERS }
-    requires bounded { budget ≤ MOST_STEPS }
+    requires bounded { budget ≤ MOST_PROGRAM_STEPS }
     requires program { program.now ≡ unwrap_or N.program P.blank }
     requires budget { budget ≡ N.budget }
     requires workers { workers ≡ N.workers }

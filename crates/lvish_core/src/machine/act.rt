@@ -6,7 +6,7 @@ ghost use Rattle.lvish_core.specs.Tasks.{IsAt};
 
 use super::Core;
 use crate::fault::{StepFault, Stepped};
-use crate::limits::MOST_STEPS;
+use crate::limits::MOST_PROGRAM_STEPS;
 use crate::moved::Moved;
 use crate::stage::TaskNumbers;
 use lvish_calculus::{Meaning, Program, Reply, Request};
@@ -26,7 +26,7 @@ impl<'p, P: Program> Core<'p, P> {
         request: &Request<P::Lat, <P::Lat as Reads>::Read, P::Local>,
         left: &mut Option<P::Local>,
     ) -> Result<(Stepped, Moved<<P::Lat as Lattice>::Event, P::Local>), StepFault>
-        requires room { self.old.steps < MOST_STEPS }
+        requires room { self.old.steps < MOST_PROGRAM_STEPS }
         requires asked { IsAsked (⟦<P as Meaning>⟧.machine self.old.program) self.old name.now at numbers.forks numbers.adds numbers.puts request.now }
         requires there { IsAt self.old.table.tasks numbers.index name.now }
         ensures acts { ActsIfReady (⟦<P as Meaning>⟧.machine self.old.program) self.old name.now request.now self.new result }

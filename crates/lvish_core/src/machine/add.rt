@@ -10,7 +10,7 @@ use super::Core;
 use crate::ending::close;
 use crate::fault::{StepFault, Stepped};
 use crate::handler_place::HandlerPlace;
-use crate::limits::MOST_STEPS;
+use crate::limits::MOST_PROGRAM_STEPS;
 use crate::moved::Moved;
 use crate::resumed::resumed;
 use crate::seat::seat;
@@ -35,7 +35,7 @@ impl<'p, P: Program> Core<'p, P> {
         pool: usize,
         procedure: usize,
     ) -> Result<(Stepped, Moved<<P::Lat as Lattice>::Event, P::Local>), StepFault>
-        requires room { self.old.steps < MOST_STEPS }
+        requires room { self.old.steps < MOST_PROGRAM_STEPS }
         requires acting { IsActing (⟦<P as Meaning>⟧.machine self.old.program) self.old name.now at numbers.forks numbers.adds numbers.puts (Add pool procedure) }
         requires there { IsAt self.old.table.tasks numbers.index name.now }
         ensures { Acts (⟦<P as Meaning>⟧.machine self.old.program) self.old name.now self.new result }
@@ -67,7 +67,7 @@ impl<'p, P: Program> Core<'p, P> {
         handler: HandlerName<<P::Lat as Lattice>::Event>,
         place: HandlerPlace,
     ) -> Result<(Stepped, Moved<<P::Lat as Lattice>::Event, P::Local>), StepFault>
-        requires room { self.old.steps < MOST_STEPS }
+        requires room { self.old.steps < MOST_PROGRAM_STEPS }
         requires acting { IsActing (⟦<P as Meaning>⟧.machine self.old.program) self.old name.now at numbers.forks numbers.adds numbers.puts (Add place.pool place.procedure) }
         requires there { IsAt self.old.table.tasks numbers.index name.now }
         requires seated { IsSeating (⟦<P as Meaning>⟧.machine self.old.program) self.old name.now numbers.adds handler place }

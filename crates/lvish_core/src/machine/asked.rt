@@ -6,7 +6,7 @@ ghost use Rattle.lvish_calculus.specs.declared.label.Label.TheVariants.{Act};
 use super::Core;
 use crate::core_meaning::CoreMeaning;
 use crate::fault::{StepFault, Stepped};
-use crate::limits::MOST_STEPS;
+use crate::limits::MOST_PROGRAM_STEPS;
 use crate::moved::Moved;
 use crate::stage::{Stage, TaskNumbers};
 use lvish_calculus::{Asks, Meaning, Program, Request};
@@ -78,6 +78,7 @@ impl<'p, P: Program> Core<'p, P> {
     ///
     /// As `step` with the task's label. The local state is left as it was, but at `Memory`: a put, a fork
     /// or another act may have used it up by then, and the task asks anew.
+    #[inline(always)]
     pub fn step_live(
         &mut self,
         alloc: Global,
@@ -99,7 +100,7 @@ impl<'p, P: Program> Core<'p, P> {
         if self.fault.is_some() {
             return Err(StepFault::NotEnabled);
         }
-        if self.steps >= MOST_STEPS {
+        if self.steps >= MOST_PROGRAM_STEPS {
             return Err(self.fault_at_the_most(name, request));
         }
         let Some(local) = at.take() else {
@@ -114,7 +115,7 @@ impl<'p, P: Program> Core<'p, P> {
         name: &TaskName<<P::Lat as Lattice>::Event>,
         request: &Request<P::Lat, <P::Lat as Reads>::Read, P::Local>,
     ) -> StepFault
-        requires most { self.now.steps ≡ MOST_STEPS }
+        requires most { self.now.steps ≡ MOST_PROGRAM_STEPS }
         requires there { IsSome (⟦<P as CoreMeaning>⟧.local_in self.now name.now) }
         requires request { ⟦<P as CoreMeaning>⟧.is_its_request self.now name.now request.now }
         ensures { ⟦<P as CoreMeaning>⟧.is_refused self.now (Act name.now) result }

@@ -9,7 +9,7 @@ use super::Core;
 use crate::beside::end_at;
 use crate::ending::close;
 use crate::fault::{StepFault, Stepped};
-use crate::limits::MOST_STEPS;
+use crate::limits::MOST_PROGRAM_STEPS;
 use crate::moved::Moved;
 use crate::stage::{Stage, TaskNumbers};
 use crate::touched::Touched;
@@ -28,7 +28,7 @@ impl<'p, P: Program> Core<'p, P> {
         numbers: TaskNumbers,
         left: &mut Option<P::Local>,
     ) -> Result<(Stepped, Moved<<P::Lat as Lattice>::Event, P::Local>), StepFault>
-        requires room { self.old.steps < MOST_STEPS }
+        requires room { self.old.steps < MOST_PROGRAM_STEPS }
         requires acting { IsActing (⟦<P as Meaning>⟧.machine self.old.program) self.old name.now at numbers.forks numbers.adds numbers.puts End }
         requires there { IsAt self.old.table.tasks numbers.index name.now }
         ensures acts { Acts (⟦<P as Meaning>⟧.machine self.old.program) self.old name.now self.new result }

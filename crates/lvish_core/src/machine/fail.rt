@@ -5,7 +5,7 @@ ghost use Rattle.lvish_core.specs.Acts.{IsFailing, Acts};
 
 use super::Core;
 use crate::fault::{RunError, StepFault, Stepped};
-use crate::limits::MOST_STEPS;
+use crate::limits::MOST_PROGRAM_STEPS;
 use crate::moved::Moved;
 use crate::touched::Touched;
 use lvish_calculus::laws::lawful;
@@ -22,7 +22,7 @@ impl<'p, P: Program> Core<'p, P> {
         kind: ErrorKind,
         variable: Option<usize>,
     ) -> Result<(Stepped, Moved<<P::Lat as Lattice>::Event, P::Local>), StepFault>
-        requires room { self.old.steps < MOST_STEPS }
+        requires room { self.old.steps < MOST_PROGRAM_STEPS }
         requires failing { IsFailing (⟦<P as Meaning>⟧.machine self.old.program) self.old name.now kind variable }
         ensures { Acts (⟦<P as Meaning>⟧.machine self.old.program) self.old name.now self.new result }
     {

@@ -10,7 +10,7 @@ use crate::beside::start_at;
 use crate::child::child_of;
 use crate::ending::close;
 use crate::fault::{StepFault, Stepped};
-use crate::limits::MOST_STEPS;
+use crate::limits::MOST_PROGRAM_STEPS;
 use crate::moved::Moved;
 use crate::resumed::resumed;
 use crate::stage::TaskNumbers;
@@ -32,7 +32,7 @@ impl<'p, P: Program> Core<'p, P> {
         numbers: TaskNumbers,
         child: &P::Local,
     ) -> Result<(Stepped, Moved<<P::Lat as Lattice>::Event, P::Local>), StepFault>
-        requires room { self.old.steps < MOST_STEPS }
+        requires room { self.old.steps < MOST_PROGRAM_STEPS }
         requires acting { IsActing (⟦<P as Meaning>⟧.machine self.old.program) self.old name.now at numbers.forks numbers.adds numbers.puts (Fork child.now) }
         requires there { IsAt self.old.table.tasks numbers.index name.now }
         ensures { Acts (⟦<P as Meaning>⟧.machine self.old.program) self.old name.now self.new result }

@@ -9,7 +9,7 @@ use super::Core;
 use crate::beside::{freeze_at, list_freeze};
 use crate::ending::close;
 use crate::fault::{StepFault, Stepped};
-use crate::limits::MOST_STEPS;
+use crate::limits::MOST_PROGRAM_STEPS;
 use crate::moved::Moved;
 use crate::resumed::resumed_on;
 use crate::stage::TaskNumbers;
@@ -31,7 +31,7 @@ impl<'p, P: Program> Core<'p, P> {
         numbers: TaskNumbers,
         variable: usize,
     ) -> Result<(Stepped, Moved<<P::Lat as Lattice>::Event, P::Local>), StepFault>
-        requires room { self.old.steps < MOST_STEPS }
+        requires room { self.old.steps < MOST_PROGRAM_STEPS }
         requires acting { (pools : List ℕ) × IsActing (⟦<P as Meaning>⟧.machine self.old.program) self.old name.now at numbers.forks numbers.adds numbers.puts (Freeze variable pools) }
         requires there { IsAt self.old.table.tasks numbers.index name.now }
         ensures { Acts (⟦<P as Meaning>⟧.machine self.old.program) self.old name.now self.new result }

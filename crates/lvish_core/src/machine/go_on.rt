@@ -7,7 +7,7 @@ ghost use Rattle.lvish_core.specs.Tasks.{IsAt};
 use super::Core;
 use crate::ending::close;
 use crate::fault::{StepFault, Stepped};
-use crate::limits::MOST_STEPS;
+use crate::limits::MOST_PROGRAM_STEPS;
 use crate::moved::Moved;
 use crate::resumed::resumed;
 use crate::stage::TaskNumbers;
@@ -29,7 +29,7 @@ impl<'p, P: Program> Core<'p, P> {
         numbers: TaskNumbers,
         reply: Reply<P::Lat, <P::Lat as Reads>::Answer>,
     ) -> Result<(Stepped, Moved<<P::Lat as Lattice>::Event, P::Local>), StepFault>
-        requires room { self.old.steps < MOST_STEPS }
+        requires room { self.old.steps < MOST_PROGRAM_STEPS }
         requires replied { IsReplied (⟦<P as Meaning>⟧.machine self.old.program) self.old name.now at numbers.forks numbers.adds numbers.puts reply }
         requires there { IsAt self.old.table.tasks numbers.index name.now }
         ensures { Acts (⟦<P as Meaning>⟧.machine self.old.program) self.old name.now self.new result }

@@ -8,7 +8,7 @@ use super::Core;
 use crate::beside::hand_at;
 use crate::fault::{StepFault, Stepped};
 use crate::handler_place::{HandlerPlace, HandlerSeat};
-use crate::limits::MOST_STEPS;
+use crate::limits::MOST_PROGRAM_STEPS;
 use crate::moved::{Made, Moved};
 use crate::stage::Stage;
 use crate::touched::Touched;
@@ -28,8 +28,9 @@ impl<'p, P: Program> Core<'p, P> {
     /// # Errors
     ///
     /// `NotEnabled` where there is no such handler, where it was handed the whole log, or after an
-    /// error; else `Full` where 1,000,000 steps were made; `Memory` where a growth was refused.
+    /// error; else `Full` where 4,294,967,295 steps were made; `Memory` where a growth was refused.
     /// The core is as it was.
+    #[inline(always)]
     pub fn step_hand(
         &mut self,
         alloc: Global,
@@ -62,6 +63,7 @@ impl<'p, P: Program> Core<'p, P> {
     }
 
     /// Hands the event that comes next, and starts the task that handles it.
+    #[inline(always)]
     fn hand(
         &mut self,
         alloc: Global,
@@ -70,7 +72,7 @@ impl<'p, P: Program> Core<'p, P> {
         at: usize,
         event: <P::Lat as Lattice>::Event,
     ) -> Result<(Stepped, Moved<<P::Lat as Lattice>::Event, P::Local>), StepFault>
-        requires room { self.old.steps < MOST_STEPS }
+        requires room { self.old.steps < MOST_PROGRAM_STEPS }
         requires handing { IsHanding (⟦<P as Meaning>⟧.machine self.old.program) self.old name.now place event }
         requires at { IsPostedAt name.now place at self.old.table.handlers }
         ensures { Hands (⟦<P as Meaning>⟧.machine self.old.program) self.old name.now event self.new result }

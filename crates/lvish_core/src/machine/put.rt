@@ -9,7 +9,7 @@ use super::Core;
 use crate::beside::put_at;
 use crate::ending::close;
 use crate::fault::{StepFault, Stepped};
-use crate::limits::MOST_STEPS;
+use crate::limits::MOST_PROGRAM_STEPS;
 use crate::moved::Moved;
 use crate::resumed::resumed;
 use crate::stage::TaskNumbers;
@@ -33,7 +33,7 @@ impl<'p, P: Program> Core<'p, P> {
         variable: usize,
         state: &P::Lat,
     ) -> Result<(Stepped, Moved<<P::Lat as Lattice>::Event, P::Local>), StepFault>
-        requires room { self.old.steps < MOST_STEPS }
+        requires room { self.old.steps < MOST_PROGRAM_STEPS }
         requires acting { IsActing (⟦<P as Meaning>⟧.machine self.old.program) self.old name.now at numbers.forks numbers.adds numbers.puts (Put variable state.now) }
         requires there { IsAt self.old.table.tasks numbers.index name.now }
         ensures { Acts (⟦<P as Meaning>⟧.machine self.old.program) self.old name.now self.new result }
@@ -67,7 +67,7 @@ impl<'p, P: Program> Core<'p, P> {
         variable: usize,
         refused: PutFault,
     ) -> Result<(Stepped, Moved<<P::Lat as Lattice>::Event, P::Local>), StepFault>
-        requires room { self.old.steps < MOST_STEPS }
+        requires room { self.old.steps < MOST_PROGRAM_STEPS }
         requires refused { IsRefused (⟦<P as Meaning>⟧.machine self.old.program) self.old name.now variable refused }
         ensures { Acts (⟦<P as Meaning>⟧.machine self.old.program) self.old name.now self.new result }
     {

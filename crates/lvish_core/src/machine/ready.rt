@@ -7,7 +7,7 @@ ghost use Rattle.lvish_core.specs.Core.{state};
 ghost use Rattle.lvish_core.specs.Tasks.{standing};
 
 use super::Core;
-use crate::limits::MOST_STEPS;
+use crate::limits::MOST_PROGRAM_STEPS;
 use crate::stage::Stage;
 use lvish_calculus::{Meaning, Program, Request};
 use lvish_lattice::{Lattice, Reads};
@@ -17,9 +17,9 @@ use std::alloc::{AllocError, Global};
 impl<'p, P: Program> Core<'p, P> {
     /// Whether no further step is made.
     pub(super) fn is_full(&self) -> bool
-        ensures { IsTrue result ↔ (MOST_STEPS ≤ self.now.steps) }
+        ensures { IsTrue result ↔ (MOST_PROGRAM_STEPS ≤ self.now.steps) }
     {
-        self.steps >= MOST_STEPS
+        self.steps >= MOST_PROGRAM_STEPS
     }
 
     /// Whether the request of a task can be made: a get has its answer; for a freeze every cursor
