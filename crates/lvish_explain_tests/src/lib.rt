@@ -1,4 +1,5 @@
-//! Tests of `lvish_explain`, proved over the built crate: refused scripts and their explanations.
+//! Tests of `lvish_explain` and `lvish_format`, proved over the built crates: refused scripts and their
+//! explanations, and texts and their layouts.
 #![tactic(auto)]
 
 #[cfg(test)]

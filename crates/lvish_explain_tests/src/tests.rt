@@ -2,6 +2,7 @@
 
 mod faults;
 mod given;
+mod layouts;
 mod reasons;
 
 use faults::FAULTS;

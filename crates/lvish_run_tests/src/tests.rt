@@ -2,6 +2,7 @@
 
 ghost use Rattle.std.specs.Prelude.{◌≤◌, ◌<◌};
 
+mod again;
 mod gates;
 mod native;
 mod scripts;
