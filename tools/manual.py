@@ -17,6 +17,12 @@ SOURCES = ("crates/lvish_cli/src/commands.rt", "crates/lvish_cli/src/arguments.r
 TEXT = r'"((?:[^"\\]|\\.|\\\n)*)"'
 CONSTANT = re.compile(rf"(?m)^(?:pub )?const (\w+): &str =\s*{TEXT};")
 FUNCTION = re.compile(r"(?ms)^(?:pub )?fn (\w+)<'a>\(.*?^\}")
+ARGUMENT = re.compile(rf"const (\w+): Argument = Argument \{{\s*name: {TEXT},\s*value: {TEXT},\s*help: {TEXT},\s*takes: Takes::(\w+)")
+COMMAND = re.compile(rf"CommandText \{{\s*name: {TEXT},\s*kind: CommandKind::(\w+),\s*about: {TEXT},\s*help: (\w+),")
+OF = re.compile(r"CommandKind::(\w+) => (\w+)\.as_slice\(\),")
+LIST = re.compile(r"static (\w+): \[Argument; \d+\] = \[([^\]]*)\];")
+# What takes no value, and what stands without a flag.
+NOTHING, PLAIN = ("Nothing", "NothingWithout"), ("Text", "Picks", "Numbers")
 ALSO = "docs/LANGUAGE.md has the script language, each fault, and all that is printed."
 
 
@@ -25,40 +31,33 @@ def told(text):
     return re.sub(r"\\(.)", r"\1", re.sub(r"\\\n\s*", "", text))
 
 
+def written(name, value, takes):
+    """Returns how an argument is written."""
+    if takes in PLAIN:
+        return value
+    return f"--{name}" + ("" if takes in NOTHING else f"[={value}]" if takes == "Whether" else f" {value}")
+
+
 class Words:
-    """What the sources say: texts by their names, and the calls in each function."""
+    """What the sources say: texts and arguments by their names, and of each command its name, what it does, its help and its arguments."""
 
     def __init__(self):
-        self.source = ""
+        source = ""
         for path in SOURCES:
             if os.path.exists(f"{kit.ROOT}/{path}"):
                 with open(f"{kit.ROOT}/{path}", encoding="utf-8") as it:
-                    self.source += it.read()
-        self.texts = {name: told(text) for name, text in CONSTANT.findall(self.source)}
-        self.functions = {it[1]: it[0] for it in FUNCTION.finditer(self.source)}
-        self.program = next(name for name, text in self.functions.items() if 'Command::new(alloc, "lvish")' in text)
+                    source += it.read()
+        self.texts = {name: told(text) for name, text in CONSTANT.findall(source)}
+        self.program = next(it[0] for it in FUNCTION.finditer(source) if 'Command::new(alloc, "lvish")' in it[0])
+        self.arguments = {it[0]: (written(it[1], it[2], it[4]), told(it[3])) for it in ARGUMENT.findall(source)}
+        lists = {name: re.findall(r"\w+", names) for name, names in LIST.findall(source)}
+        of = dict(OF.findall(source))
+        self.commands = [(name, told(about), self.texts[text], lists[of[kind]]) for name, kind, about, text in COMMAND.findall(source)]
 
-    def called(self, function, method):
-        """Returns what a function gives a method: a text, or the name of a text."""
-        found = re.search(rf'\.{method}\(\s*(?:{TEXT}|(\w+)),?\s*\)', self.functions[function])
-        return "" if not found else self.texts[found[2]] if found[2] else told(found[1])
-
-    def commands(self):
-        """Returns each command's name with its function, in the order of the program's help."""
-        found = []
-        for function in dict.fromkeys(re.findall(r"\.subcommand\((\w+)\(alloc\)\?\)", self.source)):
-            found.append((re.search(rf"Command::new\(alloc, {TEXT}\)", self.functions[function])[1], function))
-        return found
-
-    def arguments(self, function):
-        """Returns the arguments of a command: how each is written, and its help."""
-        found = []
-        for of in re.findall(r"\.arg\((\w+)\(alloc\)\??\)", self.functions[function]):
-            flag, value = self.called(of, "long"), self.called(of, "value_name")
-            optional = "require_equals" in self.functions[of]
-            written = f"--{flag}" + (f"[={value}]" if optional else f" {value}" if value else "") if flag else value
-            found.append((written, self.called(of, "help")))
-        return found
+    def of_program(self, method):
+        """Returns what the program is told by a method: a text, or what a text's name stands for."""
+        found = re.search(rf'\.{method}\(\s*(?:{TEXT}|(\w+)),?\s*\)', self.program)
+        return self.texts[found[2]] if found[2] else told(found[1])
 
 
 def line_of(text):
@@ -79,16 +78,16 @@ def paragraphs(text):
 
 def page(words):
     """Returns the whole page."""
-    about = words.called(words.program, "about")
+    about = words.of_program("about")
     lines = ['.\\" Made by tools/manual.py.', ".TH LVISH 1", ".SH NAME", f"lvish \\- {about[0].lower()}{about[1:]}"]
-    lines += [".SH SYNOPSIS", ".nf", *(line_of(it.strip()) for it in words.called(words.program, "override_usage").split("\n")), ".fi"]
-    lines += [".SH DESCRIPTION", *paragraphs(words.called(words.program, "after_help"))[1:]]
+    lines += [".SH SYNOPSIS", ".nf", *(line_of(it.strip()) for it in words.of_program("override_usage").split("\n")), ".fi"]
+    lines += [".SH DESCRIPTION", *paragraphs(words.of_program("after_help"))[1:]]
     lines += [".PP", line_of("With --help it says the same, of a command too."), ".SH COMMANDS"]
-    for name, function in words.commands():
-        lines += [f".SS lvish {name}", f"{line_of(words.called(function, 'about'))}."]
-        for written, text in words.arguments(function):
-            lines += [".TP", f".B {line_of(written)}", line_of(text)]
-        lines += paragraphs(words.called(function, "after_help"))
+    for name, about, text, arguments in words.commands:
+        lines += [f".SS lvish {name}", f"{line_of(about)}."]
+        for argument in arguments:
+            lines += [".TP", f".B {line_of(words.arguments[argument][0])}", line_of(words.arguments[argument][1])]
+        lines += paragraphs(text)
     return "\n".join([*lines, ".SH SEE ALSO", ALSO, ""])
 
 
@@ -100,9 +99,8 @@ def faults():
         with open(path, encoding="utf-8") as it:
             own = it.read()
     found = [] if own == page(words) else [f"{PAGE}: not as tools/manual.py makes it"]
-    flags = [f"\\-\\-{it}" for it in re.findall(r'\.long\("(\w+)"\)', words.source)]
-    names = [f".SS lvish {it}" for it in re.findall(r'Command::new\(alloc, "(\w+)"\)', words.source) if it != "lvish"]
-    return found + [f"{PAGE}: lacks {it}" for it in flags + names if it not in own]
+    parts = [line_of(it) for it, _ in words.arguments.values()] + [f".SS lvish {it[0]}" for it in words.commands]
+    return found + [f"{PAGE}: lacks {it}" for it in parts if it not in own]
 
 
 if __name__ == "__main__":

@@ -1,9 +1,7 @@
-//! The arguments of commands, with their help.
-//!
-//! Each argument has a function of its own, so that a command that is refused drops no other.
+//! The arguments of commands, with their help, as data: a function for each would be proved for each.
 
 use clap::builder::ValueParser;
-use clap::{Arg, ArgAction, value_parser};
+use clap::{Arg, ArgAction, Command, value_parser};
 use lvish_run::{MOST_STEPS, MOST_WORKERS};
 use std::alloc::{AllocError, Global};
 
@@ -13,159 +11,219 @@ pub const MOST_PICK: i64 = 1_000_000;
 /// The values of `--why`.
 const WHETHER: [&str; 2] = ["yes", "no"];
 
-/// The most runs that are tried.
-const MOST_TIMES: i64 = 1_000_000;
-
-/// How many causes deep a tree is printed at most.
-const MOST_DEPTH: i64 = 1_000;
-
-pub fn file<'a>(alloc: Global) -> Arg<'a> {
-    Arg::new(alloc, "file")
-        .value_name("FILE")
-        .help("The script, or - for standard input")
-        .value_parser(ValueParser::NonEmptyString)
-        .required(true)
+/// What an argument takes.
+#[derive(Clone, Copy)]
+enum Takes {
+    /// A text, which has to be there.
+    Text,
+    /// Nothing: it is there or not.
+    Nothing,
+    /// The same, where another one isn't there.
+    NothingWithout(&'static str),
+    /// A number from the least to the most, or the usual one.
+    Number(i64, i64, &'static str),
+    /// Any number, or the usual one.
+    AnyNumber(&'static str),
+    /// Picks.
+    Picks,
+    /// An event's number, behind its key where it has one, and picks.
+    Numbers,
+    /// Whether to do it, which may be left out.
+    Whether,
 }
 
-pub fn steps<'a>(alloc: Global) -> Arg<'a> {
-    Arg::new(alloc, "steps")
-        .long("steps")
-        .value_name("N")
-        .help("Stop the run after N steps, 0 to 1000000")
-        .value_parser(value_parser!(u64).range(0..=MOST_STEPS as i64))
-        .default_value("100000")
+/// An argument: its name, how its value is called, its help, and what it takes.
+#[derive(Clone, Copy)]
+pub struct Argument {
+    name: &'static str,
+    value: &'static str,
+    help: &'static str,
+    takes: Takes,
 }
 
-pub fn all<'a>(alloc: Global) -> Arg<'a> {
-    Arg::new(alloc, "all")
-        .long("all")
-        .help("Report every variable, not frozen ones alone")
-        .action(ArgAction::SetTrue)
+pub const FILE: Argument = Argument {
+    name: "file",
+    value: "FILE",
+    help: "The script, or - for standard input",
+    takes: Takes::Text,
+};
+
+pub const STEPS: Argument = Argument {
+    name: "steps",
+    value: "N",
+    help: "Stop the run after N steps, 0 to 1000000",
+    takes: Takes::Number(0, MOST_STEPS as i64, "100000"),
+};
+
+pub const ALL: Argument = Argument {
+    name: "all",
+    value: "",
+    help: "Report every variable, not frozen ones alone",
+    takes: Takes::Nothing,
+};
+
+pub const ENDS: Argument = Argument {
+    name: "ends",
+    value: "",
+    help: "Say as well whether all runs of the script end",
+    takes: Takes::Nothing,
+};
+
+pub const ALIKE: Argument = Argument {
+    name: "alike",
+    value: "",
+    help: "Say as well whether all runs or all ends of the script are the same",
+    takes: Takes::Nothing,
+};
+
+pub const WHY: Argument = Argument {
+    name: "why",
+    value: "WHETHER",
+    help: "Explain on standard error what came of it, as on a terminal",
+    takes: Takes::Whether,
+};
+
+pub const TRIED_STEPS: Argument = Argument {
+    name: "steps",
+    value: "N",
+    help: "Try so many steps for --ends and --alike, 0 to 1000000",
+    takes: Takes::Number(0, MOST_STEPS as i64, "100000"),
+};
+
+pub const WORKERS: Argument = Argument {
+    name: "workers",
+    value: "N",
+    help: "How many workers run the script, 1 to 8",
+    takes: Takes::Number(1, MOST_WORKERS as i64, "2"),
+};
+
+pub const PICKS: Argument = Argument {
+    name: "picks",
+    value: "N",
+    help: "Which of the enabled steps is made, in turn, 0 to 1000000",
+    takes: Takes::Picks,
+};
+
+pub const JSON: Argument = Argument {
+    name: "json",
+    value: "",
+    help: "Print one JSON object, as docs/JSON.md describes it",
+    takes: Takes::Nothing,
+};
+
+pub const TRACE: Argument = Argument {
+    name: "trace",
+    value: "",
+    help: "Print the trace before the report",
+    takes: Takes::NothingWithout("json"),
+};
+
+pub const PICKS_LINE: Argument = Argument {
+    name: "picks",
+    value: "",
+    help: "Print as well the picks that make this run again",
+    takes: Takes::Nothing,
+};
+
+pub const TIMES: Argument = Argument {
+    name: "times",
+    value: "N",
+    help: "How many runs are made, 1 to 1000000",
+    takes: Takes::Number(1, 1_000_000, "100"),
+};
+
+pub const SEED: Argument = Argument {
+    name: "seed",
+    value: "S",
+    help: "From which picks are drawn, 0 to 18446744073709551615",
+    takes: Takes::AnyNumber("1"),
+};
+
+pub const VARIABLE: Argument = Argument {
+    name: "variable",
+    value: "VAR",
+    help: "The variable",
+    takes: Takes::Text,
+};
+
+pub const NUMBERS: Argument = Argument {
+    name: "numbers",
+    value: "NUMBER",
+    help: "The event's number, after its key where the variable has keys; then picks",
+    takes: Takes::Numbers,
+};
+
+pub const DEPTH: Argument = Argument {
+    name: "depth",
+    value: "N",
+    help: "How many causes deep the tree goes, 1 to 1000",
+    takes: Takes::Number(1, 1_000, "10"),
+};
+
+pub const DOT: Argument = Argument {
+    name: "dot",
+    value: "",
+    help: "Print it for Graphviz",
+    takes: Takes::Nothing,
+};
+
+/// An argument that takes what one of the data above says.
+fn taking<'a>(arg: Arg<'a>, argument: &Argument) -> Result<Arg<'a>, AllocError> {
+    let Argument { name, value, .. } = *argument;
+    Ok(match argument.takes {
+        Takes::Text => arg
+            .value_name(value)
+            .value_parser(ValueParser::NonEmptyString)
+            .required(true),
+        Takes::Nothing => arg.long(name).action(ArgAction::SetTrue),
+        Takes::NothingWithout(other) => {
+            return arg
+                .long(name)
+                .action(ArgAction::SetTrue)
+                .conflicts_with(other);
+        }
+        Takes::Number(least, most, usual) => arg
+            .long(name)
+            .value_name(value)
+            .value_parser(value_parser!(u64).range(least..=most))
+            .default_value(usual),
+        Takes::AnyNumber(usual) => arg
+            .long(name)
+            .value_name(value)
+            .value_parser(value_parser!(u64))
+            .default_value(usual),
+        Takes::Picks => arg
+            .value_name(value)
+            .value_parser(value_parser!(u64).range(0..=MOST_PICK))
+            .num_args(0..)
+            .action(ArgAction::Append),
+        Takes::Numbers => arg
+            .value_name(value)
+            .value_parser(value_parser!(i64))
+            .num_args(1..)
+            .allow_negative_numbers(true)
+            .action(ArgAction::Append)
+            .required(true),
+        Takes::Whether => arg
+            .long(name)
+            .value_name(value)
+            .value_parser(WHETHER.as_slice())
+            .num_args(0..=1)
+            .require_equals(true)
+            .default_missing_value("yes"),
+    })
 }
 
-pub fn ends<'a>(alloc: Global) -> Arg<'a> {
-    Arg::new(alloc, "ends")
-        .long("ends")
-        .help("Say as well whether all runs of the script end")
-        .action(ArgAction::SetTrue)
-}
-
-pub fn alike<'a>(alloc: Global) -> Arg<'a> {
-    Arg::new(alloc, "alike")
-        .long("alike")
-        .help("Say as well whether all runs or all ends of the script are the same")
-        .action(ArgAction::SetTrue)
-}
-
-pub fn why<'a>(alloc: Global) -> Arg<'a> {
-    Arg::new(alloc, "why")
-        .long("why")
-        .value_name("WHETHER")
-        .help("Explain on standard error what came of it, as on a terminal")
-        .value_parser(WHETHER.as_slice())
-        .num_args(0..=1)
-        .require_equals(true)
-        .default_missing_value("yes")
-}
-
-pub fn tried_steps<'a>(alloc: Global) -> Arg<'a> {
-    Arg::new(alloc, "steps")
-        .long("steps")
-        .value_name("N")
-        .help("Try so many steps for --ends and --alike, 0 to 1000000")
-        .value_parser(value_parser!(u64).range(0..=MOST_STEPS as i64))
-        .default_value("100000")
-}
-
-pub fn workers<'a>(alloc: Global) -> Arg<'a> {
-    Arg::new(alloc, "workers")
-        .long("workers")
-        .value_name("N")
-        .help("How many workers run the script, 1 to 8")
-        .value_parser(value_parser!(u64).range(1..=MOST_WORKERS as i64))
-        .default_value("2")
-}
-
-pub fn picks<'a>(alloc: Global) -> Arg<'a> {
-    Arg::new(alloc, "picks")
-        .value_name("N")
-        .help("Which of the enabled steps is made, in turn, 0 to 1000000")
-        .value_parser(value_parser!(u64).range(0..=MOST_PICK))
-        .num_args(0..)
-        .action(ArgAction::Append)
-}
-
-pub fn json<'a>(alloc: Global) -> Arg<'a> {
-    Arg::new(alloc, "json")
-        .long("json")
-        .help("Print one JSON object, as docs/JSON.md describes it")
-        .action(ArgAction::SetTrue)
-}
-
-pub fn trace<'a>(alloc: Global) -> Result<Arg<'a>, AllocError> {
-    Arg::new(alloc, "trace")
-        .long("trace")
-        .help("Print the trace before the report")
-        .action(ArgAction::SetTrue)
-        .conflicts_with("json")
-}
-
-pub fn picks_line<'a>(alloc: Global) -> Arg<'a> {
-    Arg::new(alloc, "picks")
-        .long("picks")
-        .help("Print as well the picks that make this run again")
-        .action(ArgAction::SetTrue)
-}
-
-pub fn times<'a>(alloc: Global) -> Arg<'a> {
-    Arg::new(alloc, "times")
-        .long("times")
-        .value_name("N")
-        .help("How many runs are made, 1 to 1000000")
-        .value_parser(value_parser!(u64).range(1..=MOST_TIMES))
-        .default_value("100")
-}
-
-pub fn seed<'a>(alloc: Global) -> Arg<'a> {
-    Arg::new(alloc, "seed")
-        .long("seed")
-        .value_name("S")
-        .help("From which picks are drawn, 0 to 18446744073709551615")
-        .value_parser(value_parser!(u64))
-        .default_value("1")
-}
-
-pub fn variable<'a>(alloc: Global) -> Arg<'a> {
-    Arg::new(alloc, "variable")
-        .value_name("VAR")
-        .help("The variable")
-        .value_parser(ValueParser::NonEmptyString)
-        .required(true)
-}
-
-pub fn numbers<'a>(alloc: Global) -> Arg<'a> {
-    Arg::new(alloc, "numbers")
-        .value_name("NUMBER")
-        .help("The event's number, after its key where the variable has keys; then picks")
-        .value_parser(value_parser!(i64))
-        .num_args(1..)
-        .allow_negative_numbers(true)
-        .action(ArgAction::Append)
-        .required(true)
-}
-
-pub fn depth<'a>(alloc: Global) -> Arg<'a> {
-    Arg::new(alloc, "depth")
-        .long("depth")
-        .value_name("N")
-        .help("How many causes deep the tree goes, 1 to 1000")
-        .value_parser(value_parser!(u64).range(1..=MOST_DEPTH))
-        .default_value("10")
-}
-
-pub fn dot<'a>(alloc: Global) -> Arg<'a> {
-    Arg::new(alloc, "dot")
-        .long("dot")
-        .help("Print it for Graphviz")
-        .action(ArgAction::SetTrue)
+/// The command with these arguments.
+pub fn with_arguments<'a>(
+    alloc: Global,
+    command: Command<'a>,
+    arguments: &[Argument],
+) -> Result<Command<'a>, AllocError> {
+    let mut command = command;
+    for argument in arguments {
+        let arg = Arg::new(alloc, argument.name).help(argument.help);
+        command = command.arg(taking(arg, argument)?)?;
+    }
+    Ok(command)
 }

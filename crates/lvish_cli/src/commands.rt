@@ -1,8 +1,8 @@
 //! The words that the program knows, with their help.
 
 use crate::arguments::{
-    alike, all, depth, dot, ends, file, json, numbers, picks, picks_line, seed, steps, times,
-    trace, tried_steps, variable, why, workers,
+    ALIKE, ALL, Argument, DEPTH, DOT, ENDS, FILE, JSON, NUMBERS, PICKS, PICKS_LINE, SEED, STEPS,
+    TIMES, TRACE, TRIED_STEPS, VARIABLE, WHY, WORKERS, with_arguments,
 };
 use clap::Command;
 use std::alloc::{AllocError, Global};
@@ -22,19 +22,118 @@ pub const USUAL_SEED: u64 = 1;
 /// How many causes deep a tree is printed where words don't say.
 pub const USUAL_DEPTH: u64 = 10;
 
+/// What a command asks for.
+#[derive(Clone, Copy)]
+pub enum CommandKind {
+    Check,
+    Run,
+    Pick,
+    Try,
+    Why,
+    Graph,
+    Format,
+}
+
+/// What is told of a command: its name, what it asks for, what it does, its help, and how it is written where its arguments
+/// don't say it.
+#[derive(Clone, Copy)]
+struct CommandText {
+    name: &'static str,
+    kind: CommandKind,
+    about: &'static str,
+    help: &'static str,
+    usage: Option<&'static str>,
+}
+
+/// The commands. They are data, since a function for each would be proved for each.
+const COMMANDS: [CommandText; 7] = [
+    CommandText {
+        name: "check",
+        kind: CommandKind::Check,
+        about: "Says whether a text is a script",
+        help: CHECK_HELP,
+        usage: None,
+    },
+    CommandText {
+        name: "run",
+        kind: CommandKind::Run,
+        about: "Runs a script and prints its report",
+        help: RUN_HELP,
+        usage: None,
+    },
+    CommandText {
+        name: "pick",
+        kind: CommandKind::Pick,
+        about: "Runs a script by picks and prints its trace and its report",
+        help: PICK_HELP,
+        usage: None,
+    },
+    CommandText {
+        name: "try",
+        kind: CommandKind::Try,
+        about: "Runs a script many times by drawn picks and prints each outcome once",
+        help: TRY_HELP,
+        usage: None,
+    },
+    CommandText {
+        name: "why",
+        kind: CommandKind::Why,
+        about: "Runs a script by picks and prints how one event came about",
+        help: WHY_HELP,
+        usage: Some(WHY_USAGE),
+    },
+    CommandText {
+        name: "graph",
+        kind: CommandKind::Graph,
+        about: "Prints what each procedure of a script does",
+        help: GRAPH_HELP,
+        usage: None,
+    },
+    CommandText {
+        name: "fmt",
+        kind: CommandKind::Format,
+        about: "Prints a text in one layout",
+        help: FORMAT_HELP,
+        usage: None,
+    },
+];
+
+/// The arguments of a command.
+fn arguments_of(kind: CommandKind) -> &'static [Argument] {
+    match kind {
+        CommandKind::Check => CHECK.as_slice(),
+        CommandKind::Run => RUN.as_slice(),
+        CommandKind::Pick => PICK.as_slice(),
+        CommandKind::Try => TRY.as_slice(),
+        CommandKind::Why => DERIVATION.as_slice(),
+        CommandKind::Graph => GRAPH.as_slice(),
+        CommandKind::Format => FORMAT.as_slice(),
+    }
+}
+
+/// What is told of the command of this name, if there is one.
+fn text_of(name: &str) -> Option<CommandText> {
+    for text in COMMANDS.as_slice() {
+        if text.name == name {
+            return Some(*text);
+        }
+    }
+    None
+}
+
+/// What the command of this name asks for, if there is one.
+pub fn kind_of(name: &str) -> Option<CommandKind> {
+    let text = text_of(name)?;
+    Some(text.kind)
+}
+
 /// The program with the command of this name, or with all commands where none has it. So words that name
 /// one don't wait for the others.
 pub fn program<'a>(alloc: Global, name: &str) -> Result<Command<'a>, AllocError> {
     let program = without_commands(alloc)?;
-    match name {
-        "check" => program.subcommand(check(alloc)?),
-        "run" => program.subcommand(run(alloc)?),
-        "pick" => program.subcommand(pick(alloc)?),
-        "try" => program.subcommand(tries(alloc)?),
-        "why" => program.subcommand(derivation(alloc)?),
-        "graph" => program.subcommand(graph(alloc)?),
-        "fmt" => program.subcommand(format(alloc)?),
-        _ => with_all(alloc, program),
+    match text_of(name) {
+        Some(text) => program.subcommand(command_of(alloc, &text)?),
+        None => with_all(alloc, program),
     }
 }
 
@@ -55,14 +154,23 @@ fn without_commands<'a>(alloc: Global) -> Result<Command<'a>, AllocError> {
 
 /// The program with all commands.
 fn with_all<'a>(alloc: Global, program: Command<'a>) -> Result<Command<'a>, AllocError> {
-    program
-        .subcommand(check(alloc)?)?
-        .subcommand(run(alloc)?)?
-        .subcommand(pick(alloc)?)?
-        .subcommand(tries(alloc)?)?
-        .subcommand(derivation(alloc)?)?
-        .subcommand(graph(alloc)?)?
-        .subcommand(format(alloc)?)
+    let mut program = program;
+    for text in COMMANDS.as_slice() {
+        program = program.subcommand(command_of(alloc, text)?)?;
+    }
+    Ok(program)
+}
+
+/// The command of which this is told.
+fn command_of<'a>(alloc: Global, text: &CommandText) -> Result<Command<'a>, AllocError> {
+    let command = Command::new(alloc, text.name)
+        .about(text.about)
+        .after_help(text.help);
+    let command = match text.usage {
+        Some(usage) => command.override_usage(usage),
+        None => command,
+    };
+    with_arguments(alloc, command, arguments_of(text.kind))
 }
 
 /// What `--version` prints behind the name of the program.
@@ -101,18 +209,8 @@ Statuses:
   7  memory was refused
   8  another fault: a thread can't be started, or standard output is full";
 
-/// The words of a check.
-fn check<'a>(alloc: Global) -> Result<Command<'a>, AllocError> {
-    Command::new(alloc, "check")
-        .about("Says whether a text is a script")
-        .after_help(CHECK_HELP)
-        .arg(file(alloc))?
-        .arg(ends(alloc))?
-        .arg(alike(alloc))?
-        .arg(tried_steps(alloc))?
-        .arg(json(alloc))?
-        .arg(why(alloc))
-}
+/// The arguments of `check`.
+static CHECK: [Argument; 6] = [FILE, ENDS, ALIKE, TRIED_STEPS, JSON, WHY];
 
 const CHECK_HELP: &str = "\
 Prints `ok`, or `refused NUMBER NAME line L`: the first fault, and the line that has it.
@@ -133,20 +231,8 @@ Examples:
 
 Statuses: 0 a script, 3 unreadable, 4 refused, 7 memory, 8 another fault";
 
-/// The words of a run.
-fn run<'a>(alloc: Global) -> Result<Command<'a>, AllocError> {
-    Command::new(alloc, "run")
-        .about("Runs a script and prints its report")
-        .after_help(RUN_HELP)
-        .arg(file(alloc))?
-        .arg(workers(alloc))?
-        .arg(steps(alloc))?
-        .arg(all(alloc))?
-        .arg(trace(alloc)?)?
-        .arg(picks_line(alloc))?
-        .arg(json(alloc))?
-        .arg(why(alloc))
-}
+/// The arguments of `run`.
+static RUN: [Argument; 8] = [FILE, WORKERS, STEPS, ALL, TRACE, PICKS_LINE, JSON, WHY];
 
 const RUN_HELP: &str = "\
 The report has a line for each frozen variable, or for each with --all, and then
@@ -162,18 +248,8 @@ Examples:
 Statuses: 0 ended, 1 ended with blocked tasks, 3 unreadable, 4 script refused,
 5 run in error, 6 stopped by its budget, 7 memory, 8 another fault";
 
-/// The words of a run by picks.
-fn pick<'a>(alloc: Global) -> Result<Command<'a>, AllocError> {
-    Command::new(alloc, "pick")
-        .about("Runs a script by picks and prints its trace and its report")
-        .after_help(PICK_HELP)
-        .arg(file(alloc))?
-        .arg(picks(alloc))?
-        .arg(steps(alloc))?
-        .arg(all(alloc))?
-        .arg(json(alloc))?
-        .arg(why(alloc))
-}
+/// The arguments of `pick`.
+static PICK: [Argument; 6] = [FILE, PICKS, STEPS, ALL, JSON, WHY];
 
 const PICK_HELP: &str = "\
 At each step the tasks and handlers that can go on are counted from 0, in the order of their
@@ -189,18 +265,8 @@ Example:
 Statuses: 0 ended, 1 ended with blocked tasks, 3 unreadable, 4 script refused,
 5 run in error, 6 stopped by its budget, 7 memory, 8 another fault";
 
-/// The words of runs by drawn picks.
-fn tries<'a>(alloc: Global) -> Result<Command<'a>, AllocError> {
-    Command::new(alloc, "try")
-        .about("Runs a script many times by drawn picks and prints each outcome once")
-        .after_help(TRY_HELP)
-        .arg(file(alloc))?
-        .arg(times(alloc))?
-        .arg(seed(alloc))?
-        .arg(steps(alloc))?
-        .arg(json(alloc))?
-        .arg(why(alloc))
-}
+/// The arguments of `try`.
+static TRY: [Argument; 6] = [FILE, TIMES, SEED, STEPS, JSON, WHY];
 
 const TRY_HELP: &str = "\
 Each outcome stands once, with how often it came and a list of few picks that gives it:
@@ -212,21 +278,8 @@ Example:
 Statuses: 0 all runs agree, 1 they don't, 3 unreadable, 4 script refused, 7 memory,
 8 another fault";
 
-/// The words that ask how an event came about.
-fn derivation<'a>(alloc: Global) -> Result<Command<'a>, AllocError> {
-    Command::new(alloc, "why")
-        .about("Runs a script by picks and prints how one event came about")
-        .override_usage(WHY_USAGE)
-        .after_help(WHY_HELP)
-        .arg(file(alloc))?
-        .arg(variable(alloc))?
-        .arg(numbers(alloc))?
-        .arg(steps(alloc))?
-        .arg(depth(alloc))?
-        .arg(dot(alloc))
-}
-
-const WHY_USAGE: &str = "lvish why FILE VAR [KEY] NUMBER [N]... [--steps N] [--depth N] [--dot]";
+/// The arguments of `why`.
+static DERIVATION: [Argument; 6] = [FILE, VARIABLE, NUMBERS, STEPS, DEPTH, DOT];
 
 const WHY_HELP: &str = "\
 An event of a cell, a set or a counter is its NUMBER. One of a map, a pair or a tally has a KEY
@@ -244,14 +297,10 @@ Examples:
 Statuses: 0 the event is there, 1 it isn't, 2 the script has no such variable, or a number is
 missing or too great, 3 unreadable, 4 script refused, 7 memory, 8 another fault";
 
-/// The words of a graph.
-fn graph<'a>(alloc: Global) -> Result<Command<'a>, AllocError> {
-    Command::new(alloc, "graph")
-        .about("Prints what each procedure of a script does")
-        .after_help(GRAPH_HELP)
-        .arg(file(alloc))?
-        .arg(dot(alloc))
-}
+const WHY_USAGE: &str = "lvish why FILE VAR [KEY] NUMBER [N]... [--steps N] [--depth N] [--dot]";
+
+/// The arguments of `graph`.
+static GRAPH: [Argument; 2] = [FILE, DOT];
 
 const GRAPH_HELP: &str = "\
 Below the name of each procedure stands what it does: which variables it puts into, reads and
@@ -263,13 +312,8 @@ Example:
 
 Statuses: 0 printed, 3 unreadable, 4 script refused, 7 memory, 8 another fault";
 
-/// The words of a layout.
-fn format<'a>(alloc: Global) -> Result<Command<'a>, AllocError> {
-    Command::new(alloc, "fmt")
-        .about("Prints a text in one layout")
-        .after_help(FORMAT_HELP)
-        .arg(file(alloc))
-}
+/// The arguments of `fmt`.
+static FORMAT: [Argument; 1] = [FILE];
 
 const FORMAT_HELP: &str = "\
 One space stands between words, and two for each open block and procedure. Comments and empty lines

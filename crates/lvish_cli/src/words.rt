@@ -1,7 +1,9 @@
 ghost use Rattle.std.specs.Prelude.{◌≡◌, ◌≤◌, [], IfOk, IsOkAnd};
 ghost use Rattle.lvish_cli.specs.Orders.{IsInBounds, usual_run};
 
-use crate::commands::{USUAL_DEPTH, USUAL_SEED, USUAL_STEPS, USUAL_TIMES, USUAL_WORKERS, program};
+use crate::commands::{
+    CommandKind, USUAL_DEPTH, USUAL_SEED, USUAL_STEPS, USUAL_TIMES, USUAL_WORKERS, kind_of, program,
+};
 use crate::order::{
     CheckOrder, GraphOrder, Numbers, Order, PickOrder, Picks, RunOrder, Source, TryOrder,
     UsageFault, WhyOrder,
@@ -84,17 +86,19 @@ fn asked_of(alloc: Global, matches: &ArgMatches<'_>) -> Result<Asked, UsageFault
 fn order_by(alloc: Global, command: &str, words: &ArgMatches<'_>) -> Result<Order, UsageFault>
     ensures { IfOk result IsInBounds }
 {
-    Ok(match command {
-        "check" => check_of(words),
-        "run" => run_of(words),
-        "pick" => pick_of(alloc, words)?,
-        "try" => try_of(words),
-        "why" => why_of(alloc, words)?,
-        "graph" => Order::Graph(GraphOrder {
+    let Some(kind) = kind_of(command) else {
+        return Err(UsageFault::Refused(String::new(alloc)));
+    };
+    Ok(match kind {
+        CommandKind::Check => check_of(words),
+        CommandKind::Run => run_of(words),
+        CommandKind::Pick => pick_of(alloc, words)?,
+        CommandKind::Try => try_of(words),
+        CommandKind::Why => why_of(alloc, words)?,
+        CommandKind::Graph => Order::Graph(GraphOrder {
             dot: words.get_flag("dot"),
         }),
-        "fmt" => Order::Format,
-        _ => return Err(UsageFault::Refused(String::new(alloc))),
+        CommandKind::Format => Order::Format,
     })
 }
 

@@ -11,10 +11,14 @@ use Rattle.lvish_explain.specs.declared.known.Known.{Known}
 abbrev pub seen : Known → Word × ℕ
 seen k = (k.name.now, k.line)
 
+-- whether a line that begins with this word declares a variable
+abbrev pub declares_variable : Word → Bool
+declares_variable w = bytes_eq w (codes "cell") || bytes_eq w (codes "set") || bytes_eq w (codes "max") || bytes_eq w (codes "map") || bytes_eq w (codes "pair") || bytes_eq w (codes "tally")
+
 -- what a line that begins with this word declares
 abbrev pub space_of : Word → Option Space
 space_of w =
-    if bytes_eq w (codes "cell") || bytes_eq w (codes "set") || bytes_eq w (codes "max") || bytes_eq w (codes "map") || bytes_eq w (codes "pair") || bytes_eq w (codes "tally") then Some Variable else
+    if declares_variable w then Some Variable else
     if bytes_eq w (codes "pool") then Some Pool else
     if bytes_eq w (codes "proc") then Some Procedure else None
 

@@ -1,7 +1,7 @@
 //! The names that lines declare, each with its line.
 
 ghost use Rattle.std.specs.Prelude.{◌≡◌, IfOk, OnOk, ◌++◌, [], map};
-ghost use Rattle.lvish_explain.specs.Known.{seen, space_of, declared_by, declared_from, is_procedure_line, binds_local, locals_by, locals_from, names_of};
+ghost use Rattle.lvish_explain.specs.Known.{seen, declares_variable, space_of, declared_by, declared_from, is_procedure_line, binds_local, locals_by, locals_from, names_of};
 
 use crate::word::is;
 use lvish_checks::put_words;
@@ -23,15 +23,30 @@ pub struct Known<'a> {
     pub line: usize,
 }
 
+// A match on texts would be proved byte by byte.
+fn declares_variable(first: &[u8]) -> bool
+    ensures { result ≡ declares_variable first.now }
+{
+    is(first, b"cell")
+        || is(first, b"set")
+        || is(first, b"max")
+        || is(first, b"map")
+        || is(first, b"pair")
+        || is(first, b"tally")
+}
+
 /// What a line that begins with this word declares.
 pub fn space_of(first: &[u8]) -> Option<Space>
     ensures { result ≡ space_of first.now }
 {
-    match first {
-        b"cell" | b"set" | b"max" | b"map" | b"pair" | b"tally" => Some(Space::Variable),
-        b"pool" => Some(Space::Pool),
-        b"proc" => Some(Space::Procedure),
-        _ => None,
+    if declares_variable(first) {
+        Some(Space::Variable)
+    } else if is(first, b"pool") {
+        Some(Space::Pool)
+    } else if is(first, b"proc") {
+        Some(Space::Procedure)
+    } else {
+        None
     }
 }
 

@@ -2,6 +2,7 @@
 //! `format_script`, whose text it is, drops it then.
 
 ghost use Rattle.std.specs.Prelude.{◌≡◌, ◌<◌, ◌^◌, ◌++◌, OnOk, map};
+ghost use Rattle.std.specs.Str.{bytes_eq};
 ghost use Rattle.lvish_script.specs.Canonical.{spaced, words_joined};
 ghost use Rattle.lvish_format.specs.Format.{indent, margin, formatted_line, depth_after, ended};
 
@@ -27,15 +28,25 @@ fn push_spaced(text: &mut Vec<u8>, words: &[&[u8]]) -> Result<(), AllocError>
     Ok(())
 }
 
+// A match on texts would be proved byte by byte.
+/// Whether a word is this text.
+fn is(word: &[u8], text: &[u8]) -> bool
+    ensures { result ≡ bytes_eq word.now text.now }
+{
+    word == text
+}
+
 /// Before how many blocks a line with this first word stands: `proc` stands before none, and `end`
 /// and `else` below the line that opened their block.
 fn margin(depth: usize, first: &[u8]) -> usize
     ensures { result ≡ margin depth first.now }
 {
-    match first {
-        b"proc" => 0,
-        b"end" | b"else" => depth.saturating_sub(1),
-        _ => depth,
+    if is(first, b"proc") {
+        0
+    } else if is(first, b"end") || is(first, b"else") {
+        depth.saturating_sub(1)
+    } else {
+        depth
     }
 }
 
@@ -47,11 +58,14 @@ pub fn depth_after(depth: usize, pieces: &[&[u8]]) -> usize
     let [first, ..] = pieces else {
         return depth;
     };
-    match *first {
-        b"proc" => 1,
-        b"if" | b"while" => depth + 1,
-        b"end" => depth.saturating_sub(1),
-        _ => depth,
+    if is(first, b"proc") {
+        1
+    } else if is(first, b"if") || is(first, b"while") {
+        depth + 1
+    } else if is(first, b"end") {
+        depth.saturating_sub(1)
+    } else {
+        depth
     }
 }
 

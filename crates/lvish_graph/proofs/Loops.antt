@@ -1,8 +1,8 @@
 -- Loops that push what each item of a list gives, or the items that pass a test.
-use Rattle.std.proofs.Common.{◌≡◌, ℕ, ◌+◌, ◌<◌, Bool, true, false, List, [], ◌∷◌, ◌++◌, take, length, get_or, sym, ap, subst, ◌∙◌, append_assoc}
+use Rattle.std.proofs.Common.{◌≡◌, ℕ, ◌+◌, ◌<◌, ◌≤◌, Bool, true, false, List, [], ◌∷◌, ◌++◌, take, length, get_or, sym, ap, subst, ◌∙◌, append_assoc}
 use Rattle.std.specs.Prelude.{filter, if◌then◌else◌}
 use Rattle.std.specs.List.{flat_map}
-use Rattle.std.proofs.lemmas.List.{append-nil, take_more}
+use Rattle.std.proofs.lemmas.List.{append-nil, take_more, take_all}
 use Rattle.std.proofs.lemmas.List.Elements.{filter_more}
 use Rattle.std.proofs.lemmas.Grind.{flat_map-append}
 
@@ -29,3 +29,13 @@ module _ {X : Type 0} (f : X → Bool) (xs : List X) (i : ℕ) (x : X) (lt : i <
   -- one that doesn't
   pub left_out : (zs : List X) → f x ≡ false → zs ≡ ys → zs ≡ filter f (take (i + 1) xs)
   left_out zs e same = same ∙ h ∙ sym (one_more ∙ ap (λ b. filter f (take i xs) ++ (if b then x ∷ [] else [])) e ∙ append-nil (filter f (take i xs)))
+
+-- the lists of all items
+pub joined_all : {X Y : Type 0} (f : X → List Y) (xs : List X) (i : ℕ) (old ys : List Y) → length xs ≤ i → ys ≡ old ++ flat_map f (take i xs) → ys ≡ old ++ flat_map f xs
+joined_all f xs i old ys le h = h ∙ ap (λ us. old ++ flat_map f us) (take_all i xs le)
+
+-- five lists, each put behind what was there
+pub five : {Y : Type 0} (none s t u v w a b c d e : List Y) → none ≡ [] → s ≡ none ++ a → t ≡ s ++ b → u ≡ t ++ c → v ≡ u ++ d → w ≡ v ++ e → w ≡ a ++ (b ++ (c ++ (d ++ e)))
+five none s t u v w a b c d e i h k l m n =
+    n ∙ ap (λ z. z ++ e) (m ∙ ap (λ z. z ++ d) (l ∙ ap (λ z. z ++ c) (k ∙ ap (λ z. z ++ b) (h ∙ ap (λ z. z ++ a) i))))
+    ∙ append_assoc ((a ++ b) ++ c) d e ∙ append_assoc (a ++ b) c (d ++ e) ∙ append_assoc a b (c ++ (d ++ e))

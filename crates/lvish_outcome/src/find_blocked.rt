@@ -41,7 +41,8 @@ fn wait_of<'b>(
     alloc: Global,
     lines: &[&[u8]],
     script: &'b Script,
-    told: &'b Told<'_, 'b>,
+    told: &Told<'_, '_>,
+    live: &Live,
     standing: &Standing<'b>,
 ) -> Result<Wait<'b>, AllocError> {
     let Some(command) = command_at(alloc, lines, standing.line)? else {
@@ -52,7 +53,7 @@ fn wait_of<'b>(
         declarations: script.declarations(),
         locals: standing.locals.as_slice(),
     };
-    said.wait(alloc, &told.core, told.live.as_slice(), standing.task)
+    said.wait(alloc, told, live)
 }
 
 /// What is told of the tasks at a line.
@@ -65,14 +66,19 @@ fn blocked_at<'b>(
 ) -> Result<Option<BlockedTold<'b>>, AllocError>
     ensures { IfOk result (λ found. IfSome found (λ b. count_of b ≡ counted)) }
 {
-    let Some(live) = first_at(told.live.as_slice(), counted.line) else {
+    let Some(live) = first_at(told.story.live.as_slice(), counted.line) else {
         return Ok(None);
     };
-    let Some(task) = told.core.name_at(live.task) else {
+    let Some(task) = told.story.names.get(live.task) else {
         return Ok(None);
     };
-    let standing = standing_of(alloc, told.procedures.as_slice(), task, &live.standing)?;
-    let wait = wait_of(alloc, lines, script, told, &standing)?;
+    let standing = standing_of(
+        alloc,
+        told.story.procedures.as_slice(),
+        task,
+        &live.standing,
+    )?;
+    let wait = wait_of(alloc, lines, script, told, live, &standing)?;
     Ok(Some(BlockedTold {
         count: counted.count,
         standing,

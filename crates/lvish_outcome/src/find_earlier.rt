@@ -6,9 +6,8 @@ ghost use Rattle.lvish_outcome.specs.Rests.{IsPutBy, IsNoPut, Says, RestsOn};
 
 use crate::earlier::Earlier;
 use crate::trouble::Trouble;
-use lvish_calculus::Program;
 use lvish_compound::Event;
-use lvish_retrace::{Act, Bringer, Told, ToldStep};
+use lvish_retrace::{Act, Bringer, Story, ToldStep};
 
 /// What was put into the variable at this key first.
 #[tactic(auto, using(crate::proofs::Rests::among, crate::proofs::Rests::among_at))]
@@ -57,7 +56,7 @@ fn put_earlier<'b>(steps: &[ToldStep], put: &'b Bringer<Event>) -> Earlier<'b>
 }
 
 /// The number of the step, from 0, that froze the variable.
-fn freeze_of(told: &Told<'_, '_>, variable: usize) -> Option<usize> {
+fn freeze_of(told: &Story<'_>, variable: usize) -> Option<usize> {
     for number in 0..told.steps.len() {
         if let Act::Freeze { variable: frozen } = told.steps[number].act {
             if frozen == variable {
@@ -69,26 +68,26 @@ fn freeze_of(told: &Told<'_, '_>, variable: usize) -> Option<usize> {
 }
 
 /// The variable that a task concerns, which asks for this.
-fn variable_of(told: &Told<'_, '_>, act: Act) -> Option<usize> {
+fn variable_of(act: Act) -> Option<usize> {
     match act {
         Act::Put { variable, .. } => Some(variable),
-        Act::Add { pool, .. } => told.core.program().pool_variable(pool),
+        Act::Add { variable } => variable,
         _ => None,
     }
 }
 
 /// The task that froze what this is put into or added to, and where.
-fn freeze_earlier<'b>(told: &'b Told<'_, '_>, act: Act) -> Option<Earlier<'b>>
+fn freeze_earlier<'b>(told: &'b Story<'_>, act: Act) -> Option<Earlier<'b>>
     ensures { IfSome result IsNoPut }
 {
-    let number = freeze_of(told, variable_of(told, act)?)?;
+    let number = freeze_of(told, variable_of(act)?)?;
     let step = told.steps.get(number)?;
-    let task = told.core.name_at(step.task)?;
+    let task = told.names.get(step.task)?;
     Some(Earlier::Froze(task, step.line, number.saturating_add(1)))
 }
 
 /// The same; nothing where it isn't found.
-fn frozen_earlier<'b>(told: &'b Told<'_, '_>, act: Act) -> Earlier<'b>
+fn frozen_earlier<'b>(told: &'b Story<'_>, act: Act) -> Earlier<'b>
     ensures { IsNoPut result }
 {
     match freeze_earlier(told, act) {
@@ -99,7 +98,7 @@ fn frozen_earlier<'b>(told: &'b Told<'_, '_>, act: Act) -> Earlier<'b>
 
 /// The earlier step on which this trouble rests, where this is there already.
 pub fn earlier_of<'b>(
-    told: &'b Told<'_, '_>,
+    told: &'b Story<'_>,
     act: Act,
     trouble: &Trouble<'_>,
     there: Option<&'b Bringer<Event>>,

@@ -15,14 +15,14 @@ use lvish_checks::words_of;
 use lvish_compound::Event;
 use lvish_explain::line_at;
 use lvish_names::TaskName;
-use lvish_retrace::{Live, Told};
+use lvish_retrace::{Live, Story};
 use lvish_syntax::Script;
 use std::alloc::{AllocError, Global};
 
 /// The task of this name, if it hasn't ended.
-fn live_named<'b>(told: &'b Told<'_, '_>, task: &TaskName<Event>) -> Option<&'b Live> {
+fn live_named<'b>(told: &'b Story<'_>, task: &TaskName<Event>) -> Option<&'b Live> {
     for live in told.live.as_slice() {
-        if told.core.name_at(live.task) == Some(task) {
+        if told.names.get(live.task) == Some(task) {
             return Some(live);
         }
     }
@@ -46,7 +46,7 @@ pub fn error_told<'b>(
     alloc: Global,
     lines: &[&[u8]],
     script: &'b Script,
-    told: &'b Told<'_, 'b>,
+    told: &'b Story<'b>,
     kind: ErrorKind,
     task: &'b TaskName<Event>,
 ) -> Result<Option<ErrorTold<'b>>, AllocError>

@@ -4,68 +4,23 @@ use crate::find_trouble::Said;
 use crate::spot::Spot;
 use crate::values::value_of;
 use crate::wait::Wait;
-use lvish_calculus::{Program, Request};
-use lvish_compound::Event;
-use lvish_core::Core;
-use lvish_handlers::Held;
-use lvish_names::TaskName;
-use lvish_retrace::Live;
+use lvish_retrace::{InPools, Live, Told};
 use lvish_syntax::{Command, Threshold};
-use lvish_task::ScriptCode;
 use std::alloc::{AllocError, Global};
 
-/// Whether a task runs in one of these pools.
-fn runs_in(held: &[Held<Event>], pools: &[usize], task: &TaskName<Event>) -> bool {
-    for handler in held {
-        if task.runs_in(&handler.name) && pools.contains(&handler.pool) {
-            return true;
-        }
-    }
-    false
-}
-
-/// How many of the tasks run in these pools.
-fn running(
-    core: &Core<'_, ScriptCode>,
-    live: &[Live],
-    held: &[Held<Event>],
-    pools: &[usize],
-) -> usize {
-    let mut count = 0;
-    for task in live {
-        if let Some(name) = core.name_at(task.task) {
-            if runs_in(held, pools, name) {
-                count += 1;
-            }
-        }
-    }
-    count
-}
-
-/// What a freeze waits for that the task asks for.
-fn freeze_wait<'a>(
-    alloc: Global,
-    core: &Core<'_, ScriptCode>,
-    live: &[Live],
-    task: &TaskName<Event>,
-    spot: Spot<'a>,
-) -> Result<Wait<'a>, AllocError> {
-    let request = core.request_of(alloc, task)?;
-    let Some(Request::Freeze(variable, pools)) = &request else {
-        return Ok(Wait::Other);
+/// What a freeze waits for, where these tasks run in its pools.
+fn freeze_wait(spot: Spot<'_>, in_pools: Option<InPools>) -> Wait<'_> {
+    let Some(InPools { count, is_own }) = in_pools else {
+        return Wait::Other;
     };
-    if *variable >= core.program().variables() {
-        return Ok(Wait::Other);
-    }
-    let held = core.handlers(*variable);
-    let count = running(core, live, held, pools.as_slice());
     if count == 0 {
-        return Ok(Wait::Handlers(spot));
+        return Wait::Handlers(spot);
     }
-    if runs_in(held, pools.as_slice(), task) {
-        return Ok(Wait::OwnPool(count));
+    if is_own {
+        Wait::OwnPool(count)
+    } else {
+        Wait::Pools(count)
     }
-    Ok(Wait::Pools(count))
 }
 
 impl<'a> Said<'_, 'a> {
@@ -94,12 +49,11 @@ impl<'a> Said<'_, 'a> {
     pub fn wait(
         &self,
         alloc: Global,
-        core: &Core<'_, ScriptCode>,
-        live: &[Live],
-        task: &TaskName<Event>,
+        told: &Told<'_, '_>,
+        live: &Live,
     ) -> Result<Wait<'a>, AllocError> {
         if let Some(spot) = self.frozen_spot() {
-            return freeze_wait(alloc, core, live, task, spot);
+            return Ok(freeze_wait(spot, told.in_pools(alloc, live)?));
         }
         match self.get_wait() {
             Some(wait) => Ok(wait),

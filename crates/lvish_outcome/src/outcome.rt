@@ -16,7 +16,7 @@ use lvish_checks::lines_of;
 use lvish_compound::{Any, Event};
 use lvish_names::TaskName;
 use lvish_report::Report;
-use lvish_retrace::{Told, ToldStep, retrace};
+use lvish_retrace::{Story, Told, ToldStep, retrace};
 use lvish_syntax::Script;
 use lvish_task::ScriptCode;
 use lvish_trace::Outcome;
@@ -28,7 +28,7 @@ fn error_part(
     file: &str,
     lines: &[&[u8]],
     script: &Script,
-    told: &Told<'_, '_>,
+    told: &Story<'_>,
     kind: ErrorKind,
     task: &TaskName<Event>,
 ) -> Result<Vec<u8>, AllocError>
@@ -68,7 +68,7 @@ fn blocked_part(
 ) -> Result<Vec<u8>, AllocError>
     ensures { IfOk result (λ t. (t.items ≡ []) ⊎ IsBlockedText file.now (map (λ l. l.now) lines.now) blocked t.items) }
 {
-    let at = lines_of_live(alloc, told.live.as_slice())?;
+    let at = lines_of_live(alloc, told.story.live.as_slice())?;
     if at.len() as u64 != blocked {
         return Ok(Vec::new(alloc));
     }
@@ -164,15 +164,22 @@ fn part_of(
     told: &Told<'_, '_>,
     report: &Report<Any, Event>,
 ) -> Result<Vec<u8>, AllocError>
-    ensures { IfOk result (λ t. IsPart file.now (map (λ l. l.now) lines.now) (variables_of script.now.declarations) told.now.brought.items (length told.now.steps.items) report.now report.now.outcome t.items) }
+    ensures { IfOk result (λ t. IsPart file.now (map (λ l. l.now) lines.now) (variables_of script.now.declarations) told.now.story.brought.items (length told.now.story.steps.items) report.now report.now.outcome t.items) }
 {
     match &report.outcome {
         Outcome::Ended => blocked_part(alloc, file, lines, script, told, report.blocked),
         Outcome::Error { kind, task, .. } => {
-            error_part(alloc, file, lines, script, told, *kind, task)
+            error_part(alloc, file, lines, script, &told.story, *kind, task)
         }
         Outcome::Budget => {
-            budget_part(alloc, file, lines, script, told.steps.as_slice(), report)
+            budget_part(
+                alloc,
+                file,
+                lines,
+                script,
+                told.story.steps.as_slice(),
+                report,
+            )
         }
     }
 }

@@ -9,7 +9,7 @@ use Rattle.lvish_names.specs.Names.{Name, handed}
 use Rattle.lvish_variable.specs.declared.entry.Entry.{Entry}
 use Rattle.lvish_variable.specs.Variable.{VariableView as Variable}
 use Rattle.lvish_core.specs.declared.fault.Stepped.{Stepped}
-use Rattle.lvish_core.specs.declared.limits.TheConstants.{MOST_STEPS}
+use Rattle.lvish_core.specs.declared.limits.TheConstants.{MOST_PROGRAM_STEPS}
 use Rattle.lvish_core.specs.Core.{CoreView, CanTake, IsRunTo, IsStep}
 use Rattle.lvish_core.specs.Tasks.{IsAt}
 use Rattle.lvish_retrace.specs.declared.bringer.Bringer.{Bringer}
@@ -21,7 +21,7 @@ pub record IsCoreRun {S E R A L : Type 0} (M : Machine S E R A L) (xs : List (La
   pub last : Configuration S E L
   pub run : IsRun M (Running (start M)) xs last
   pub core : HandsOldestFirst M xs
-  pub within : length xs ≤ MOST_STEPS
+  pub within : length xs ≤ MOST_PROGRAM_STEPS
 
 -- the task that acts, or that a handing starts
 abbrev pub actor : {E : Type 0} → Label E → Name E
@@ -36,7 +36,7 @@ pub record AreSteps {E L : Type 0} (tasks : List (Name E × Task L)) (xs : List 
 module _ {P S E R A L : Type 0} (M : Machine S E R A L) where
   -- the core can't take the label, or has made as many steps as a core makes at most
   abbrev pub CantGo : CoreView P S E L → Label E → Type 0
-  CantGo c l = (CanTake M c l → ⊥) ⊎ (c.steps ≡ MOST_STEPS)
+  CantGo c l = (CanTake M c l → ⊥) ⊎ (c.steps ≡ MOST_PROGRAM_STEPS)
 
   -- the core made a step with the label, and no variable came or went
   pub record IsGrown (old : CoreView P S E L) (l : Label E) (new : CoreView P S E L) (said : Stepped) : Type 0 where

@@ -1,4 +1,4 @@
-use lvish_calculus::ErrorKind;
+use lvish_calculus::{ErrorKind, Request};
 use lvish_compound::{Event, Place};
 
 /// What a step does, or what a task asks for.
@@ -24,10 +24,9 @@ pub enum Act {
     Fork {
         child: usize,
     },
-    /// A handler comes to the pool, and runs the procedure.
+    /// A handler comes to a pool of this variable.
     Add {
-        pool: usize,
-        procedure: usize,
+        variable: Option<usize>,
     },
     /// A freeze of the variable.
     Freeze {
@@ -39,4 +38,14 @@ pub enum Act {
     End,
     /// The task's own computation goes wrong.
     Fault(ErrorKind),
+}
+
+/// What a task does that asks for nothing of others.
+pub fn alone<S, R, L>(request: &Request<S, R, L>) -> Option<Act> {
+    match request {
+        Request::Pause => Some(Act::Pause),
+        Request::End => Some(Act::End),
+        Request::Fault(kind) => Some(Act::Fault(*kind)),
+        _ => None,
+    }
 }

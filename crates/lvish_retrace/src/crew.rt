@@ -5,29 +5,30 @@ ghost use Rattle.std.specs.Prelude.{◌≡◌, IfOk};
 use crate::act::Act;
 use crate::begin::Begin;
 use crate::frame::{line_in, standing_in};
-use crate::live::Live;
+use crate::make::events_in;
 use crate::procedure::ToldProcedure;
 use crate::stand::Stand;
 use crate::standing::Standing;
 use crate::told_step::ToldStep;
-use lvish_calculus::{Asks, Program, Request};
-use lvish_compound::{Any, AnyRead, Event};
-use lvish_core::{Core, Stepped};
-use lvish_lattice::Lattice;
-use lvish_task::{Local, ScriptCode};
+use lvish_code::Code;
+use lvish_compound::{Any, Event};
+use lvish_core::Stepped;
+use lvish_variable::Variable;
 use std::alloc::{AllocError, Global};
 
 /// The tasks by their indices: how each began, and where it stands.
-pub struct Crew<'t> {
+pub struct Crew<'c, 't> {
+    pub code: &'c Code,
     pub procedures: Vec<ToldProcedure<'t>>,
     pub begins: Vec<Begin>,
     pub stands: Vec<Stand>,
 }
 
 // Written out, so that it is proved once, and not at each exit of a function that owns one.
-impl<'t> Drop for Crew<'t> {
+impl<'c, 't> Drop for Crew<'c, 't> {
     fn drop(self) {
         let Crew {
+            code: _,
             procedures: _,
             begins: _,
             stands: _,
@@ -35,75 +36,20 @@ impl<'t> Drop for Crew<'t> {
     }
 }
 
-/// The answer of a get, in the variable's state.
-fn answer_of(core: &Core<'_, ScriptCode>, request: &Request<Any, AnyRead, Local>) -> Option<i64> {
-    match request {
-        Request::Get(variable, read) => core.states().get(*variable)?.read(read),
-        _ => None,
-    }
-}
-
-/// The events of a variable's state.
-fn events_of(
-    alloc: Global,
-    core: &Core<'_, ScriptCode>,
-    variable: usize,
-) -> Result<Vec<Event>, AllocError> {
-    match core.states().get(variable) {
-        Some(held) => held.state().events(alloc),
-        None => Ok(Vec::new(alloc)),
-    }
-}
-
-/// The same, where a get has this answer.
-fn with_answer(act: Act, answer: Option<i64>) -> Act {
-    match act {
-        Act::Get {
-            variable,
-            place,
-            wanted,
-            answer: _,
-        } => Act::Get {
-            variable,
-            place,
-            wanted,
-            answer,
-        },
-        _ => act,
-    }
-}
-
-/// What a task that stands here asks for by the request, which a fork makes the task of this index.
-fn act_by(
-    core: &Core<'_, ScriptCode>,
-    stand: &Stand,
-    request: &Request<Any, AnyRead, Local>,
-    child: usize,
-) -> Act {
-    match request {
-        Request::Pause => Act::Pause,
-        Request::End => Act::End,
-        Request::Fault(kind) => Act::Fault(*kind),
-        _ => match stand.act(&core.program().flat, child) {
-            Some(act) => with_answer(act, answer_of(core, request)),
-            None => Act::Pause,
-        },
-    }
-}
-
-impl<'t> Crew<'t> {
+impl<'c, 't> Crew<'c, 't> {
     /// `main` alone.
     pub fn new(
         alloc: Global,
-        code: &ScriptCode,
+        code: &'c Code,
         procedures: Vec<ToldProcedure<'t>>,
-    ) -> Result<Crew<'t>, AllocError> {
+    ) -> Result<Crew<'c, 't>, AllocError> {
         let mut crew = Crew {
+            code,
             procedures,
             begins: Vec::new(alloc),
             stands: Vec::new(alloc),
         };
-        let main = Stand::begun(alloc, &code.flat, code.flat.main(), Vec::new(alloc))?;
+        let main = Stand::begun(alloc, code, code.main(), Vec::new(alloc))?;
         crew.start(Begin::Main, main)?;
         Ok(crew)
     }
@@ -111,6 +57,7 @@ impl<'t> Crew<'t> {
     /// The procedures, and how each task began.
     pub fn into_parts(self) -> (Vec<ToldProcedure<'t>>, Vec<Begin>) {
         let Crew {
+            code: _,
             procedures,
             begins,
             stands: _,
@@ -125,13 +72,15 @@ impl<'t> Crew<'t> {
         Ok(())
     }
 
-    /// What the task of this index asks for, and where: before its step.
+    /// What the task of this index asks for, and where: before its step, and after so many local statements
+    /// more. What it asks for may be known already, and the answer of a get.
     pub fn asks(
         &mut self,
         alloc: Global,
-        core: &Core<'_, ScriptCode>,
         task: usize,
-        asks: &Asks<Any, AnyRead, Local>,
+        statements: usize,
+        known: Option<Act>,
+        answer: Option<i64>,
     ) -> Result<ToldStep, AllocError>
         ensures { IfOk result (λ t. t.task ≡ task) }
     {
@@ -143,11 +92,14 @@ impl<'t> Crew<'t> {
                 act: Act::Pause,
             });
         };
-        stand.advance(alloc, &core.program().flat, asks.at.statements())?;
+        stand.advance(alloc, self.code, statements)?;
         Ok(ToldStep {
             task,
             line: line_in(self.procedures.as_slice(), stand.frames.as_slice()),
-            act: act_by(core, stand, &asks.request, child),
+            act: match known {
+                Some(act) => act,
+                None => stand.act(self.code, child, answer),
+            },
         })
     }
 
@@ -160,17 +112,18 @@ impl<'t> Crew<'t> {
         standing_in(alloc, self.procedures.as_slice(), frames)
     }
 
-    /// After a task's step of this number. One that met an error leaves the task where it is.
+    /// After a task's step of this number, which left the variables so. One that met an error leaves the
+    /// task where it is.
     pub fn stepped(
         &mut self,
         alloc: Global,
-        core: &Core<'_, ScriptCode>,
+        variables: &[Variable<Any>],
         told: ToldStep,
         number: usize,
         said: Stepped,
     ) -> Result<(), AllocError> {
         match said {
-            Stepped::Done => self.goes_on(alloc, core, told, number),
+            Stepped::Done => self.goes_on(alloc, variables, told, number),
             Stepped::Error(_) => Ok(()),
         }
     }
@@ -179,11 +132,11 @@ impl<'t> Crew<'t> {
     fn goes_on(
         &mut self,
         alloc: Global,
-        core: &Core<'_, ScriptCode>,
+        variables: &[Variable<Any>],
         told: ToldStep,
         number: usize,
     ) -> Result<(), AllocError> {
-        let code = &core.program().flat;
+        let code = self.code;
         let Some(stand) = self.stands.get_mut(told.task) else {
             return Ok(());
         };
@@ -204,7 +157,7 @@ impl<'t> Crew<'t> {
                 Ok(())
             }
             Act::Freeze { variable } => {
-                stand.frozen(code, events_of(alloc, core, variable)?);
+                stand.frozen(code, events_in(alloc, variables, variable)?);
                 Ok(())
             }
             Act::End => {
@@ -231,7 +184,6 @@ impl<'t> Crew<'t> {
     pub fn handed(
         &mut self,
         alloc: Global,
-        core: &Core<'_, ScriptCode>,
         variable: usize,
         procedure: usize,
         event: Event,
@@ -240,7 +192,7 @@ impl<'t> Crew<'t> {
         let mut arguments = Vec::new(alloc);
         arguments.push(event.key)?;
         arguments.push(event.number)?;
-        let stand = Stand::begun(alloc, &core.program().flat, procedure, arguments)?;
+        let stand = Stand::begun(alloc, self.code, procedure, arguments)?;
         let begin = Begin::Handed {
             variable,
             event,
@@ -251,41 +203,5 @@ impl<'t> Crew<'t> {
             Some(procedure) => procedure.line,
             None => 0,
         })
-    }
-
-    /// The tasks that haven't ended, with what they ask for and where.
-    pub fn live(
-        &mut self,
-        alloc: Global,
-        core: &Core<'_, ScriptCode>,
-    ) -> Result<Vec<Live>, AllocError> {
-        let mut live = Vec::new(alloc);
-        for task in 0..core.tasks() {
-            if let Some(told) = self.last_of(alloc, core, task)? {
-                live.push(Live {
-                    task,
-                    act: told.act,
-                    standing: self.standing(alloc, task)?,
-                })?;
-            }
-        }
-        Ok(live)
-    }
-
-    /// What the task of this index asks for, where it hasn't ended.
-    fn last_of(
-        &mut self,
-        alloc: Global,
-        core: &Core<'_, ScriptCode>,
-        task: usize,
-    ) -> Result<Option<ToldStep>, AllocError> {
-        let Some(name) = core.name_at(task) else {
-            return Ok(None);
-        };
-        let Some(local) = core.local_of(name) else {
-            return Ok(None);
-        };
-        let asks = core.program().ask(alloc, local)?;
-        Ok(Some(self.asks(alloc, core, task, &asks)?))
     }
 }

@@ -8,10 +8,10 @@
 //! ```text
 //! let code = ScriptCode::new(alloc, &script)?;
 //! if let Some(told) = retrace(alloc, &code, text, &report)? {
-//!     if let Some(place) = put_of(told.brought.as_slice(), variable, &event) {
-//!         let put = &told.brought[place];
-//!         let step = &told.steps[put.step];
-//!         // the task told.core.name_at(step.task) put it, in line step.line
+//!     if let Some(place) = put_of(told.story.brought.as_slice(), variable, &event) {
+//!         let put = &told.story.brought[place];
+//!         let step = &told.story.steps[put.step];
+//!         // the task told.story.names[step.task] put it, in line step.line
 //!     }
 //! }
 //! ```
@@ -24,10 +24,12 @@ mod crew;
 mod frame;
 mod live;
 mod make;
+mod pools;
 mod procedure;
 mod retracing;
 mod stand;
 mod standing;
+mod story;
 mod text;
 mod told;
 mod told_step;
@@ -38,8 +40,10 @@ pub use act::Act;
 pub use begin::Begin;
 pub use bringer::{Bringer, put_of};
 pub use live::Live;
+pub use pools::InPools;
 pub use procedure::ToldProcedure;
 pub use retracing::retrace;
 pub use standing::{Call, Standing};
+pub use story::Story;
 pub use told::Told;
 pub use told_step::ToldStep;

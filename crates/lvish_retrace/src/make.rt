@@ -34,6 +34,29 @@ fn log_of<L: Reads>(variables: &[Variable<L>], variable: usize) -> &[Entry<L::Ev
     }
 }
 
+/// The answer of a get, in the state of its variable.
+pub fn answer_in<L: Reads, K>(
+    variables: &[Variable<L>],
+    request: &Request<L, L::Read, K>,
+) -> Option<L::Answer> {
+    match request {
+        Request::Get(variable, read) => variables.get(*variable)?.read(read),
+        _ => None,
+    }
+}
+
+/// The events of a variable's state.
+pub fn events_in<L: Reads>(
+    alloc: Global,
+    variables: &[Variable<L>],
+    variable: usize,
+) -> Result<Vec<L::Event>, AllocError> {
+    match variables.get(variable) {
+        Some(held) => held.state().events(alloc),
+        None => Ok(Vec::new(alloc)),
+    }
+}
+
 /// Makes the task's step, with its request already computed, and notes what it brings. `None` where
 /// the core can't make it.
 pub fn make<P: Program>(

@@ -105,8 +105,8 @@ pub fn event_at(place: Place, number: i64) -> Event {
     Event { key, kind, number }
 }
 
-/// What an action asks for, where a fork makes the task of this index.
-fn act_of(action: &Action, values: &[i64], child: usize) -> Act {
+/// What an action asks for, where a fork makes the task of this index and a get has this answer.
+fn act_of(code: &Code, action: &Action, values: &[i64], child: usize, answer: Option<i64>) -> Act {
     match action {
         Action::Put(variable, target, operand) => Act::Put {
             variable: *variable,
@@ -116,12 +116,11 @@ fn act_of(action: &Action, values: &[i64], child: usize) -> Act {
             variable: *variable,
             place: place_of(values, *target),
             wanted: wanted_of(values, wanted),
-            answer: None,
+            answer,
         },
         Action::Fork(_, _) => Act::Fork { child },
-        Action::Handle(pool, procedure) => Act::Add {
-            pool: *pool,
-            procedure: *procedure,
+        Action::Handle(pool, _) => Act::Add {
+            variable: code.pools().get(*pool).copied(),
         },
         Action::Freeze(_, variable, _, _) => Act::Freeze {
             variable: *variable,
@@ -130,10 +129,13 @@ fn act_of(action: &Action, values: &[i64], child: usize) -> Act {
 }
 
 impl Stand {
-    /// What it asks for, where it stands at an action; a fork makes the task of this index.
-    pub fn act(&self, code: &Code, child: usize) -> Option<Act> {
-        let (action, values) = self.action(code)?;
-        Some(act_of(action, values, child))
+    /// What it asks for, where it stands at an action; a fork makes the task of this index, and a get has
+    /// this answer.
+    pub fn act(&self, code: &Code, child: usize, answer: Option<i64>) -> Act {
+        match self.action(code) {
+            Some((action, values)) => act_of(code, action, values, child, answer),
+            None => Act::Pause,
+        }
     }
 
     /// The task that a fork starts.

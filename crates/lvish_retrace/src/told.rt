@@ -1,45 +1,41 @@
-use crate::begin::Begin;
-use crate::bringer::Bringer;
 use crate::live::Live;
-use crate::procedure::ToldProcedure;
-use crate::standing::Standing;
-use crate::told_step::ToldStep;
-use lvish_compound::Event;
+use crate::pools::{InPools, in_pools};
+use crate::story::Story;
 use lvish_core::Core;
 use lvish_task::ScriptCode;
+use std::alloc::{AllocError, Global};
 
 /// A run, told.
-///
-/// A task's index is its place among the core's tasks: `core.name_at(index)` is its name.
 pub struct Told<'c, 't> {
     /// The core after the run's last step. After an error its variables, handlers and tasks are as they
     /// were before the step that met it.
     pub core: Core<'c, ScriptCode>,
-    /// The procedures, by their numbers.
-    pub procedures: Vec<ToldProcedure<'t>>,
-    /// How each task began, by its index.
-    pub begins: Vec<Begin>,
-    /// The steps in their order.
-    pub steps: Vec<ToldStep>,
-    /// Each event of the variables' logs, in the order of the steps that brought them.
-    pub brought: Vec<Bringer<Event>>,
-    /// Where each of these puts stood.
-    pub standings: Vec<Standing>,
-    /// The tasks that haven't ended, by index.
-    pub live: Vec<Live>,
+    /// What is told. It stands apart, so that who reads it alone needn't know the core.
+    pub story: Story<'t>,
 }
 
 // Written out, so that it is proved once, and not at each exit of a function that owns one.
 impl<'c, 't> Drop for Told<'c, 't> {
     fn drop(self) {
-        let Told {
-            core: _,
-            procedures: _,
-            begins: _,
-            steps: _,
-            brought: _,
-            standings: _,
-            live: _,
-        } = self;
+        let Told { core: _, story: _ } = self;
+    }
+}
+
+impl Told<'_, '_> {
+    /// Which tasks run in the pools for which a task waits that asks for a freeze; `None` where it asks for
+    /// something else.
+    ///
+    /// # Errors
+    ///
+    /// `AllocError` where a growth was refused.
+    pub fn in_pools(&self, alloc: Global, live: &Live) -> Result<Option<InPools>, AllocError> {
+        let names = self.story.names.as_slice();
+        in_pools(
+            alloc,
+            &self.core,
+            names,
+            self.story.live.as_slice(),
+            live.task,
+        )
     }
 }

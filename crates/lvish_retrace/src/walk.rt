@@ -6,10 +6,10 @@ ghost use Rattle.lvish_core.specs.Tasks.{IsAt};
 ghost use Rattle.lvish_trace.specs.Traced.{labels_of};
 ghost use Rattle.lvish_retrace.specs.Walk.{TellsOrStops, TellsAllOrNone};
 
-use crate::act::Act;
+use crate::act::{Act, alone};
 use crate::bringer::Bringer;
 use crate::crew::Crew;
-use crate::make::{hand_on, make};
+use crate::make::{answer_in, hand_on, make};
 use crate::standing::Standing;
 use crate::told_step::ToldStep;
 use lvish_calculus::{Asks, Label, Meaning, Program};
@@ -22,15 +22,15 @@ use lvish_trace::TraceEntry;
 use std::alloc::{AllocError, Global};
 
 /// What is told of a walk.
-pub struct Telling<'t> {
-    pub crew: Crew<'t>,
+pub struct Telling<'c, 't> {
+    pub crew: Crew<'c, 't>,
     pub steps: Vec<ToldStep>,
     pub brought: Vec<Bringer<Event>>,
     pub standings: Vec<Standing>,
 }
 
 // Written out, so that it is proved once, and not at each exit of a function that owns one.
-impl<'t> Drop for Telling<'t> {
+impl<'c, 't> Drop for Telling<'c, 't> {
     fn drop(self) {
         let Telling {
             crew: _,
@@ -42,7 +42,7 @@ impl<'t> Drop for Telling<'t> {
 }
 
 /// The index of the task, and what it asks for; `None` where it has ended or isn't there.
-fn asked(
+pub fn asked(
     alloc: Global,
     core: &Core<'_, ScriptCode>,
     name: &TaskName<Event>,
@@ -55,6 +55,26 @@ fn asked(
     };
     let asks = core.program().ask(alloc, local)?;
     Ok(Some((numbers.index, asks)))
+}
+
+/// What the task of this index is told to ask for, and where: before its step.
+pub fn told_of(
+    alloc: Global,
+    core: &Core<'_, ScriptCode>,
+    crew: &mut Crew<'_, '_>,
+    task: usize,
+    asks: &Asks<Any, AnyRead, Local>,
+) -> Result<ToldStep, AllocError>
+    ensures { IfOk result (λ t. t.task ≡ task) }
+{
+    let answer = answer_in(core.states(), &asks.request);
+    crew.asks(
+        alloc,
+        task,
+        asks.at.statements(),
+        alone(&asks.request),
+        answer,
+    )
 }
 
 /// The variable of the last handing, and the procedure of this handler on it.
@@ -76,7 +96,7 @@ fn handled(core: &Core<'_, ScriptCode>, handler: &HandlerName<Event>) -> (usize,
 /// Where each put stands that was noted, of which there are this many, by this task.
 fn note_standings(
     alloc: Global,
-    crew: &Crew<'_>,
+    crew: &Crew<'_, '_>,
     standings: &mut Vec<Standing>,
     count: usize,
     task: usize,
@@ -87,9 +107,16 @@ fn note_standings(
     Ok(())
 }
 
-impl<'t> Telling<'t> {
+impl<'c, 't> Telling<'c, 't> {
     /// Its parts: the tasks, the steps, the puts and where they stood.
-    pub fn into_parts(self) -> (Crew<'t>, Vec<ToldStep>, Vec<Bringer<Event>>, Vec<Standing>)
+    pub fn into_parts(
+        self,
+    ) -> (
+        Crew<'c, 't>,
+        Vec<ToldStep>,
+        Vec<Bringer<Event>>,
+        Vec<Standing>,
+    )
         ensures steps { result.1 ≡ self.entry.steps }
         ensures brought { result.2 ≡ self.entry.brought }
     {
@@ -115,7 +142,7 @@ impl<'t> Telling<'t> {
         let Some((task, asks)) = asked(alloc, core, name)? else {
             return Ok(false);
         };
-        let told = self.crew.asks(alloc, core, task, &asks)?;
+        let told = told_of(alloc, core, &mut self.crew, task, &asks)?;
         let Some(said) = make(alloc, core, name, &asks, number, &mut self.brought)? else {
             return Ok(false);
         };
@@ -126,7 +153,7 @@ impl<'t> Telling<'t> {
             self.brought.len(),
             task,
         )?;
-        self.crew.stepped(alloc, core, told, number, said)?;
+        self.crew.stepped(alloc, core.states(), told, number, said)?;
         self.steps.push(told)?;
         Ok(true)
     }
@@ -149,9 +176,7 @@ impl<'t> Telling<'t> {
             return Ok(false);
         }
         let (variable, procedure) = handled(core, handler);
-        let line = self
-            .crew
-            .handed(alloc, core, variable, procedure, event, number)?;
+        let line = self.crew.handed(alloc, variable, procedure, event, number)?;
         self.steps.push(ToldStep {
             task,
             line,

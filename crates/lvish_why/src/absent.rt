@@ -2,9 +2,9 @@
 
 use crate::asked::{Asked, can_be};
 use crate::page::Page;
-use lvish_code::{Action, Instruction};
+use lvish_code::{Action, Instruction, Routine};
 use lvish_compound::Event;
-use lvish_retrace::{Live, Told};
+use lvish_retrace::Live;
 use lvish_trace::Outcome;
 use std::alloc::{AllocError, Global};
 
@@ -51,8 +51,7 @@ fn is_marked(marked: &[bool], procedure: usize) -> bool {
 }
 
 /// Which procedures can come to a put into the variable, or to a task or handler that can.
-fn putting(alloc: Global, told: &Told<'_, '_>, variable: usize) -> Result<Vec<bool>, AllocError> {
-    let routines = told.core.program().flat.routines();
+fn putting(alloc: Global, routines: &[Routine], variable: usize) -> Result<Vec<bool>, AllocError> {
     let mut marked = Vec::new(alloc);
     marked.resize(routines.len(), false)?;
     for _ in 0..routines.len() {
@@ -85,12 +84,12 @@ fn can_put(live: &Live, marked: &[bool]) -> bool {
 /// Adds where a task stands that could put the event: it waits there, where the run is at an end.
 fn push_live(
     alloc: Global,
-    page: &Page<'_, '_, '_>,
+    page: &Page<'_, '_>,
     text: &mut Vec<u8>,
     live: &Live,
     stands: &[u8],
 ) -> Result<(), AllocError> {
-    let Some(name) = page.told.core.name_at(live.task) else {
+    let Some(name) = page.told.names.get(live.task) else {
         return Ok(());
     };
     page.push_task(alloc, text, name)?;
@@ -106,12 +105,12 @@ fn push_live(
 /// Which tasks could put an event into the variable that haven't ended, and where they stand.
 fn push_putting(
     alloc: Global,
-    page: &Page<'_, '_, '_>,
+    page: &Page<'_, '_>,
     text: &mut Vec<u8>,
     outcome: &Outcome<Event>,
     variable: usize,
 ) -> Result<(), AllocError> {
-    let marked = putting(alloc, page.told, variable)?;
+    let marked = putting(alloc, page.code.routines(), variable)?;
     let stands: &[u8] = match outcome {
         Outcome::Ended => b" waits in ",
         _ => b" stands in ",
@@ -133,7 +132,7 @@ fn push_putting(
 /// event.
 pub fn absent_text(
     alloc: Global,
-    page: &Page<'_, '_, '_>,
+    page: &Page<'_, '_>,
     outcome: &Outcome<Event>,
     asked: Asked,
     event: Option<Event>,

@@ -1,7 +1,7 @@
 //! The derivation of an event.
 
 use crate::premises::{Premise, premises_of};
-use lvish_retrace::{Told, put_of};
+use lvish_retrace::{Story, put_of};
 use std::alloc::{AllocError, Global};
 
 /// What stands in a derivation.
@@ -30,15 +30,15 @@ pub struct Node {
 }
 
 /// A derivation that grows.
-struct Growing<'a, 'c, 't> {
-    told: &'a Told<'c, 't>,
+struct Growing<'a, 't> {
+    told: &'a Story<'t>,
     nodes: Vec<Node>,
     /// Which puts stand in it, by their places.
     shown: Vec<bool>,
 }
 
 // Written out, so that it is proved once, and not at each exit of a function that owns one.
-impl<'a, 'c, 't> Drop for Growing<'a, 'c, 't> {
+impl<'a, 't> Drop for Growing<'a, 't> {
     fn drop(self) {
         let Growing {
             told: _,
@@ -48,7 +48,7 @@ impl<'a, 'c, 't> Drop for Growing<'a, 'c, 't> {
     }
 }
 
-impl<'a, 'c, 't> Growing<'a, 'c, 't> {
+impl<'a, 't> Growing<'a, 't> {
     /// What a premise is told as.
     fn what_of(&self, premise: Premise) -> What {
         match premise {
@@ -153,7 +153,7 @@ impl<'a, 'c, 't> Growing<'a, 'c, 't> {
 /// stands above those that it follows from.
 pub fn derivation_of(
     alloc: Global,
-    told: &Told<'_, '_>,
+    told: &Story<'_>,
     place: usize,
     depth: u64,
 ) -> Result<Vec<Node>, AllocError> {

@@ -80,11 +80,7 @@ fn push_edge(
 }
 
 /// The graph of a derivation: an edge leads from each event to what follows from it.
-pub fn dot_text(
-    alloc: Global,
-    page: &Page<'_, '_, '_>,
-    nodes: &[Node],
-) -> Result<Vec<u8>, AllocError> {
+pub fn dot_text(alloc: Global, page: &Page<'_, '_>, nodes: &[Node]) -> Result<Vec<u8>, AllocError> {
     let mut text = Vec::new(alloc);
     text.extend_from_slice(b"digraph why {\n  rankdir=BT\n  node [shape=box]\n")?;
     for (place, node) in nodes.iter().enumerate() {

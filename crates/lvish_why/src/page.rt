@@ -2,24 +2,27 @@
 
 use crate::asked::declaration_of;
 use lvish_checks::{lines_of, words_of};
+use lvish_code::Code;
 use lvish_compound::Event;
 use lvish_names::TaskName;
-use lvish_retrace::{Begin, Standing, Told, ToldProcedure};
+use lvish_retrace::{Begin, Standing, Story, ToldProcedure};
 use lvish_syntax::{Script, VariableKind};
 use std::alloc::{AllocError, Global};
 
-/// A script, its lines, and its run.
-pub struct Page<'a, 'c, 't> {
+/// A script, its flat code and its lines, and what is told of its run.
+pub struct Page<'a, 't> {
     pub script: &'a Script,
+    pub code: &'a Code,
     pub lines: Vec<&'t [u8]>,
-    pub told: &'a Told<'c, 't>,
+    pub told: &'a Story<'t>,
 }
 
 // Written out, so that it is proved once, and not at each exit of a function that owns one.
-impl<'a, 'c, 't> Drop for Page<'a, 'c, 't> {
+impl<'a, 't> Drop for Page<'a, 't> {
     fn drop(self) {
         let Page {
             script: _,
+            code: _,
             lines: _,
             told: _,
         } = self;
@@ -48,24 +51,36 @@ fn names(words: &[&[u8]], behind: usize, name: &[u8]) -> bool {
     words.iter().skip(behind).any(|word| *word == name)
 }
 
+/// Whether a word is this text.
+fn is(word: &[u8], text: &[u8]) -> bool {
+    word == text
+}
+
+/// Whether a line that begins with this word gives a local a value.
+fn binds_local(first: &[u8]) -> bool {
+    is(first, b"let") || is(first, b"get") || is(first, b"freeze")
+}
+
 /// How many words stand before those that a line reads: two, where it gives a local a value.
 fn unread(words: &[&[u8]]) -> usize {
     match words {
-        [b"let" | b"get" | b"freeze", ..] => 2,
+        [first, ..] if binds_local(first) => 2,
         _ => 1,
     }
 }
 
-impl<'a, 'c, 't> Page<'a, 'c, 't> {
+impl<'a, 't> Page<'a, 't> {
     /// What is said of this run of the script with this text.
     pub fn new(
         alloc: Global,
         text: &'t [u8],
         script: &'a Script,
-        told: &'a Told<'c, 't>,
-    ) -> Result<Page<'a, 'c, 't>, AllocError> {
+        code: &'a Code,
+        told: &'a Story<'t>,
+    ) -> Result<Page<'a, 't>, AllocError> {
         Ok(Page {
             script,
+            code,
             lines: lines_of(alloc, text)?,
             told,
         })

@@ -1,7 +1,7 @@
 //! What a put follows from.
 
 use lvish_compound::{Event, Kind, Place};
-use lvish_retrace::{Act, Begin, Standing, Told};
+use lvish_retrace::{Act, Begin, Standing, Story};
 use std::alloc::{AllocError, Global};
 
 /// What a put follows from.
@@ -70,7 +70,7 @@ fn add_read(premises: &mut Vec<Premise>, act: Act, line: usize) -> Result<(), Al
 /// Adds what a task has read before this step.
 fn add_reads(
     premises: &mut Vec<Premise>,
-    told: &Told<'_, '_>,
+    told: &Story<'_>,
     task: usize,
     before: usize,
 ) -> Result<(), AllocError> {
@@ -86,7 +86,7 @@ fn add_reads(
 /// forked task stands before the one that forked it.
 fn forkers(
     alloc: Global,
-    told: &Told<'_, '_>,
+    told: &Story<'_>,
     task: usize,
     before: usize,
 ) -> Result<Vec<(usize, usize)>, AllocError> {
@@ -109,7 +109,7 @@ fn forkers(
 /// or the task that forked it was handed, and what they have read before.
 pub fn premises_of(
     alloc: Global,
-    told: &Told<'_, '_>,
+    told: &Story<'_>,
     task: usize,
     step: usize,
     standing: Option<&Standing>,

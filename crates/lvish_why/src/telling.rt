@@ -12,9 +12,10 @@ use crate::dot::dot_text;
 use crate::form::Form;
 use crate::page::Page;
 use crate::tree::tree_text;
+use lvish_code::Code;
 use lvish_compound::{Any, Event};
 use lvish_report::Report;
-use lvish_retrace::{Bringer, Told, put_of, retrace};
+use lvish_retrace::{Bringer, Story, put_of, retrace};
 use lvish_syntax::Script;
 use lvish_task::laws::same_runs;
 use lvish_task::{ScriptCode, ScriptMeaning};
@@ -42,7 +43,16 @@ pub fn why(
     same_runs();
     let code = ScriptCode::new(alloc, script)?;
     match retrace(alloc, &code, text, report)? {
-        Some(told) => Ok(Some(derived(alloc, text, script, report, &told, asked, form)?)),
+        Some(told) => Ok(Some(derived(
+            alloc,
+            text,
+            script,
+            report,
+            &code.flat,
+            &told.story,
+            asked,
+            form,
+        )?)),
         None => Ok(None),
     }
 }
@@ -53,14 +63,15 @@ fn derived(
     text: &[u8],
     script: &Script,
     report: &Report<Any, Event>,
-    told: &Told<'_, '_>,
+    code: &Code,
+    told: &Story<'_>,
     asked: Asked,
     form: Form,
 ) -> Result<Derived, AllocError>
-    ensures { IfOk result (λ d. IsNamed told.now.core.program.flat.kinds asked told.now.brought.items d.is_there) }
+    ensures { IfOk result (λ d. IsNamed code.now.kinds asked told.now.brought.items d.is_there) }
 {
-    let page = Page::new(alloc, text, script, told)?;
-    let event = asked.event(told.core.program().flat.kinds());
+    let page = Page::new(alloc, text, script, code, told)?;
+    let event = asked.event(code.kinds());
     let place = put_asked(told.brought.as_slice(), asked.variable, event);
     let is_there = place.is_some();
     let text = match place {
@@ -80,7 +91,7 @@ fn put_asked(brought: &[Bringer<Event>], variable: usize, event: Option<Event>) 
 /// The derivation of the event that the put at this place brought.
 fn derived_text(
     alloc: Global,
-    page: &Page<'_, '_, '_>,
+    page: &Page<'_, '_>,
     place: usize,
     form: Form,
 ) -> Result<Vec<u8>, AllocError> {

@@ -91,7 +91,7 @@ fn width_of(node: Node, row: &Row) -> usize {
 }
 
 /// The rows of the parts.
-fn rows_of(alloc: Global, page: &Page<'_, '_, '_>, nodes: &[Node]) -> Result<Vec<Row>, AllocError> {
+fn rows_of(alloc: Global, page: &Page<'_, '_>, nodes: &[Node]) -> Result<Vec<Row>, AllocError> {
     let mut rows = Vec::new(alloc);
     for node in nodes {
         rows.push(page.row_of(alloc, *node)?)?;
@@ -134,7 +134,7 @@ fn push_row(text: &mut Vec<u8>, node: Node, row: &Row, widest: usize) -> Result<
 /// The tree of a derivation: a row for each part, below the one that follows from it.
 pub fn tree_text(
     alloc: Global,
-    page: &Page<'_, '_, '_>,
+    page: &Page<'_, '_>,
     nodes: &[Node],
 ) -> Result<Vec<u8>, AllocError> {
     let rows = rows_of(alloc, page, nodes)?;

@@ -37,7 +37,7 @@ impl Row {
     }
 }
 
-impl<'a, 'c, 't> Page<'a, 'c, 't> {
+impl<'a, 't> Page<'a, 't> {
     /// What is said of a part of a derivation.
     pub fn row_of(&self, alloc: Global, node: Node) -> Result<Row, AllocError> {
         let mut row = Row::new(alloc);

@@ -12,7 +12,7 @@ fn is_name(word: &[u8]) -> bool {
 }
 
 fn begins_read(word: &[u8]) -> bool {
-    matches!(word, b"any" | b"in" | b"has" | b"least")
+    is(word, b"any") || is(word, b"in") || is(word, b"has") || is(word, b"least")
 }
 
 /// Whether the word at a place of a `get` line is the one that begins its read.
@@ -36,10 +36,10 @@ fn frozen_role(words: &[&[u8]], place: usize) -> Option<Space> {
     if is(before, b"each") {
         return Some(Space::Procedure);
     }
-    match *word {
-        b"after" | b"each" => None,
-        _ => Some(Space::Pool),
+    if is(word, b"after") || is(word, b"each") {
+        return None;
     }
+    Some(Space::Pool)
 }
 
 fn local_role(words: &[&[u8]], place: usize) -> Option<Space> {
@@ -60,18 +60,57 @@ fn get_role(words: &[&[u8]], place: usize) -> Option<Space> {
     }
 }
 
+/// What the name is that stands at some place of a line.
+#[derive(Clone, Copy)]
+enum Role {
+    Of(Space),
+    Local,
+    OfGet,
+    OfFreeze,
+}
+
+/// A first word, from where on and up to where the names of such a line are meant, and what they are.
+type Row = (&'static [u8], usize, usize, Role);
+
+/// No line has more words.
+const LAST: usize = usize::MAX;
+
+/// The names of lines. They are data, since each case of a match would be proved.
+const ROWS: [Row; 15] = [
+    (b"pool", 2, 2, Role::Of(Space::Variable)),
+    (b"put", 1, 1, Role::Of(Space::Variable)),
+    (b"freeze", 2, 2, Role::Of(Space::Variable)),
+    (b"fork", 1, 1, Role::Of(Space::Procedure)),
+    (b"call", 1, 1, Role::Of(Space::Procedure)),
+    (b"handle", 2, 2, Role::Of(Space::Procedure)),
+    (b"handle", 1, 1, Role::Of(Space::Pool)),
+    (b"put", 2, LAST, Role::Local),
+    (b"fork", 2, LAST, Role::Local),
+    (b"call", 2, LAST, Role::Local),
+    (b"let", 2, LAST, Role::Local),
+    (b"if", 1, 1, Role::Local),
+    (b"while", 1, 1, Role::Local),
+    (b"get", 2, LAST, Role::OfGet),
+    (b"freeze", 3, LAST, Role::OfFreeze),
+];
+
+/// What the name is at a place of a line with this first word.
+fn role_of(first: &[u8], place: usize) -> Option<Role> {
+    for (word, from, last, role) in ROWS.as_slice() {
+        if *from <= place && place <= *last && is(first, word) {
+            return Some(*role);
+        }
+    }
+    None
+}
+
 /// The space to which the name belongs that stands at a place of a line, if one stands there that the
 /// line itself doesn't make.
 pub fn role_at(words: &[&[u8]], place: usize) -> Option<Space> {
-    let first = words.first()?;
-    match (*first, place) {
-        (b"pool", 2) | (b"put", 1) | (b"freeze", 2) => Some(Space::Variable),
-        (b"fork" | b"call", 1) | (b"handle", 2) => Some(Space::Procedure),
-        (b"handle", 1) => Some(Space::Pool),
-        (b"put" | b"fork" | b"call" | b"let", 2..) => local_role(words, place),
-        (b"if" | b"while", 1) => local_role(words, place),
-        (b"get", 2..) => get_role(words, place),
-        (b"freeze", 3..) => frozen_role(words, place),
-        _ => None,
+    match role_of(words.first()?, place)? {
+        Role::Of(space) => Some(space),
+        Role::Local => local_role(words, place),
+        Role::OfGet => get_role(words, place),
+        Role::OfFreeze => frozen_role(words, place),
     }
 }

@@ -9,5 +9,5 @@ pub returns : goal.returns
 returns c =
     let told = rw c.in-Some.is at c.in_ok-retrace.ensures.told in
     IfOk-weaker c.part_of.result _ _
-    (λ t e. record { code = c.in_ok-code.code; of = c.in_ok-code.ensures; told = inr (record { puts = c.in-Some.told.brought.items; brought = told.brought.each; part = rw (c.as_slice.ensures.value, c.in_ok-lines-in-Some.ensures, told.told.count) at e }) })
+    (λ t e. record { code = c.in_ok-code.code; of = c.in_ok-code.ensures; told = inr (record { puts = c.in-Some.told.story.brought.items; brought = told.brought.each; part = rw (c.as_slice.ensures.value, c.in_ok-lines-in-Some.ensures, told.told.count) at e }) })
     c.part_of.ensures

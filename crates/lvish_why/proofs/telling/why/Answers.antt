@@ -9,9 +9,8 @@ returns-in-Some c =
     let same = c.same_runs.ensures c.args.script.now c.in_ok-code.code c.in_ok-code.ensures in
     let told = rw c.in-Some.is at c.in_ok-told.ensures.told in
     let many = rw c.in-Some.is at c.in_ok-told.ensures.variables in
-    let named = rw told.program at c.in_ok-derived-in-Some.ensures in
-    is_there _ _ _ _ _ _ _ (functions c.in_ok-code.code) (script_functions c.args.script.now) same c.args.script.now c.args.asked c.in_ok-code.code.flat.kinds c.in_ok-code.ensures.kinds c.in-Some.told.core.table.variables many (labels_of c.args.report.now.trace) c.in-Some.told.brought.items told.brought
-    c.in_ok-derived-in-Some.field-0.is_there named
+    is_there _ _ _ _ _ _ _ (functions c.in_ok-code.code) (script_functions c.args.script.now) same c.args.script.now c.args.asked c.in_ok-code.code.flat.kinds c.in_ok-code.ensures.kinds c.in-Some.told.core.table.variables many (labels_of c.args.report.now.trace) c.in-Some.told.story.brought.items told.brought
+    c.in_ok-derived-in-Some.field-0.is_there c.in_ok-derived-in-Some.ensures
 
 pub returns : goal.returns
 returns c =
