@@ -1,0 +1,3 @@
+pub mod Nodes
+pub mod Names
+pub mod Gathered

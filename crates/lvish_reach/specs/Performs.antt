@@ -1,0 +1,69 @@
+-- What the program does with a reader and a writer, by what comes of it.
+use Rattle.std.specs.Prelude.{◌≡◌, ◌≤◌, ℕ, Bool, true, false, List, length, take, Option, IfSome}
+use Rattle.std.specs.Io.KnownBytes.{Appends, Keeps}
+use Rattle.lvish_facts.specs.Names.{Word}
+use Rattle.lvish_reaching.specs.Edges.{IsAccepted, IsEmpty, IsFirstAlone}
+use Rattle.lvish_reaching.specs.Answers.{IsAnswer}
+use Rattle.lvish_reaching.specs.declared.fault.ReachFault.{ReachFault}
+use Rattle.lvish_reaching.specs.declared.fault.ReachFault.TheVariants as fault
+use Rattle.lvish_reach.specs.declared.performing.Outcome.{Outcome}
+use Rattle.lvish_reach.specs.declared.performing.Outcome.TheVariants.{Whole, Stopped, Alone, Unreadable, Empty, Erring, Memory, NoThread, Unwritten}
+
+-- the writer took a front of the text and nothing else
+abbrev pub TakesFront : Option (List ℕ) → Option (List ℕ) → List ℕ → Type 0
+TakesFront old new text = (n : ℕ) × (n ≤ length text) × Appends old new (take n text)
+
+-- the text answers the bytes that were read, which are those that the reader gave
+pub record IsAnswerTo (given : Option (List ℕ)) (root : Word) (is_whole : Bool) (text : List ℕ) : Type 0 where
+  pub input : List ℕ
+  pub read : IfSome given (λ bytes. input ≡ bytes)
+  pub accepted : IsAccepted input
+  pub answer : IsAnswer input root is_whole text
+
+module _ (given : Option (List ℕ)) (root : Word) (old new : Option (List ℕ)) where
+  -- the answer was written, and nothing else
+  abbrev pub Writes : Bool → Type 0
+  Writes is_whole = (text : List ℕ) × IsAnswerTo given root is_whole text × Appends old new text
+
+  -- nothing was written, since this line of the bytes that were read has one word alone
+  abbrev pub Refuses : ℕ → Type 0
+  Refuses number = (input : List ℕ) × IfSome given (λ bytes. input ≡ bytes) × IsFirstAlone input number × Keeps old new
+
+  -- nothing was written, since the bytes that were read have no edge
+  abbrev pub RefusesEmpty : Type 0
+  RefusesEmpty = (input : List ℕ) × IfSome given (λ bytes. input ≡ bytes) × IsEmpty input × Keeps old new
+
+  -- from a reader that gives `given`, the writer comes from `old` to `new`
+  abbrev pub Performs : Outcome → Type 0
+  Performs (Whole stats) = Writes true
+  Performs (Stopped stats) = Writes false
+  Performs (Alone number) = Refuses number
+  Performs Unreadable = Keeps old new
+  Performs Empty = RefusesEmpty
+  Performs Erring = Keeps old new
+  Performs Memory = Keeps old new
+  Performs NoThread = Keeps old new
+  Performs Unwritten = (is_whole : Bool) × (text : List ℕ) × IsAnswerTo given root is_whole text × TakesFront old new text
+
+-- ---- its parts
+
+-- what comes of a reader that failed
+abbrev pub IsUnread : Outcome → Type 0
+IsUnread Unreadable = Unit {0}
+IsUnread Memory = Unit {0}
+IsUnread outcome = ⊥
+
+-- what comes of an input without an answer
+abbrev pub outcome_of : ReachFault → Outcome
+outcome_of (fault.Alone number) = Alone number
+outcome_of fault.Empty = Empty
+outcome_of (fault.Erring kind) = Erring
+outcome_of fault.Memory = Memory
+outcome_of fault.NoThread = NoThread
+
+-- the text was written, and the outcome says whether it is whole; or a front of it was
+abbrev pub IsWritten : Option (List ℕ) → Option (List ℕ) → Bool → List ℕ → Outcome → Type 0
+IsWritten old new is_whole text (Whole stats) = (is_whole ≡ true) × Appends old new text
+IsWritten old new is_whole text (Stopped stats) = (is_whole ≡ false) × Appends old new text
+IsWritten old new is_whole text Unwritten = TakesFront old new text
+IsWritten old new is_whole text outcome = ⊥

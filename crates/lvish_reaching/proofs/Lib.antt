@@ -1,0 +1,5 @@
+pub mod Walks
+pub mod Growing
+pub mod Lines
+pub mod Told
+pub mod Composed
