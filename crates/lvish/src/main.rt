@@ -10,17 +10,17 @@ use std::{env, io};
 
 fn main(rt: HostRuntime) -> ExitCode {
     let mut error = rt.stderr();
-    let Ending { status, told } = match words(&rt) {
+    let Ending { status, explained } = match words(&rt) {
         Ok(words) => command_told(&rt, words.as_slice(), hearer(&rt, error.is_terminal())),
-        Err(error) if error.kind() == ErrorKind::OutOfMemory => untold(Status::Memory),
-        Err(_) => untold(not_text(rt.alloc())),
+        Err(error) if error.kind() == ErrorKind::OutOfMemory => unexplained(Status::Memory),
+        Err(_) => unexplained(not_text(rt.alloc())),
     };
     // What can't be written on standard error changes no status.
     if let Some(text) = status.message() {
         let _ = rt.eprint(text);
     }
-    if let Some(told) = told {
-        let _ = write_text(&mut error, told.as_slice());
+    if let Some(explained) = explained {
+        let _ = write_text(&mut error, explained.as_slice());
     }
     ExitCode::from(status.number())
 }
@@ -39,8 +39,11 @@ fn hearer(rt: &HostRuntime, is_terminal: bool) -> Hearer {
 }
 
 /// The status, of which its message says all.
-fn untold(status: Status) -> Ending {
-    Ending { status, told: None }
+fn unexplained(status: Status) -> Ending {
+    Ending {
+        status,
+        explained: None,
+    }
 }
 
 /// The words after the program's own name.

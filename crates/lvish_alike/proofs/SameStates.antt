@@ -34,7 +34,7 @@ module _ {S E R A L K : Type 0} (M : Machine S E R A L) (N : Machine S E R A K) 
     frozen = λ v. h.frozen v ∙ sym (g.frozen v);
     tasks = λ t. task_through (a.tasks t) (b.tasks t) (c.tasks t) (h.tasks t) (g.tasks t);
     handlers = λ x. h.handlers x ∙ sym (g.handlers x);
-    handled = λ x e. h.handled x e ∙ sym (g.handled x e);
+    handed = λ x e. h.handed x e ∙ sym (g.handed x e);
   }
 
 -- any two ends of the one are one, with the same labels

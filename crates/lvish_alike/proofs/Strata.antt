@@ -9,7 +9,7 @@ use Rattle.lvish_calculus.specs.declared.request.ErrorKind.TheVariants.{Frozen, 
 use Rattle.lvish_calculus.specs.declared.request.Request.{Request}
 use Rattle.lvish_calculus.specs.declared.request.Request.TheVariants.{Put, Get, Fork, Add, Freeze, Pause, End, Fault}
 use Rattle.lvish_calculus.specs.Machine.{Machine, IsLawful, IsBelow}
-use Rattle.lvish_calculus.specs.Calculus.{Task, Absent, Live, Ended, Post, State, Configuration, Running, Error, Change, changed, Effect, Changes, Fails, Nothing, IsIn, IsLive, is_live, IsQuiet, IsToHand, Freezes, effect, task_effect, request_effect, put_effect, get_effect, add_effect, hand_effect, after, start, step, IsRun, IsEnabled}
+use Rattle.lvish_calculus.specs.Calculus.{Task, Absent, Live, Ended, Post, State, Configuration, Running, Error, Change, changed, Effect, Changes, Fails, Nothing, IsIn, IsLive, is_live, IsQuiescent, IsToHand, Freezes, effect, task_effect, request_effect, put_effect, get_effect, add_effect, hand_effect, after, start, step, IsRun, IsEnabled}
 use Rattle.lvish_calculus.specs.Laws.{Reaches}
 use Rattle.lvish_calculus.specs.Growth.{IsStepOfRuns, HasGrown}
 use Rattle.lvish_calculus.proofs.Steps.{Makes, puts, gets, forks, adds, freezes, pauses, ends, hands}
@@ -41,7 +41,7 @@ module _ {S E R A L : Type 0} (M : Machine S E R A L) (ok : IsLawful M) where
   record IsClosedPool (c : State S E L) (w q : ℕ) : Type 0 where
     of : M.pool_variable q ≡ Some w
     ended : (t : Name E) → IsIn c t (q ∷ []) → IsLive (c.tasks t) → ⊥
-    drained : (h : Handler E) (post : Post) (e : E) → c.handlers h ≡ Some post → post.pool ≡ q → IsBelow M e (c.content w) → c.handled h e ≡ true
+    drained : (h : Handler E) (post : Post) (e : E) → c.handlers h ≡ Some post → post.pool ≡ q → IsBelow M e (c.content w) → c.handed h e ≡ true
 
   module _ (c : State S E L) (l : Label E) (ch : Change S E L) (m : Makes M c l ch) (en : IsEnabled M c l) (s : IsSound c) where
     -- a handler of a frozen variable was there before the step
@@ -70,8 +70,8 @@ module _ {S E R A L : Type 0} (M : Machine S E R A L) (ok : IsLawful M) where
         pool_of_w : (p : ℕ) → p ≡ q → M.pool_variable p ≡ Some w
         pool_of_w p e = ap M.pool_variable e ∙ closed.of
 
-        drained : (h : Handler E) (post : Post) (e : E) → (changed M ch c).handlers h ≡ Some post → post.pool ≡ q → IsBelow M e ((changed M ch c).content w) → (changed M ch c).handled h e ≡ true
-        drained h post e is at below = grown.handled h e
+        drained : (h : Handler E) (post : Post) (e : E) → (changed M ch c).handlers h ≡ Some post → post.pool ≡ q → IsBelow M e ((changed M ch c).content w) → (changed M ch c).handed h e ≡ true
+        drained h post e is at below = grown.handed h e
             (closed.drained h post e (handler_before w frozen h post is (pool_of_w post.pool at)) at (subst (λ x. IsBelow M e x) (grown.frozen w frozen).1 below))
 
         in_before : (t : Name E) → IsIn (changed M ch c) t (q ∷ []) → IsIn c t (q ∷ [])
@@ -102,7 +102,7 @@ module _ {S E R A L : Type 0} (M : Machine S E R A L) (ok : IsLawful M) where
                 let post_is : hand.on.post ≡ j.post = some_is (sym hand.on.is ∙ ap c.handlers h_is ∙ j.is) in
                 let at : hand.on.post.pool ≡ q = ap (λ (z : Post). z.pool) post_is ∙ only_one q j.post.pool j.listed in
                 let v_is : hand.variable ≡ w = some_is (sym hand.on.of ∙ pool_of_w hand.on.post.pool at) in
-                both_ways _ hand.unhandled (closed.drained (record { adder = u; number = n }) hand.on.post x hand.on.is at (subst (λ z. IsBelow M x (c.content z)) v_is hand.below))
+                both_ways _ hand.not_handed (closed.drained (record { adder = u; number = n }) hand.on.post x hand.on.is at (subst (λ z. IsBelow M x (c.content z)) v_is hand.below))
 
         ended : (t : Name E) → IsIn (changed M ch c) t (q ∷ []) → IsLive ((changed M ch c).tasks t) → ⊥
         ended t i is = elim (tasks_after M ok c l ch m en s t) [
@@ -115,7 +115,7 @@ module _ {S E R A L : Type 0} (M : Machine S E R A L) (ok : IsLawful M) where
     closed_at : (v : ℕ) (fr : Freezes M c l v) (q : ℕ) → Contains fr.pools q → HasGrown M c (changed M ch c) → IsClosedPool (changed M ch c) v q
     closed_at v fr q listed grown = record { of = of_v; ended = ended; drained = drained }
       where
-        quiet : IsQuiet M c v fr.pools
+        quiet : IsQuiescent M c v fr.pools
         quiet = ready_from M ok c fr.task fr.local fr.forks fr.adds fr.puts (Freeze v fr.pools) fr.is fr.asked (subst (λ z. IsEnabled M c z) fr.label en)
 
         of_v : M.pool_variable q ≡ Some v
@@ -140,10 +140,10 @@ module _ {S E R A L : Type 0} (M : Machine S E R A L) (ok : IsLawful M) where
           | inr (inr same) ↦ none_live t (before t i) (subst (λ k. IsLive k) same live)
         ]
 
-        drained : (h : Handler E) (post : Post) (e : E) → (changed M ch c).handlers h ≡ Some post → post.pool ≡ q → IsBelow M e ((changed M ch c).content v) → (changed M ch c).handled h e ≡ true
+        drained : (h : Handler E) (post : Post) (e : E) → (changed M ch c).handlers h ≡ Some post → post.pool ≡ q → IsBelow M e ((changed M ch c).content v) → (changed M ch c).handed h e ≡ true
         drained h post e at pool below =
             let there : c.handlers h ≡ Some post = sym (ap (λ (x : Change S E L). (changed M x c).handlers h) is) ∙ at in
-            grown.handled h e (quiet.drained h e (record { post = post; is = there; of = ap M.pool_variable pool ∙ of_v })
+            grown.handed h e (quiet.drained h e (record { post = post; is = there; of = ap M.pool_variable pool ∙ of_v })
             (subst (λ x. IsBelow M e x) (ap (λ (x : Change S E L). (changed M x c).content v) is) below))
 
   -- each pool that was waited for is closed

@@ -30,7 +30,7 @@ pub fn linked_by(instruction: &Instruction, link: Link) -> Option<usize>
         Link::Stays => stays_with(instruction),
         Link::Starts => started_by(instruction),
         Link::Forks => forked_by(instruction),
-        Link::Handles(pool) => handled_by(instruction, pool),
+        Link::Handles(pool) => handed_by(instruction, pool),
     }
 }
 
@@ -88,7 +88,7 @@ fn forked_by(instruction: &Instruction) -> Option<usize>
 }
 
 /// The routine that an instruction has run by the tasks of a handler of the pool.
-fn handled_by(instruction: &Instruction, pool: usize) -> Option<usize>
+fn handed_by(instruction: &Instruction, pool: usize) -> Option<usize>
     ensures { result ≡ instruction_handles pool instruction.now }
 {
     match instruction {

@@ -12,9 +12,9 @@ use Rattle.lvish_core.specs.Core.{CoreView, IsStep, CanTake, at_fault, state}
 use Rattle.lvish_core.specs.Changes.{local_of, moved_in, nothing_moved, brings}
 use Rattle.lvish_board.specs.Acts.{IsDone, entry_of}
 use Rattle.lvish_board.specs.Left.{own_ticket, made_ticket}
-use Rattle.lvish_board.specs.Listed.{Concerns, by_handing, by_adding, by_putting, IsListed, acts, handings, own_place, stretches, tickets, option_list}
-use Rattle.lvish_board.specs.Place.{TaskPlace}
-use Rattle.lvish_board.specs.Standing.{Standing, IsBlocked, IsBoardSound}
+use Rattle.lvish_board.specs.Listed.{Concerns, by_handing, by_adding, by_putting, IsListed, acts, handings, own_stand, stretches, tickets, option_list}
+use Rattle.lvish_board.specs.Stand.{TaskStand}
+use Rattle.lvish_board.specs.Board.{Standing, IsBlocked, IsBoardSound}
 use Rattle.lvish_board.proofs.Handing.{made_same}
 use Rattle.lvish_board.proofs.Blocked.{IsMade}
 use Rattle.lvish_board.proofs.Those.{nothing_sorted}
@@ -30,7 +30,7 @@ module _ {P S E R A L : Type 0} (M : Machine S E R A L) (c d : CoreView P S E L)
       subst (λ (q : Configuration S E L). CanStep M q l) (ap (at_fault (state M d)) f.1) can.0
 
   -- who was blocked is blocked after it
-  still_blocked : (p : TaskPlace E L) → IsBlocked M c p → IsBlocked M d p
+  still_blocked : (p : TaskStand E L) → IsBlocked M c p → IsBlocked M d p
   still_blocked p b = record {
     current = subst (λ k. local_of ((table_picture M k).tasks p.task) ≡ Some p.from) (sym (step.shows_before kind refl)) b.current;
     blocked = λ can. shut (Act p.task) can;
@@ -56,7 +56,7 @@ module _ {P S E R A L : Type 0} (M : Machine S E R A L) (c d : CoreView P S E L)
   ]
 
   -- it leaves no work
-  pub error_listed : {P1 J1 A1 W : Type 0} (cmp : E → E → Ordering) (s u : Standing P S E L) → s.core ≡ c → u.core ≡ d → u.parked ≡ s.parked → (ws : List (Work P1 J1 S L R A1 W E)) → ws ≡ [] → IsListed cmp M s (Act t) u ws
+  pub error_listed : {P1 B1 A1 W : Type 0} (cmp : E → E → Ordering) (s u : Standing P S E L) → s.core ≡ c → u.core ≡ d → u.parked ≡ s.parked → (ws : List (Work P1 B1 S L R A1 W E)) → ws ≡ [] → IsListed cmp M s (Act t) u ws
   error_listed cmp s u s_core u_core same ws none = record {
     woken = [];
     hands = [];
@@ -69,7 +69,7 @@ module _ {P S E R A L : Type 0} (M : Machine S E R A L) (c d : CoreView P S E L)
   }
 
   -- the board is over with it
-  pub error_kept : (program : P) (budget : ℕ) (trace longer : List (TraceEntry E)) (over : Option (Over E)) (ps : List (TaskPlace E L)) (worker : ℕ) (told : Over E)
+  pub error_kept : (program : P) (budget : ℕ) (trace longer : List (TraceEntry E)) (over : Option (Over E)) (ps : List (TaskStand E L)) (worker : ℕ) (told : Over E)
       → IsBoardSound M program budget (record { trace = trace; core = c; over = over; parked = ps })
       → length trace < budget → longer ≡ trace ++ entry_of worker (Act t) ∷ [] → told ≡ ErrorOver kind (option_and_then (λ f. f.variable) d.fault) t
       → IsBoardSound M program budget (record { trace = longer; core = d; over = Some told; parked = ps })
@@ -82,12 +82,12 @@ module _ {P S E R A L : Type 0} (M : Machine S E R A L) (c d : CoreView P S E L)
 
 -- ---- a step that gives none
 
-own_same : {E L : Type 0} (t : Name E) (own : Option L) → option_list (own_ticket t own) ≡ own_place (Act t) own
+own_same : {E L : Type 0} (t : Name E) (own : Option L) → option_list (own_ticket t own) ≡ own_stand (Act t) own
 own_same t None = refl
 own_same t (Some l) = refl
 
 -- its tickets are the task's next one, where it goes on, and a new task's
-pub act_tickets : {E L : Type 0} (t : Name E) (moved : Moved E L) (own made : Option (TaskPlace E L)) → own ≡ own_ticket t moved.own → made ≡ made_ticket moved.made → option_list own ++ option_list made ≡ tickets (Act t) moved
+pub act_tickets : {E L : Type 0} (t : Name E) (moved : Moved E L) (own made : Option (TaskStand E L)) → own ≡ own_ticket t moved.own → made ≡ made_ticket moved.made → option_list own ++ option_list made ≡ tickets (Act t) moved
 act_tickets t moved own made o m = (λ i. option_list (o i) ++ option_list (m i)) ∙ (λ i. own_same t moved.own i ++ made_same moved.made i)
 
 module _ {P S E R A L : Type 0} {M : Machine S E R A L} (ok : IsLawful M) {cmp : E → E → Ordering} {c d : CoreView P S E L} {t : Name E} {logged : ℕ} {handlers : List (Handler E)} {added : Option (Handler E)} {moved : Moved E L} (k : IsMade M cmp c (Act t) d logged handlers added moved) where

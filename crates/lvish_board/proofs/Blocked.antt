@@ -12,13 +12,13 @@ use Rattle.lvish_calculus.specs.Handing.{IsAmong, NoRepeats}
 use Rattle.lvish_variable.specs.Variable.{VariableView as Variable}
 use Rattle.lvish_core.specs.Core.{CoreView, IsRunTo, IsStep, CanTake, state}
 use Rattle.lvish_core.specs.Changes.{IsMoved, local_of, brought}
-use Rattle.lvish_core.specs.Spots.{HasSpot, PassesAtItsSpot}
-use Rattle.lvish_core.specs.Waiting.{EndsByCounts, MayPass, WaitsUntilTouched}
+use Rattle.lvish_core.specs.Spots.{HasSpot, WakesAtItsSpot}
+use Rattle.lvish_core.specs.Blocked.{EndsByCounts, MayBeWoken, IsBlockedUntilTouched}
 use Rattle.lvish_core.specs.laws.Runs.{at_state}
 use Rattle.lvish_board.specs.Acts.{entry_of}
 use Rattle.lvish_board.specs.Listed.{Concerns, HasNext, IsListed, acts, handings, stretches, tickets, option_list}
-use Rattle.lvish_board.specs.Place.{TaskPlace}
-use Rattle.lvish_board.specs.Standing.{Standing, IsBlocked, IsCurrent, IsBoardSound, TellsEnd, tasks_of}
+use Rattle.lvish_board.specs.Stand.{TaskStand}
+use Rattle.lvish_board.specs.Board.{Standing, IsBlocked, IsCurrent, IsBoardSound, TellsEnd, tasks_of}
 use Rattle.lvish_board.specs.Woken.{MayAnswer, MayWake}
 use Rattle.lvish_board.specs.Left.{IsLeft, IsLogged, candidates, fresh_in}
 use Rattle.lvish_board.proofs.Steps.{done_none, begins_well, kept_step, told_end}
@@ -40,7 +40,7 @@ some_of (Some x) s = (x, refl)
 
 module _ {S E R L W : Type 0} (spot_of : E → W) (watched : R → Option W) (fresh : List (Entry E)) where
   -- what lets the request pass may wake it, where a get that waits at a spot has an event of it
-  wakes : (q : Request S R L) (o : Option Touched) → MayPass q o
+  wakes : (q : Request S R L) (o : Option Touched) → MayBeWoken q o
       → ((v : ℕ) (r : R) (w : W) → q ≡ Get v r → o ≡ Some (Put v) → watched r ≡ Some w → HasSpot spot_of w fresh)
       → MayWake spot_of watched o fresh q
   wakes (Get v r) (Some (Put u)) same spot = (same, by (watched r) refl)
@@ -66,22 +66,22 @@ pub record IsMade {P S E R A L : Type 0} (M : Machine S E R A L) (cmp : E → E 
   pub concerned : (h : Handler E) → IsAmong h (candidates (fresh_in d.table.variables logged d.touched) handlers added) ↔ Concerns M c l h
   pub by_name : IsStrictlySortedBy (handler_cmp cmp) (candidates (fresh_in d.table.variables logged d.touched) handlers added)
 
-module _ {P S E R A L : Type 0} {M : Machine S E R A L} {cmp : E → E → Ordering} {c d : CoreView P S E L} {l : Label E} {logged : ℕ} {handlers : List (Handler E)} {added : Option (Handler E)} {moved : Moved E L} (until : WaitsUntilTouched P M) (k : IsMade M cmp c l d logged handlers added moved) where
+module _ {P S E R A L : Type 0} {M : Machine S E R A L} {cmp : E → E → Ordering} {c d : CoreView P S E L} {l : Label E} {logged : ℕ} {handlers : List (Handler E)} {added : Option (Handler E)} {moved : Moved E L} (until : IsBlockedUntilTouched P M) (k : IsMade M cmp c l d logged handlers added moved) where
   -- the step is no blocked task's
-  other : (p : TaskPlace E L) → IsBlocked M c p → l ≡ Act p.task → ⊥
+  other : (p : TaskStand E L) → IsBlocked M c p → l ≡ Act p.task → ⊥
   other p b e = b.blocked (subst (λ x. CanTake M c x) e k.step.enabled)
 
-  stays : (p : TaskPlace E L) → IsBlocked M c p → (f a q : ℕ) → (state M c).tasks p.task ≡ Live p.from f a q
-      → ((state M d).tasks p.task ≡ Live p.from f a q) × (IsReady M (state M d) (M.request p.from) → IsReady M (state M c) (M.request p.from) ⊎ MayPass (M.request p.from) d.touched)
+  stays : (p : TaskStand E L) → IsBlocked M c p → (f a q : ℕ) → (state M c).tasks p.task ≡ Live p.from f a q
+      → ((state M d).tasks p.task ≡ Live p.from f a q) × (IsReady M (state M d) (M.request p.from) → IsReady M (state M c) (M.request p.from) ⊎ MayBeWoken (M.request p.from) d.touched)
   stays p b f a q is = until c d k.labels l DoneStep k.leads k.step (done_none M c d l k.step) p.task p.from f a q is (other p b)
 
   -- so a blocked task stays where it is
-  pub still_current : (p : TaskPlace E L) → IsBlocked M c p → IsCurrent M d p
+  pub still_current : (p : TaskStand E L) → IsBlocked M c p → IsCurrent M d p
   still_current p b =
       let is = live_at ((state M c).tasks p.task) p.from b.current in
       ap local_of (stays p b is.0 is.1 is.2 is.3).0
 
-  module _ {W : Type 0} {spot_of : E → W} {watched : R → Option W} (spots : PassesAtItsSpot P M spot_of watched) where
+  module _ {W : Type 0} {spot_of : E → W} {watched : R → Option W} (spots : WakesAtItsSpot P M spot_of watched) where
     -- an answer to a get that had none comes with an event of its spot
     at_spot : (v : ℕ) (r : R) (w : W) → d.touched ≡ Some (Put v) → watched r ≡ Some w → (IsReady M (state M c) (Get v r) → ⊥) → IsReady M (state M d) (Get v r)
         → HasSpot spot_of w (fresh_in d.table.variables logged d.touched)
@@ -103,7 +103,7 @@ module _ {P S E R A L : Type 0} {M : Machine S E R A L} {cmp : E → E → Order
     ]
 
     -- a blocked task that can go on after the step may have been woken by it
-    may_wake : (p : TaskPlace E L) → IsBlocked M c p → CanTake M d (Act p.task) → MayWake spot_of watched d.touched (fresh_in d.table.variables logged d.touched) (M.request p.from)
+    may_wake : (p : TaskStand E L) → IsBlocked M c p → CanTake M d (Act p.task) → MayWake spot_of watched d.touched (fresh_in d.table.variables logged d.touched) (M.request p.from)
     may_wake p b can =
         let is = live_at ((state M c).tasks p.task) p.from b.current in
         let kept = stays p b is.0 is.1 is.2 is.3 in
@@ -119,12 +119,12 @@ module _ {P S E R A L : Type 0} {M : Machine S E R A L} {cmp : E → E → Order
         ]
 
     -- what the step leaves, where the parked tasks were blocked
-    module _ {old new : List (TaskPlace E L)} (blocked : (p : TaskPlace E L) → IsAmong p old → IsBlocked M c p) {P1 J1 A1 : Type 0} {own made : Option (TaskPlace E L)} {ws : List (Work P1 J1 S L R A1 W E)} (left : IsLeft cmp M spot_of watched d logged own made added handlers old new ws) where
-      shut : (p : TaskPlace E L) → IsAmong p new → CanTake M d (Act p.task) → ⊥
+    module _ {old new : List (TaskStand E L)} (blocked : (p : TaskStand E L) → IsAmong p old → IsBlocked M c p) {P1 B1 A1 : Type 0} {own made : Option (TaskStand E L)} {ws : List (Work P1 B1 S L R A1 W E)} (left : IsLeft cmp M spot_of watched d logged own made added handlers old new ws) where
+      shut : (p : TaskStand E L) → IsAmong p new → CanTake M d (Act p.task) → ⊥
       shut p i can = left.woken_are.left p i (may_wake p (blocked p (left.woken_are.stay p i).0) can) can
 
       -- who stays parked is blocked
-      pub blocked_after : (p : TaskPlace E L) → IsAmong p new → IsBlocked M d p
+      pub blocked_after : (p : TaskStand E L) → IsAmong p new → IsBlocked M d p
       blocked_after p i = record { current = still_current p (blocked p (left.woken_are.stay p i).0); blocked = shut p i }
 
       listed_here : option_list own ++ option_list made ≡ tickets l moved → (s u : Standing P S E L)

@@ -12,11 +12,11 @@ use Rattle.lvish_core.specs.CoreLaws.{HandsOneEvent, HandsWhatComes}
 use Rattle.lvish_core.specs.Changes.{IsMoved, moved_in, brings, touching}
 use Rattle.lvish_core.specs.Handed.{IsHanded}
 use Rattle.lvish_core.specs.laws.Runs.{at_state, no_error_before}
-use Rattle.lvish_board.specs.Listed.{Concerns, by_handing, by_adding, by_putting, made_place, tickets, option_list}
+use Rattle.lvish_board.specs.Listed.{Concerns, by_handing, by_adding, by_putting, made_stand, tickets, option_list}
 use Rattle.lvish_board.specs.Left.{IsLeft, IsLogged, candidates, fresh_in, made_ticket}
-use Rattle.lvish_board.specs.Place.{TaskPlace}
+use Rattle.lvish_board.specs.Stand.{TaskStand}
 use Rattle.lvish_trace.specs.Traced.{labels_of}
-use Rattle.lvish_board.specs.Standing.{Standing, IsBoardSound}
+use Rattle.lvish_board.specs.Board.{Standing, IsBoardSound}
 use Rattle.lvish_board.proofs.Blocked.{IsMade}
 use Rattle.lvish_board.proofs.Concerned.{IsNoPut, none_fresh}
 use Rattle.lvish_board.proofs.Steps.{begins_well, no_fault, stepped_from}
@@ -39,12 +39,12 @@ hand_no_put None v e = cc
 hand_no_put (Some w) v e = cc
 
 -- the ticket of what a step made is that of its place
-pub made_same : {E L : Type 0} (made : Option (Made E L)) → option_list (made_ticket made) ≡ made_place made
+pub made_same : {E L : Type 0} (made : Option (Made E L)) → option_list (made_ticket made) ≡ made_stand made
 made_same None = refl
 made_same (Some m) = refl
 
 -- the one ticket of a handing is that of the task that it made
-pub hand_tickets : {E L : Type 0} (h : Handler E) (e : E) (moved : Moved E L) (made : Option (TaskPlace E L)) → made ≡ made_ticket moved.made → option_list made ≡ tickets (Hand h e) moved
+pub hand_tickets : {E L : Type 0} (h : Handler E) (e : E) (moved : Moved E L) (made : Option (TaskStand E L)) → made ≡ made_ticket moved.made → option_list made ≡ tickets (Hand h e) moved
 hand_tickets h e moved made is = ap (λ o. option_list o) is ∙ made_same moved.made
 
 module _ {P S E R A L : Type 0} (M : Machine S E R A L) where
@@ -121,7 +121,7 @@ module _ {P S E R A L : Type 0} (M : Machine S E R A L) where
 
 -- what a core says of its own program's machine it says of the program's
 module _ {P S E R A L : Type 0} (machine : P → Machine S E R A L) (program : P) (c : CoreView P S E L) where
-  pub own_left : {P1 J1 W : Type 0} → c.program ≡ program → (cmp : E → E → Ordering) (spot_of : E → W) (watched : R → Option W) (logged : ℕ) (own made : Option (TaskPlace E L)) (added : Option (Handler E)) (handlers : List (Handler E)) (old new : List (TaskPlace E L)) (ws : List (Work P1 J1 S L R A W E))
+  pub own_left : {P1 B1 W : Type 0} → c.program ≡ program → (cmp : E → E → Ordering) (spot_of : E → W) (watched : R → Option W) (logged : ℕ) (own made : Option (TaskStand E L)) (added : Option (Handler E)) (handlers : List (Handler E)) (old new : List (TaskStand E L)) (ws : List (Work P1 B1 S L R A W E))
       → IsLeft cmp (machine c.program) spot_of watched c logged own made added handlers old new ws → IsLeft cmp (machine program) spot_of watched c logged own made added handlers old new ws
   own_left at cmp spot_of watched logged own made added handlers old new ws left = subst (λ p. IsLeft cmp (machine p) spot_of watched c logged own made added handlers old new ws) at left
 

@@ -11,9 +11,9 @@ use Rattle.lvish_core.specs.Changes.{IsMoved, local_of}
 use Rattle.lvish_core.specs.Tasks.{HasEachOnce, IsAt, KeepsIndices}
 use Rattle.lvish_board.specs.Vocabulary.{Label, Act, Hand, Stepped, Made, Moved}
 use Rattle.lvish_board.specs.Left.{made_ticket, own_ticket}
-use Rattle.lvish_board.specs.Place.{TaskPlace}
+use Rattle.lvish_board.specs.Stand.{TaskStand}
 use Rattle.lvish_board.specs.Newest.{AreKnown, IsSetAt, IsSetIf, known_at, values_of}
-use Rattle.lvish_board.specs.Standing.{IsCurrent}
+use Rattle.lvish_board.specs.Board.{IsCurrent}
 
 module _ {V : Type 0} where
   -- one stamp in place of another
@@ -53,8 +53,8 @@ module _ {V : Type 0} where
   pushed_if false xs i s is = unset_in xs i s.value (omega (arith, is))
 
   -- a stamp of a place, or of none, which is of some place, is of that
-  pub same_place : (o : Option V) (p q : V) → o ≡ Some p → (o ≡ None) ⊎ (o ≡ Some q) → p ≡ q
-  same_place o p q is may = elim may [
+  pub same_stand : (o : Option V) (p q : V) → o ≡ Some p → (o ≡ None) ⊎ (o ≡ Some q) → p ≡ q
+  same_stand o p q is may = elim may [
     | inl none ↦ absurd (cc (is, none))
     | inr some ↦ cc (is, some)
   ]
@@ -72,12 +72,12 @@ module _ {V : Type 0} where
 
 module _ {P S E R A L : Type 0} (M : Machine S E R A L) where
   -- nothing is known by no stamps
-  pub none_known : (c : CoreView P S E L) (places : List (Option (TaskPlace E L))) → places ≡ [] → AreKnown M c places
+  pub none_known : (c : CoreView P S E L) (places : List (Option (TaskStand E L))) → places ≡ [] → AreKnown M c places
   none_known c places none i p at = absurd (cc (subst (λ ps. known_at ps i ≡ Some p) none at))
 
   -- after a step in which all tasks stay
   pub still_known : (c d : CoreView P S E L) → KeepsIndices c.table.tasks d.table.tasks → ((t : Name E) (l : L) → local_of ((state M c).tasks t) ≡ Some l → local_of ((state M d).tasks t) ≡ Some l)
-      → (old : List (Option (TaskPlace E L))) → AreKnown M c old → AreKnown M d old
+      → (old : List (Option (TaskStand E L))) → AreKnown M c old → AreKnown M d old
   still_known c d kept stay old known i p at =
       let was = known i p at in
       (kept i p.task was.0, stay p.task p.from was.1)
@@ -85,8 +85,8 @@ module _ {P S E R A L : Type 0} (M : Machine S E R A L) where
   -- after a step of the task at the index, which then stands at the place, if there is one
   pub acted_known : (c d : CoreView P S E L) → KeepsIndices c.table.tasks d.table.tasks → HasEachOnce d.table.tasks → (t : Name E) (k : ℕ) → IsAt c.table.tasks k t
       → ((u : Name E) (l : L) → local_of ((state M c).tasks u) ≡ Some l → (t ≡ u → ⊥) → local_of ((state M d).tasks u) ≡ Some l)
-      → (own : Option (TaskPlace E L)) → ((p : TaskPlace E L) → own ≡ Some p → (p.task ≡ t) × IsCurrent M d p)
-      → (old new : List (Option (TaskPlace E L))) → AreKnown M c old → IsSetAt k own old new → AreKnown M d new
+      → (own : Option (TaskStand E L)) → ((p : TaskStand E L) → own ≡ Some p → (p.task ≡ t) × IsCurrent M d p)
+      → (old new : List (Option (TaskStand E L))) → AreKnown M c old → IsSetAt k own old new → AreKnown M d new
   acted_known c d kept once t k there stay own stands old new known set i p at = elim (set i p at) [
     | inl here ↦
         let own' = stands p here.1 in
@@ -98,8 +98,8 @@ module _ {P S E R A L : Type 0} (M : Machine S E R A L) where
   ]
 
   -- where a task starts behind the others, if one does
-  pub started_known : (d : CoreView P S E L) (next : ℕ) (made : Option (TaskPlace E L)) → ((p : TaskPlace E L) → made ≡ Some p → IsAt d.table.tasks next p.task × IsCurrent M d p)
-      → (old new : List (Option (TaskPlace E L))) → AreKnown M d old → IsSetIf next made old new → AreKnown M d new
+  pub started_known : (d : CoreView P S E L) (next : ℕ) (made : Option (TaskStand E L)) → ((p : TaskStand E L) → made ≡ Some p → IsAt d.table.tasks next p.task × IsCurrent M d p)
+      → (old new : List (Option (TaskStand E L))) → AreKnown M d old → IsSetIf next made old new → AreKnown M d new
   started_known d next None starts old new known same i q at = known i q (subst (λ ps. known_at ps i ≡ Some q) same at)
   started_known d next (Some p) starts old new known set i q at = elim (set i q at) [
     | inl here ↦
@@ -115,13 +115,13 @@ same_act e = cc e
 module _ {P S E R A L : Type 0} (M : Machine S E R A L) {c d : CoreView P S E L} (others : OthersStay P M) (xs : List (Label E)) (leads : IsRunTo M c xs) (once : HasEachOnce d.table.tasks) where
   -- after a step that gave an error
   pub error_known : (t : Name E) (k : ℕ) (said : Stepped) → IsStep M c (Act t) d said → IsAt c.table.tasks k t
-      → (old new : List (Option (TaskPlace E L))) → AreKnown M c old → IsSetAt k None old new → AreKnown M d new
+      → (old new : List (Option (TaskStand E L))) → AreKnown M c old → IsSetAt k None old new → AreKnown M d new
   error_known t k said step there old new known set =
       acted_known M c d step.indices once t k there (λ u l at ne. others c d xs (Act t) said leads step u l at (λ e. ne (same_act e))) None (λ p e. absurd (cc e)) old new known set
 
   module _ (starts : StartsAsSaid P M) (moved : Moved E L) where
     starts_there : (l : Label E) (said : Stepped) → IsStep M c l d said → IsMoved M (state M c) l moved
-        → (p : TaskPlace E L) → made_ticket moved.made ≡ Some p → IsAt d.table.tasks (length c.table.tasks) p.task × IsCurrent M d p
+        → (p : TaskStand E L) → made_ticket moved.made ≡ Some p → IsAt d.table.tasks (length c.table.tasks) p.task × IsCurrent M d p
     starts_there l said step told p is = by moved.made refl is
       where
         by : (o : Option (Made E L)) → moved.made ≡ o → made_ticket o ≡ Some p → IsAt d.table.tasks (length c.table.tasks) p.task × IsCurrent M d p
@@ -134,14 +134,14 @@ module _ {P S E R A L : Type 0} (M : Machine S E R A L) {c d : CoreView P S E L}
 
     -- after a task's step that gave none
     pub step_known : (t : Name E) (k : ℕ) (said : Stepped) → IsStep M c (Act t) d said → IsMoved M (state M c) (Act t) moved → IsAt c.table.tasks k t
-        → local_of ((state M d).tasks t) ≡ moved.own → (old new : List (Option (TaskPlace E L))) → AreKnown M c old → (mid : List (Option (TaskPlace E L)))
+        → local_of ((state M d).tasks t) ≡ moved.own → (old new : List (Option (TaskStand E L))) → AreKnown M c old → (mid : List (Option (TaskStand E L)))
         → IsSetAt k (own_ticket t moved.own) old mid → (next : ℕ) → next ≡ length c.table.tasks → IsSetIf next (made_ticket moved.made) mid new → AreKnown M d new
     step_known t k said step told there stands old new known mid own next is made =
-        let goes : (p : TaskPlace E L) → own_ticket t moved.own ≡ Some p → (p.task ≡ t) × IsCurrent M d p = λ p e. by p moved.own refl e in
+        let goes : (p : TaskStand E L) → own_ticket t moved.own ≡ Some p → (p.task ≡ t) × IsCurrent M d p = λ p e. by p moved.own refl e in
         let acted = acted_known M c d step.indices once t k there (λ u l at ne. others c d xs (Act t) said leads step u l at (λ e. ne (same_act e))) (own_ticket t moved.own) goes old mid known own in
         started_known M d (length c.table.tasks) (made_ticket moved.made) (starts_there (Act t) said step told) mid new acted (subst (λ i. IsSetIf i (made_ticket moved.made) mid new) is made)
       where
-        by : (p : TaskPlace E L) (o : Option L) → moved.own ≡ o → own_ticket t o ≡ Some p → (p.task ≡ t) × IsCurrent M d p
+        by : (p : TaskStand E L) (o : Option L) → moved.own ≡ o → own_ticket t o ≡ Some p → (p.task ≡ t) × IsCurrent M d p
         by p None e z = absurd (cc z)
         by p (Some l) e z =
             let there : p ≡ record { task = t; from = l } = cc z in
@@ -149,7 +149,7 @@ module _ {P S E R A L : Type 0} (M : Machine S E R A L) {c d : CoreView P S E L}
 
     -- after a handing
     pub hand_known : (h : Handler E) (e : E) (said : Stepped) → IsStep M c (Hand h e) d said → IsMoved M (state M c) (Hand h e) moved
-        → (old new : List (Option (TaskPlace E L))) → AreKnown M c old → (next : ℕ) → next ≡ length c.table.tasks → IsSetIf next (made_ticket moved.made) old new → AreKnown M d new
+        → (old new : List (Option (TaskStand E L))) → AreKnown M c old → (next : ℕ) → next ≡ length c.table.tasks → IsSetIf next (made_ticket moved.made) old new → AreKnown M d new
     hand_known h e said step told old new known next is made =
         let stay = still_known M c d step.indices (λ u l at. others c d xs (Hand h e) said leads step u l at (λ z. absurd (cc z))) old known in
         started_known M d (length c.table.tasks) (made_ticket moved.made) (starts_there (Hand h e) said step told) old new stay (subst (λ i. IsSetIf i (made_ticket moved.made) old new) is made)

@@ -5,7 +5,7 @@ use Rattle.std.proofs.lemmas.Option.{slice_get_within, get_or_from_slice_get, sl
 use Rattle.std.proofs.lemmas.Bool.{cases_eq}
 use Rattle.lvish_calculus.specs.Handing.{IsAmong}
 use Rattle.lvish_core.specs.laws.Lists.{among_map}
-use Rattle.lvish_board.specs.Seated.{AreSeated, indices_of, places_of}
+use Rattle.lvish_board.specs.Seated.{AreSeated, indices_of, stands_of}
 use Rattle.lvish_board.proofs.Among.{of_map}
 
 module _ {X : Type 0} where
@@ -47,14 +47,14 @@ module _ {V : Type 0} where
   pub of_index : (i : ℕ) (es : List (ℕ × V)) → IsAmong i (indices_of es) → (v : V) × IsAmong (i, v) es
   of_index i es a = let r = of_map (λ (e : ℕ × V). e.0) i es a in (r.0.1, subst (λ j. IsAmong (j, r.0.1) es) r.2 r.1)
 
-  pub of_place : (v : V) (es : List (ℕ × V)) → IsAmong v (places_of es) → (i : ℕ) × IsAmong (i, v) es
-  of_place v es a = let r = of_map (λ (e : ℕ × V). e.1) v es a in (r.0.0, subst (λ w. IsAmong (r.0.0, w) es) r.2 r.1)
+  pub of_stand : (v : V) (es : List (ℕ × V)) → IsAmong v (stands_of es) → (i : ℕ) × IsAmong (i, v) es
+  of_stand v es a = let r = of_map (λ (e : ℕ × V). e.1) v es a in (r.0.0, subst (λ w. IsAmong (r.0.0, w) es) r.2 r.1)
 
   pub index_among : (e : ℕ × V) (es : List (ℕ × V)) → IsAmong e es → IsAmong e.0 (indices_of es)
   index_among e es i = among_map (λ (x : ℕ × V). x.0) e es i
 
-  pub place_among : (e : ℕ × V) (es : List (ℕ × V)) → IsAmong e es → IsAmong e.1 (places_of es)
-  place_among e es i = among_map (λ (x : ℕ × V). x.1) e es i
+  pub stand_listed : (e : ℕ × V) (es : List (ℕ × V)) → IsAmong e es → IsAmong e.1 (stands_of es)
+  stand_listed e es i = among_map (λ (x : ℕ × V). x.1) e es i
 
   module _ (seats : List ℕ) (es : List (ℕ × V)) (seated : AreSeated seats es) where
     -- an index at which nothing is noted is no entry's

@@ -7,7 +7,7 @@ use Rattle.lvish_calculus.specs.Machine.{Machine, IsLawful}
 use Rattle.lvish_calculus.specs.Calculus.{Task, Absent, Live, Ended, IsLive, is_live, State, Configuration, Running, Error, Effect, Changes, Fails, Nothing, IsReadyTask, CanStep, after, changed, next, effect, with_task}
 use Rattle.lvish_names.specs.Names.{Name}
 use Rattle.lvish_calculus.specs.Handing.{IsAmong, NoRepeats}
-use Rattle.lvish_calculus.specs.Waiting.{HasWaiting}
+use Rattle.lvish_calculus.specs.Blocked.{HasBlocked}
 use Rattle.lvish_calculus.proofs.Among.{without, among_without, stays_among, once_without, gone, one_less}
 use Rattle.lvish_calculus.proofs.Steps.{blamed, view}
 use Rattle.lvish_calculus.proofs.Names.{with_task-same}
@@ -16,18 +16,18 @@ use Rattle.lvish_calculus.proofs.Sound.{acts_live}
 use Rattle.lvish_core.specs.Core.{CoreView, IsRunTo, IsStep, CanTake, state, picture, at_fault, says}
 use Rattle.lvish_core.specs.Changes.{local_of, moved_in}
 use Rattle.lvish_core.specs.Reads.{HasRunning, AreDrained}
-use Rattle.lvish_core.specs.Waiting.{EndsByCounts}
+use Rattle.lvish_core.specs.Blocked.{EndsByCounts}
 use Rattle.lvish_core.specs.laws.Runs.{at_state, no_error_before, running_same}
 use Rattle.lvish_board.specs.Acts.{entry_of}
-use Rattle.lvish_board.specs.Place.{TaskPlace}
+use Rattle.lvish_board.specs.Stand.{TaskStand}
 use Rattle.lvish_board.specs.Woken.{IsParkedBeside}
 use Rattle.lvish_trace.specs.Traced.{labels_of}
-use Rattle.lvish_board.specs.Standing.{Standing, tasks_of, AreAllParked, IsBlocked, IsCurrent, IsBoardSound, OverIs, TellsEnd}
+use Rattle.lvish_board.specs.Board.{Standing, tasks_of, AreAllParked, IsBlocked, IsCurrent, IsBoardSound, OverIs, TellsEnd}
 use Rattle.lvish_board.proofs.Among.{of_map}
 
 -- a task of places is that of one of them
-pub of_task : {E L : Type 0} (t : Name E) (ps : List (TaskPlace E L)) → IsAmong t (tasks_of ps) → (p : TaskPlace E L) × IsAmong p ps × (p.task ≡ t)
-of_task {E} {L} t ps a = of_map (λ (p : TaskPlace E L). p.task) t ps a
+pub of_task : {E L : Type 0} (t : Name E) (ps : List (TaskStand E L)) → IsAmong t (tasks_of ps) → (p : TaskStand E L) × IsAmong p ps × (p.task ≡ t)
+of_task {E} {L} t ps a = of_map (λ (p : TaskStand E L). p.task) t ps a
 
 pub live_there : {L : Type 0} (k : Task L) (l : L) → local_of k ≡ Some l → IsLive k
 live_there (Live m f a p) l e = is_live
@@ -74,22 +74,22 @@ module _ {P S E R A L : Type 0} (M : Machine S E R A L) where
   ])
 
   -- parked tasks are live
-  parked_live : (c : CoreView P S E L) (ps : List (TaskPlace E L)) → ((p : TaskPlace E L) → IsAmong p ps → IsBlocked M c p) → (t : Name E) → IsAmong t (tasks_of ps) → IsLive ((state M c).tasks t)
+  parked_live : (c : CoreView P S E L) (ps : List (TaskStand E L)) → ((p : TaskStand E L) → IsAmong p ps → IsBlocked M c p) → (t : Name E) → IsAmong t (tasks_of ps) → IsLive ((state M c).tasks t)
   parked_live c ps blocked t a =
       let r = of_task t ps a in
       live_there ((state M c).tasks t) r.0.from (subst (λ u. local_of ((state M c).tasks u) ≡ Some r.0.from) r.2 (blocked r.0 r.1).current)
 
   -- where all live tasks are parked, so many haven't ended as are parked
-  all_counted : (c : CoreView P S E L) (ps : List (TaskPlace E L)) → ((p : TaskPlace E L) → IsAmong p ps → IsBlocked M c p) → NoRepeats (tasks_of ps) → ((t : Name E) → IsLive ((state M c).tasks t) → IsAmong t (tasks_of ps)) → HasRunning M c (length ps)
+  all_counted : (c : CoreView P S E L) (ps : List (TaskStand E L)) → ((p : TaskStand E L) → IsAmong p ps → IsBlocked M c p) → NoRepeats (tasks_of ps) → ((t : Name E) → IsLive ((state M c).tasks t) → IsAmong t (tasks_of ps)) → HasRunning M c (length ps)
   all_counted c ps blocked once all = record {
     names = tasks_of ps;
     once = once;
     just = λ t. (parked_live c ps blocked t, all t);
-    count = length-map ps (λ (p : TaskPlace E L). p.task);
+    count = length-map ps (λ (p : TaskStand E L). p.task);
   }
 
   -- the parked tasks wait
-  waiting : (c : CoreView P S E L) (ps : List (TaskPlace E L)) → c.fault ≡ None → ((p : TaskPlace E L) → IsAmong p ps → IsBlocked M c p) → NoRepeats (tasks_of ps) → HasWaiting M (state M c) (length ps)
+  waiting : (c : CoreView P S E L) (ps : List (TaskStand E L)) → c.fault ≡ None → ((p : TaskStand E L) → IsAmong p ps → IsBlocked M c p) → NoRepeats (tasks_of ps) → HasBlocked M (state M c) (length ps)
   waiting c ps none blocked once = record {
     names = tasks_of ps;
     once = once;
@@ -99,14 +99,14 @@ module _ {P S E R A L : Type 0} (M : Machine S E R A L) where
         let b = blocked r.0 r.1 in
         let able : IsReadyTask M (state M c) ((state M c).tasks r.0.task) = subst (λ u. IsReadyTask M (state M c) ((state M c).tasks u)) (sym r.2) ready in
         b.blocked (subst (λ (q : Configuration S E L). CanStep M q (Act r.0.task)) (sym (at_state M c none)) able, tt);
-    count = length-map ps (λ (p : TaskPlace E L). p.task);
+    count = length-map ps (λ (p : TaskStand E L). p.task);
   }
 
   -- with the same steps, over in another way, or with others parked
-  pub kept_over : {program : P} {budget : ℕ} {trace : List (TraceEntry E)} {c : CoreView P S E L} {over after : Option (Over E)} {ps qs : List (TaskPlace E L)}
+  pub kept_over : {program : P} {budget : ℕ} {trace : List (TraceEntry E)} {c : CoreView P S E L} {over after : Option (Over E)} {ps qs : List (TaskStand E L)}
       → IsBoardSound M program budget (record { trace = trace; core = c; over = over; parked = ps })
       → OverIs M budget (record { trace = trace; core = c; over = after; parked = qs }) after → (after ≡ None → AreAllParked M (record { trace = trace; core = c; over = after; parked = qs }) → AreDrained c.table → ⊥)
-      → ((p : TaskPlace E L) → IsAmong p qs → IsBlocked M c p) → NoRepeats (tasks_of qs)
+      → ((p : TaskStand E L) → IsAmong p qs → IsBlocked M c p) → NoRepeats (tasks_of qs)
       → IsBoardSound M program budget (record { trace = trace; core = c; over = after; parked = qs })
   kept_over s o going blocked once = record {
     program_is = s.program_is;
@@ -125,8 +125,8 @@ module _ {P S E R A L : Type 0} (M : Machine S E R A L) where
   no_fault program budget s k none = subst (λ o. OverIs M budget s o) none k.over_is
 
   -- a board that tells its end is over in the way that it is, and at its end
-  pub told_end : EndsByCounts P M → (budget : ℕ) (trace : List (TraceEntry E)) (c : CoreView P S E L) (labels : List (Label E)) (ps : List (TaskPlace E L)) → IsRunTo M c labels → c.fault ≡ None
-      → ((p : TaskPlace E L) → IsAmong p ps → IsBlocked M c p) → NoRepeats (tasks_of ps) → (after : Option (Over E)) → TellsEnd M c (length ps) after
+  pub told_end : EndsByCounts P M → (budget : ℕ) (trace : List (TraceEntry E)) (c : CoreView P S E L) (labels : List (Label E)) (ps : List (TaskStand E L)) → IsRunTo M c labels → c.fault ≡ None
+      → ((p : TaskStand E L) → IsAmong p ps → IsBlocked M c p) → NoRepeats (tasks_of ps) → (after : Option (Over E)) → TellsEnd M c (length ps) after
       → OverIs M budget (record { trace = trace; core = c; over = after; parked = ps }) after
       × (after ≡ None → AreAllParked M (record { trace = trace; core = c; over = after; parked = ps }) → AreDrained c.table → ⊥)
   told_end ends budget trace c labels ps leads fine blocked once None tells = (fine, λ none all drained. tells (all_counted c ps blocked once all) drained)
@@ -135,13 +135,13 @@ module _ {P S E R A L : Type 0} (M : Machine S E R A L) where
   told_end ends budget trace c labels ps leads fine blocked once (Some Budget) tells = absurd tells
 
   -- one more parked
-  pub kept_parked : EndsByCounts P M → (program : P) (budget : ℕ) (trace : List (TraceEntry E)) (c : CoreView P S E L) (over after : Option (Over E)) (ps qs : List (TaskPlace E L)) (p : TaskPlace E L)
+  pub kept_parked : EndsByCounts P M → (program : P) (budget : ℕ) (trace : List (TraceEntry E)) (c : CoreView P S E L) (over after : Option (Over E)) (ps qs : List (TaskStand E L)) (p : TaskStand E L)
       → IsBoardSound M program budget (record { trace = trace; core = c; over = over; parked = ps })
       → IsCurrent M c p → (CanTake M c (Act p.task) → ⊥) → IsParkedBeside ps p qs → NoRepeats (tasks_of qs) → over ≡ None → TellsEnd M c (length qs) after
       → IsBoardSound M program budget (record { trace = trace; core = c; over = after; parked = qs })
   kept_parked ends program budget trace c over after ps qs p s current blocked beside once none tells =
       let fine = no_fault program budget (record { trace = trace; core = c; over = over; parked = ps }) s none in
-      let shut : (q : TaskPlace E L) → IsAmong q qs → IsBlocked M c q = λ q a. elim ((beside.each q).0 a) [
+      let shut : (q : TaskStand E L) → IsAmong q qs → IsBlocked M c q = λ q a. elim ((beside.each q).0 a) [
         | inl e ↦ subst (λ z. IsBlocked M c z) (sym e) (record { current = current; blocked = blocked })
         | inr w ↦ s.blocked q w.0
       ] in
@@ -149,11 +149,11 @@ module _ {P S E R A L : Type 0} (M : Machine S E R A L) where
       kept_over s end.0 end.1 shut once
 
   -- a step more
-  pub kept_step : (program : P) (budget : ℕ) (trace longer : List (TraceEntry E)) (c d : CoreView P S E L) (over after : Option (Over E)) (ps qs : List (TaskPlace E L)) (l : Label E) (worker : ℕ) (said : Stepped)
+  pub kept_step : (program : P) (budget : ℕ) (trace longer : List (TraceEntry E)) (c d : CoreView P S E L) (over after : Option (Over E)) (ps qs : List (TaskStand E L)) (l : Label E) (worker : ℕ) (said : Stepped)
       → IsBoardSound M program budget (record { trace = trace; core = c; over = over; parked = ps })
       → IsStep M c l d said → length trace < budget → longer ≡ trace ++ entry_of worker l ∷ []
       → OverIs M budget (record { trace = longer; core = d; over = after; parked = qs }) after → (after ≡ None → AreAllParked M (record { trace = longer; core = d; over = after; parked = qs }) → AreDrained d.table → ⊥)
-      → ((p : TaskPlace E L) → IsAmong p qs → IsBlocked M d p) → NoRepeats (tasks_of qs)
+      → ((p : TaskStand E L) → IsAmong p qs → IsBlocked M d p) → NoRepeats (tasks_of qs)
       → IsBoardSound M program budget (record { trace = longer; core = d; over = after; parked = qs })
   kept_step program budget trace longer c d over after ps qs l worker said s step room long o going blocked once =
       let len : length (trace ++ entry_of worker l ∷ []) ≡ length trace + 1 = length-append trace (entry_of worker l ∷ []) in

@@ -11,18 +11,18 @@ use Rattle.lvish_handlers.specs.Handlers.{IsByName}
 use Rattle.lvish_core.specs.Reads.{AreHandlers}
 use Rattle.lvish_core.specs.Changes.{IsMoved}
 use Rattle.lvish_core.specs.Core.{CoreView, CanTake, IsStep, state}
-use Rattle.lvish_board.specs.Place.{TaskPlace}
-use Rattle.lvish_board.specs.Standing.{tasks_of}
+use Rattle.lvish_board.specs.Stand.{TaskStand}
+use Rattle.lvish_board.specs.Board.{tasks_of}
 use Rattle.lvish_board.specs.Woken.{IsWoken, MayWake}
 use Rattle.lvish_board.specs.Listed.{stretches, acts, handings, option_list, HasNext}
 
 -- the place where the acting task goes on
-abbrev pub own_ticket : {E L : Type 0} → Name E → Option L → Option (TaskPlace E L)
+abbrev pub own_ticket : {E L : Type 0} → Name E → Option L → Option (TaskStand E L)
 own_ticket t None = None
 own_ticket t (Some l) = Some (record { task = t; from = l })
 
 -- the place where a new task starts
-abbrev pub made_ticket : {E L : Type 0} → Option (Made E L) → Option (TaskPlace E L)
+abbrev pub made_ticket : {E L : Type 0} → Option (Made E L) → Option (TaskStand E L)
 made_ticket None = None
 made_ticket (Some m) = Some (record { task = m.name; from = m.local })
 
@@ -47,7 +47,7 @@ AreThose P [] those = those ≡ []
 AreThose {X} P (x ∷ xs) those = ((ys : List X) × (those ≡ x ∷ ys) × P x × AreThose P xs ys) ⊎ ((P x → ⊥) × AreThose P xs those)
 
 -- the work of these tickets, of the woken tasks, and of the handlers among these with something left
-pub record IsListOf {P' P J S L R A W E Ans : Type 0} (M : Machine S E R Ans L) (c : CoreView P' S E L) (own made : Option (TaskPlace E L)) (woken : List (TaskPlace E L)) (handlers : List (Handler E)) (ws : List (Work P J S L R A W E)) : Type 0 where
+pub record IsListOf {P' P B S L R A W E Ans : Type 0} (M : Machine S E R Ans L) (c : CoreView P' S E L) (own made : Option (TaskStand E L)) (woken : List (TaskStand E L)) (handlers : List (Handler E)) (ws : List (Work P B S L R A W E)) : Type 0 where
   pub hands : List (Handler E)
   pub are : AreThose (λ h. HasNext M c h) handlers hands
   pub is : ws ≡ stretches (option_list own ++ option_list made) ++ acts woken ++ handings hands
@@ -58,8 +58,8 @@ candidates [] handlers added = option_list added
 candidates (x ∷ xs) handlers added = handlers ++ option_list added
 
 -- the work that a step leaves: its tickets, the parked tasks that it woke, and of the handlers that it may concern those with something left
-pub record IsLeft {P' P J S L R A W E Ans : Type 0} (cmp : E → E → Ordering) (M : Machine S E R Ans L) {Spot : Type 0} (spot_of : E → Spot) (watched : R → Option Spot) (c : CoreView P' S E L) (logged : ℕ) (own made : Option (TaskPlace E L)) (added : Option (Handler E)) (handlers : List (Handler E)) (old new : List (TaskPlace E L)) (ws : List (Work P J S L R A W E)) : Type 0 where
-  pub woken : List (TaskPlace E L)
+pub record IsLeft {P' P B S L R A W E Ans : Type 0} (cmp : E → E → Ordering) (M : Machine S E R Ans L) {Spot : Type 0} (spot_of : E → Spot) (watched : R → Option Spot) (c : CoreView P' S E L) (logged : ℕ) (own made : Option (TaskStand E L)) (added : Option (Handler E)) (handlers : List (Handler E)) (old new : List (TaskStand E L)) (ws : List (Work P B S L R A W E)) : Type 0 where
+  pub woken : List (TaskStand E L)
   pub woken_are : IsWoken (λ p. CanTake M c (Act p.task)) (λ p. MayWake spot_of watched c.touched (fresh_in c.table.variables logged c.touched) (M.request p.from)) old new woken
   pub by_name : IsStrictlySortedBy (name_cmp cmp) (tasks_of woken)
   pub work : IsListOf M c own made woken (candidates (fresh_in c.table.variables logged c.touched) handlers added) ws
@@ -76,7 +76,7 @@ AreConcerned {S = S} {E = E} cmp M c (Put v d) handlers logged =
 AreConcerned cmp M c r handlers logged = handlers ≡ []
 
 -- what a core tells of a step of the task at this place, before which its put's variable had that many entries in its log; these are the handlers that the step may concern
-pub record IsStepOf {P S E R A L : Type 0} (cmp : E → E → Ordering) (M : Machine S E R A L) (c : CoreView P S E L) (p : TaskPlace E L) (d : CoreView P S E L) (logged : ℕ) (handlers : List (Handler E)) (stepped : Stepped) (moved : Moved E L) : Type 0 where
+pub record IsStepOf {P S E R A L : Type 0} (cmp : E → E → Ordering) (M : Machine S E R A L) (c : CoreView P S E L) (p : TaskStand E L) (d : CoreView P S E L) (logged : ℕ) (handlers : List (Handler E)) (stepped : Stepped) (moved : Moved E L) : Type 0 where
   pub step : IsStep M c (Act p.task) d stepped
   pub told : IsMoved M (state M c) (Act p.task) moved
   pub concerned : AreConcerned cmp M c (M.request p.from) handlers logged

@@ -2,10 +2,10 @@ pub mod Vocabulary
 pub mod Acts
 pub mod Left
 pub mod Listed
-pub mod Place
+pub mod Stand
 pub mod Newest
 pub mod Seated
 pub mod Shelved
-pub mod Standing
+pub mod Board
 pub mod Waking
 pub mod Woken

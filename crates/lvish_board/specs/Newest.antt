@@ -4,8 +4,8 @@ use Rattle.lvish_history.specs.Stamped.{Stamped}
 use Rattle.lvish_calculus.specs.Machine.{Machine}
 use Rattle.lvish_core.specs.Core.{CoreView}
 use Rattle.lvish_core.specs.Tasks.{IsAt}
-use Rattle.lvish_board.specs.Place.{TaskPlace}
-use Rattle.lvish_board.specs.Standing.{IsCurrent}
+use Rattle.lvish_board.specs.Stand.{TaskStand}
+use Rattle.lvish_board.specs.Board.{IsCurrent}
 
 -- what these stamps were given for
 abbrev pub values_of : {V : Type 0} → List (Stamped V) → List (Option V)
@@ -25,5 +25,5 @@ IsSetIf i None old new = new ≡ old
 IsSetIf i (Some v) old new = IsSetAt i (Some v) old new
 
 -- each task of which a place is known stands there
-abbrev pub AreKnown : {P S E R A L : Type 0} → Machine S E R A L → CoreView P S E L → List (Option (TaskPlace E L)) → Type 0
-AreKnown {E = E} {L = L} M c places = (i : ℕ) (p : TaskPlace E L) → known_at places i ≡ Some p → IsAt c.table.tasks i p.task × IsCurrent M c p
+abbrev pub AreKnown : {P S E R A L : Type 0} → Machine S E R A L → CoreView P S E L → List (Option (TaskStand E L)) → Type 0
+AreKnown {E = E} {L = L} M c places = (i : ℕ) (p : TaskStand E L) → known_at places i ≡ Some p → IsAt c.table.tasks i p.task × IsCurrent M c p

@@ -4,15 +4,15 @@ use Rattle.lvish_names.specs.Names.{Name}
 use Rattle.lvish_calculus.specs.Calculus.{Task}
 use Rattle.lvish_calculus.specs.Handing.{IsAmong}
 use Rattle.lvish_core.specs.Tasks.{IsAt}
-use Rattle.lvish_board.specs.Place.{TaskPlace}
+use Rattle.lvish_board.specs.Stand.{TaskStand}
 
 -- the indices of entries
 abbrev pub indices_of : {V : Type 0} → List (ℕ × V) → List ℕ
 indices_of entries = map (λ e. e.0) entries
 
 -- what stands at them
-abbrev pub places_of : {V : Type 0} → List (ℕ × V) → List V
-places_of entries = map (λ e. e.1) entries
+abbrev pub stands_of : {V : Type 0} → List (ℕ × V) → List V
+stands_of entries = map (λ e. e.1) entries
 
 -- where an entry stands in the list is noted at its index
 abbrev pub AreSeated : {V : Type 0} → List ℕ → List (ℕ × V) → Type 0
@@ -27,5 +27,5 @@ abbrev pub HasIndexAmong : {V : Type 0} → List ℕ → List (ℕ × V) → V �
 HasIndexAmong indices entries v = (i : ℕ) × IsAmong i indices × IsAmong (i, v) entries
 
 -- each parked task has its index
-abbrev pub AreIndexed : {E L : Type 0} → List (Name E × Task L) → List (ℕ × TaskPlace E L) → Type 0
-AreIndexed {E = E} {L = L} tasks entries = (e : ℕ × TaskPlace E L) → IsAmong e entries → IsAt tasks e.0 e.1.task
+abbrev pub AreIndexed : {E L : Type 0} → List (Name E × Task L) → List (ℕ × TaskStand E L) → Type 0
+AreIndexed {E = E} {L = L} tasks entries = (e : ℕ × TaskStand E L) → IsAmong e entries → IsAt tasks e.0 e.1.task

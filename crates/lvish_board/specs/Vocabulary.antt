@@ -18,17 +18,17 @@ pub use Rattle.lvish_core.specs.declared.touched.Touched.TheVariants.{Put as Put
 pub use Rattle.lvish_core.specs.declared.moved.Made.{Made}
 pub use Rattle.lvish_core.specs.declared.moved.Moved.{Moved}
 pub use Rattle.lvish_trace.specs.declared.trace_entry.TraceEntry.{TraceEntry}
-pub use Rattle.lvish_trace.specs.declared.noted.Noted.{Noted}
-pub use Rattle.lvish_trace.specs.declared.noted.Step.{Step}
-pub use Rattle.lvish_trace.specs.declared.noted.Step.TheVariants.{Act as ActStep, Hand as HandStep}
+pub use Rattle.lvish_trace.specs.declared.packed_step.PackedStep.{PackedStep}
+pub use Rattle.lvish_trace.specs.declared.packed_step.Step.{Step}
+pub use Rattle.lvish_trace.specs.declared.packed_step.Step.TheVariants.{Act as ActStep, Hand as HandStep}
 pub use Rattle.lvish_trace.specs.declared.trace.TracedStep.{TracedStep}
 pub use Rattle.lvish_trace.specs.declared.trace.TracedStep.TheVariants.{Run as RunOf, Hand as HandOf}
 pub use Rattle.lvish_trace.specs.declared.outcome.Outcome.{Outcome}
 pub use Rattle.lvish_trace.specs.declared.outcome.Outcome.TheVariants.{Ended as EndedOver, Error as ErrorOver, Budget}
 pub use Rattle.lvish_board.specs.declared.work.Work.{Work}
 pub use Rattle.lvish_board.specs.declared.work.Work.TheVariants.{Stretch, Act as ActOn, Hand as HandTo}
-pub use Rattle.lvish_board.specs.declared.works.Works.{Works}
-pub use Rattle.lvish_board.specs.declared.acted.Acted.{Acted}
-pub use Rattle.lvish_board.specs.declared.acted.Acted.TheVariants.{Over, Stale, Parked, Memory, Next, Gone}
-pub use Rattle.lvish_board.specs.declared.came.Came.{Came}
-pub use Rattle.lvish_board.specs.declared.came.Came.TheVariants.{Over as CameOver, Stale as CameStale, Parked as CameParked, Memory as CameMemory, Next as CameNext, Gone as CameGone}
+pub use Rattle.lvish_board.specs.declared.step_work.StepWork.{StepWork}
+pub use Rattle.lvish_board.specs.declared.act_answer.ActAnswer.{ActAnswer}
+pub use Rattle.lvish_board.specs.declared.act_answer.ActAnswer.TheVariants.{Over, Stale, Parked, Memory, Next, Gone}
+pub use Rattle.lvish_board.specs.declared.act_kind.ActKind.{ActKind}
+pub use Rattle.lvish_board.specs.declared.act_kind.ActKind.TheVariants.{Over as OverKind, Stale as StaleKind, Parked as ParkedKind, Memory as MemoryKind, Next as NextKind, Gone as GoneKind}

@@ -1,8 +1,8 @@
 ghost use Rattle.std.specs.Prelude.{◌≡◌, ◌⊎◌, None, Some, IfOk, IfErr, IfSome, MatchResult};
 ghost use Rattle.lvish_calculus.specs.declared.label.Label.TheVariants.{Act};
 
-use crate::named::Named;
-use crate::place::Place;
+use crate::board_brand::BoardBrand;
+use crate::stand::Stand;
 use crate::ticket::Ticket;
 use lvish_calculus::{Asks, Meaning, Program, Request};
 use lvish_core::{Core, CoreMeaning, Moved, StepFault, Stepped, TaskNumbers};
@@ -13,8 +13,8 @@ use std::alloc::{AllocError, Global};
 use std::marker::Model;
 
 /// A task at a local state, with what it asks for there.
-pub struct Asked<P: Program, J: Named<P>> {
-    ticket: Ticket<P, J>,
+pub struct Asked<P: Program, B: BoardBrand<P>> {
+    ticket: Ticket<P, B>,
     request: Request<P::Lat, <P::Lat as Reads>::Read, P::Local>,
     // the local state in which it asks, in which a step goes on; `None` while it is parked, until it is made
     // anew, and after a step that was refused
@@ -22,7 +22,7 @@ pub struct Asked<P: Program, J: Named<P>> {
 }
 
 // Written out, so that it is proved once, and not at each exit of a function that owns one.
-impl<P: Program, J: Named<P>> Drop for Asked<P, J> {
+impl<P: Program, B: BoardBrand<P>> Drop for Asked<P, B> {
     #[inline(always)]
     fn drop(self) {
         let Asked {
@@ -33,24 +33,24 @@ impl<P: Program, J: Named<P>> Drop for Asked<P, J> {
     }
 }
 
-impl<P: Program, J: Named<P>> Model for Asked<P, J> {
+impl<P: Program, B: BoardBrand<P>> Model for Asked<P, B> {
     ghost use Rattle.std.specs.Prelude.{◌≡◌, IfSome};
-    ghost use Rattle.lvish_board.specs.Place.{TaskPlace};
+    ghost use Rattle.lvish_board.specs.Stand.{TaskStand};
 
-    ghost Value = { TaskPlace P.Lat.Event P.Local };
+    ghost Value = { TaskStand P.Lat.Event P.Local };
 
     ghost view = { λ a. a.ticket };
 
-    ghost invariant = { λ a. (a.request ≡ (P.functions J.program).request a.ticket.from) × IfSome a.at (λ l. l ≡ (P.functions J.program).at a.ticket.from) };
+    ghost invariant = { λ a. (a.request ≡ (P.functions B.program).request a.ticket.from) × IfSome a.at (λ l. l ≡ (P.functions B.program).at a.ticket.from) };
 }
 
-impl<P: Program, J: Named<P>> Asked<P, J> {
+impl<P: Program, B: BoardBrand<P>> Asked<P, B> {
     pub(crate) fn new(
-        ticket: Ticket<P, J>,
+        ticket: Ticket<P, B>,
         asks: Asks<P::Lat, <P::Lat as Reads>::Read, P::Local>,
-    ) -> Asked<P, J>
-        requires request { asks.request ≡ (P.functions J.program).request ticket.from }
-        requires at { asks.at ≡ (P.functions J.program).at ticket.from }
+    ) -> Asked<P, B>
+        requires request { asks.request ≡ (P.functions B.program).request ticket.from }
+        requires at { asks.at ≡ (P.functions B.program).at ticket.from }
         ensures { result ≡ ticket }
     {
         let Asks { request, at } = asks;
@@ -70,7 +70,7 @@ impl<P: Program, J: Named<P>> Asked<P, J> {
 
     /// The stamp that the board gave the task here.
     #[inline(always)]
-    pub(crate) fn stamp(&self) -> &Stamp<Place<P>, J>
+    pub(crate) fn stamp(&self) -> &Stamp<Stand<P>, B>
         ensures { (result.now.value ≡ None) ⊎ (result.now.value ≡ Some self.now) }
     {
         self.ticket.stamp()
@@ -92,14 +92,14 @@ impl<P: Program, J: Named<P>> Asked<P, J> {
     /// The local state in which its step goes on, where it is known.
     #[inline(always)]
     pub fn at(&self) -> Option<&P::Local>
-        ensures { IfSome result (λ l. l.now ≡ (P.functions J.program).at self.now.from) }
+        ensures { IfSome result (λ l. l.now ≡ (P.functions B.program).at self.now.from) }
     {
         self.at.as_ref()
     }
 
     /// What it asks for.
     pub(crate) fn request(&self) -> &Request<P::Lat, <P::Lat as Reads>::Read, P::Local>
-        ensures { result.now ≡ (P.functions J.program).request self.now.from }
+        ensures { result.now ≡ (P.functions B.program).request self.now.from }
     {
         &self.request
     }
@@ -116,7 +116,7 @@ impl<P: Program, J: Named<P>> Asked<P, J> {
         core: &mut Core<'_, P>,
         numbers: TaskNumbers,
     ) -> Result<(Stepped, Moved<<P::Lat as Lattice>::Event, P::Local>), StepFault>
-        requires program { core.old.program ≡ J.program }
+        requires program { core.old.program ≡ B.program }
         requires live { ⟦<P as CoreMeaning>⟧.is_live core.old self.old.task self.old.from numbers }
         ensures stepped { MatchResult result (λ s. ⟦<P as CoreMeaning>⟧.is_step core.old (Act self.old.task) core.new s.0) (λ e. ⟦<P as CoreMeaning>⟧.is_refused core.old (Act self.old.task) e × (core.new ≡ core.old)) }
         ensures moved { IfOk result (λ s. ⟦<P as CoreMeaning>⟧.is_moved core.old (Act self.old.task) s.1) }
@@ -157,7 +157,7 @@ impl<P: Program, J: Named<P>> Asked<P, J> {
         program: &P,
         spare: Option<P::Local>,
     ) -> Result<(), AllocError>
-        requires program { program.now ≡ J.program }
+        requires program { program.now ≡ B.program }
         ensures { self.new ≡ self.old }
     {
         if self.at.is_none() {
@@ -208,12 +208,12 @@ fn place_of<P: Program>(alloc: Global, program: &P, from: &P::Local) -> Result<P
 /// # Errors
 ///
 /// Where there is no room for it, the ticket.
-pub fn stretch<P: Program, J: Named<P>>(
+pub fn stretch<P: Program, B: BoardBrand<P>>(
     alloc: Global,
     program: &P,
-    ticket: Ticket<P, J>,
-) -> Result<Asked<P, J>, Ticket<P, J>>
-    requires program { program.now ≡ J.program }
+    ticket: Ticket<P, B>,
+) -> Result<Asked<P, B>, Ticket<P, B>>
+    requires program { program.now ≡ B.program }
     ensures ok { IfOk result (λ a. a ≡ ticket) }
     ensures err { IfErr result (λ t. t ≡ ticket) }
 {
@@ -227,13 +227,13 @@ pub fn stretch<P: Program, J: Named<P>>(
 ///
 /// Where there is no room for it, the ticket.
 #[inline(always)]
-pub fn stretch_with<P: Program, J: Named<P>>(
+pub fn stretch_with<P: Program, B: BoardBrand<P>>(
     alloc: Global,
     program: &P,
-    ticket: Ticket<P, J>,
+    ticket: Ticket<P, B>,
     spare: Option<P::Local>,
-) -> Result<Asked<P, J>, Ticket<P, J>>
-    requires program { program.now ≡ J.program }
+) -> Result<Asked<P, B>, Ticket<P, B>>
+    requires program { program.now ≡ B.program }
     ensures ok { IfOk result (λ a. a ≡ ticket) }
     ensures err { IfErr result (λ t. t ≡ ticket) }
 {

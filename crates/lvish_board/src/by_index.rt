@@ -4,14 +4,14 @@ ghost use Rattle.std.specs.Prelude.{◌≡◌, ◌+◌, ◌<◌, ◌≤◌, ◌�
 ghost use Rattle.std.specs.List.{swap_remove};
 ghost use Rattle.lvish_calculus.specs.declared.label.Label.TheVariants.{Act};
 ghost use Rattle.lvish_calculus.specs.Handing.{IsAmong, NoRepeats};
-ghost use Rattle.lvish_board.specs.Place.{TaskPlace};
-ghost use Rattle.lvish_board.specs.Seated.{AreWithin, HasIndexAmong, indices_of, places_of};
+ghost use Rattle.lvish_board.specs.Stand.{TaskStand};
+ghost use Rattle.lvish_board.specs.Seated.{AreWithin, HasIndexAmong, indices_of, stands_of};
 ghost use Rattle.lvish_board.specs.Shelved.{shelf};
-ghost use Rattle.lvish_board.specs.Standing.{tasks_of};
+ghost use Rattle.lvish_board.specs.Board.{tasks_of};
 ghost use Rattle.lvish_board.specs.Waking.{Wakes};
 
 use crate::asked::Asked;
-use crate::named::Named;
+use crate::board_brand::BoardBrand;
 use lvish_calculus::Program;
 use lvish_core::{Core, CoreMeaning};
 use smallvec::SmallVec;
@@ -21,34 +21,34 @@ use std::hash::Hash;
 use std::marker::Model;
 
 /// The parked tasks, each with its index, in any order.
-pub(crate) struct ByIndex<P: Program, J: Named<P>> {
-    asked: Vec<(usize, Asked<P, J>)>,
+pub(crate) struct ByIndex<P: Program, B: BoardBrand<P>> {
+    asked: Vec<(usize, Asked<P, B>)>,
     // where a task stands among them, at its index
     seats: Vec<usize>,
 }
 
 // Written out, so that it is proved once, and not at each exit of a function that owns one.
-impl<P: Program, J: Named<P>> Drop for ByIndex<P, J> {
+impl<P: Program, B: BoardBrand<P>> Drop for ByIndex<P, B> {
     fn drop(self) {
         let ByIndex { asked: _, seats: _ } = self;
     }
 }
 
-impl<P: Program, J: Named<P>> Model for ByIndex<P, J> {
+impl<P: Program, B: BoardBrand<P>> Model for ByIndex<P, B> {
     ghost use Rattle.std.specs.Prelude.{List, ℕ};
-    ghost use Rattle.lvish_board.specs.Place.{TaskPlace};
+    ghost use Rattle.lvish_board.specs.Stand.{TaskStand};
     ghost use Rattle.lvish_board.specs.Seated.{AreSeated};
 
-    ghost Value = { List (ℕ × TaskPlace P.Lat.Event P.Local) };
+    ghost Value = { List (ℕ × TaskStand P.Lat.Event P.Local) };
 
     ghost view = { λ b. b.asked.items };
 
     ghost invariant = { λ b. AreSeated b.seats.items b.asked.items };
 }
 
-impl<P: Program, J: Named<P>> ByIndex<P, J> {
+impl<P: Program, B: BoardBrand<P>> ByIndex<P, B> {
     /// No task.
-    pub(crate) fn new(alloc: Global) -> ByIndex<P, J>
+    pub(crate) fn new(alloc: Global) -> ByIndex<P, B>
         ensures { result ≡ [] }
     {
         ByIndex {
@@ -67,7 +67,7 @@ impl<P: Program, J: Named<P>> ByIndex<P, J> {
     /// Where the task of this index stands, if it is parked.
     #[inline(always)]
     fn find(&self, index: usize) -> Option<usize>
-        ensures { MatchOption result (IsAmong index (indices_of self.now) → ⊥) (λ k. (p : TaskPlace P.Lat.Event P.Local) × (slice_get self.now k ≡ Some (index, p))) }
+        ensures { MatchOption result (IsAmong index (indices_of self.now) → ⊥) (λ k. (p : TaskStand P.Lat.Event P.Local) × (slice_get self.now k ≡ Some (index, p))) }
     {
         let Some(seat) = self.seats.get(index) else {
             return None;
@@ -85,7 +85,7 @@ impl<P: Program, J: Named<P>> ByIndex<P, J> {
         self.find(index).is_some()
     }
 
-    /// Parks a task that isn't there, out of its place.
+    /// Parks a task that isn't there, out of its slot.
     ///
     /// # Errors
     ///
@@ -94,15 +94,15 @@ impl<P: Program, J: Named<P>> ByIndex<P, J> {
     pub(crate) fn insert(
         &mut self,
         index: usize,
-        place: &mut Option<Asked<P, J>>,
+        slot: &mut Option<Asked<P, B>>,
     ) -> Result<(), AllocError>
-        requires there { IsSome place.old }
+        requires there { IsSome slot.old }
         requires absent { IsAmong index (indices_of self.old) → ⊥ }
-        ensures ok { (a : TaskPlace P.Lat.Event P.Local) → place.old ≡ Some a → IfOk result (λ _. self.new ≡ self.old ++ (index, a) ∷ []) }
-        ensures err { OnErr result ((place.new ≡ place.old) × (self.new ≡ self.old)) }
+        ensures ok { (a : TaskStand P.Lat.Event P.Local) → slot.old ≡ Some a → IfOk result (λ _. self.new ≡ self.old ++ (index, a) ∷ []) }
+        ensures err { OnErr result ((slot.new ≡ slot.old) × (self.new ≡ self.old)) }
     {
         reserve_at(&mut self.asked, &mut self.seats, index)?;
-        let Some(asked) = place.take() else {
+        let Some(asked) = slot.take() else {
             unreachable!()
         };
         self.seats[index] = self.asked.len();
@@ -116,15 +116,15 @@ impl<P: Program, J: Named<P>> ByIndex<P, J> {
         &mut self,
         core: &Core<'_, P>,
         index: usize,
-        woken: &mut Vec<Asked<P, J>>,
+        woken: &mut Vec<Asked<P, B>>,
     ) -> bool
-        requires program { core.now.program ≡ J.program }
-        requires current { (p : TaskPlace P.Lat.Event P.Local) → IsAmong p (places_of self.old) → ⟦<P as CoreMeaning>⟧.local_in core.now p.task ≡ Some p.from }
-        requires once { NoRepeats (tasks_of (places_of self.old)) }
+        requires program { core.now.program ≡ B.program }
+        requires current { (p : TaskStand P.Lat.Event P.Local) → IsAmong p (stands_of self.old) → ⟦<P as CoreMeaning>⟧.local_in core.now p.task ≡ Some p.from }
+        requires once { NoRepeats (tasks_of (stands_of self.old)) }
         requires room { vec_len woken.old + length self.old ≤ vec_capacity woken.old }
-        ensures wakes { Wakes (λ p. ⟦<P as CoreMeaning>⟧.can_take core.now (Act p.task)) (λ p. IsAmong (index, p) self.old) (places_of self.old) (places_of self.new) woken.old.items woken.new.items }
+        ensures wakes { Wakes (λ p. ⟦<P as CoreMeaning>⟧.can_take core.now (Act p.task)) (λ p. IsAmong (index, p) self.old) (stands_of self.old) (stands_of self.new) woken.old.items woken.new.items }
         ensures gone { IsTrue result → IsAmong index (indices_of self.new) → ⊥ }
-        ensures once { NoRepeats (tasks_of (places_of self.new)) }
+        ensures once { NoRepeats (tasks_of (stands_of self.new)) }
         ensures within { AreWithin self.new self.old }
         ensures capacity { vec_capacity woken.new ≡ vec_capacity woken.old }
     {
@@ -141,7 +141,7 @@ impl<P: Program, J: Named<P>> ByIndex<P, J> {
 
     /// Takes out the task that stands here, and the last one stands in its place.
     #[inline(always)]
-    fn take(&mut self, seat: usize) -> Asked<P, J>
+    fn take(&mut self, seat: usize) -> Asked<P, B>
         requires { seat < length self.old }
         ensures { (i : ℕ) × (slice_get self.old seat ≡ Some (i, result)) × (self.new ≡ swap_remove self.old seat (i, result)) }
     {
@@ -158,15 +158,15 @@ impl<P: Program, J: Named<P>> ByIndex<P, J> {
         &mut self,
         core: &Core<'_, P>,
         indices: &mut SmallVec<usize, 2>,
-        woken: &mut Vec<Asked<P, J>>,
+        woken: &mut Vec<Asked<P, B>>,
     )
-        requires program { core.now.program ≡ J.program }
-        requires current { (p : TaskPlace P.Lat.Event P.Local) → IsAmong p (places_of self.old) → ⟦<P as CoreMeaning>⟧.local_in core.now p.task ≡ Some p.from }
-        requires once { NoRepeats (tasks_of (places_of self.old)) }
+        requires program { core.now.program ≡ B.program }
+        requires current { (p : TaskStand P.Lat.Event P.Local) → IsAmong p (stands_of self.old) → ⟦<P as CoreMeaning>⟧.local_in core.now p.task ≡ Some p.from }
+        requires once { NoRepeats (tasks_of (stands_of self.old)) }
         requires room { vec_len woken.old + length self.old ≤ vec_capacity woken.old }
-        ensures wakes { Wakes (λ p. ⟦<P as CoreMeaning>⟧.can_take core.now (Act p.task)) (HasIndexAmong indices.old.items self.old) (places_of self.old) (places_of self.new) woken.old.items woken.new.items }
+        ensures wakes { Wakes (λ p. ⟦<P as CoreMeaning>⟧.can_take core.now (Act p.task)) (HasIndexAmong indices.old.items self.old) (stands_of self.old) (stands_of self.new) woken.old.items woken.new.items }
         ensures left { (i : ℕ) → IsAmong i (indices_of self.new) → IsAmong i indices.old.items → IsAmong i indices.new.items }
-        ensures once { NoRepeats (tasks_of (places_of self.new)) }
+        ensures once { NoRepeats (tasks_of (stands_of self.new)) }
         ensures within { AreWithin self.new self.old }
         ensures capacity { vec_capacity woken.new ≡ vec_capacity woken.old }
     {
@@ -187,15 +187,15 @@ impl<P: Program, J: Named<P>> ByIndex<P, J> {
         core: &Core<'_, P>,
         lists: &mut HashMap<K, SmallVec<usize, 2>>,
         key: &K,
-        woken: &mut Vec<Asked<P, J>>,
+        woken: &mut Vec<Asked<P, B>>,
     )
-        requires program { core.now.program ≡ J.program }
-        requires current { (p : TaskPlace P.Lat.Event P.Local) → IsAmong p (places_of self.old) → ⟦<P as CoreMeaning>⟧.local_in core.now p.task ≡ Some p.from }
-        requires once { NoRepeats (tasks_of (places_of self.old)) }
+        requires program { core.now.program ≡ B.program }
+        requires current { (p : TaskStand P.Lat.Event P.Local) → IsAmong p (stands_of self.old) → ⟦<P as CoreMeaning>⟧.local_in core.now p.task ≡ Some p.from }
+        requires once { NoRepeats (tasks_of (stands_of self.old)) }
         requires room { vec_len woken.old + length self.old ≤ vec_capacity woken.old }
-        ensures wakes { Wakes (λ p. ⟦<P as CoreMeaning>⟧.can_take core.now (Act p.task)) (HasIndexAmong (shelf K.eq lists.old key.now) self.old) (places_of self.old) (places_of self.new) woken.old.items woken.new.items }
+        ensures wakes { Wakes (λ p. ⟦<P as CoreMeaning>⟧.can_take core.now (Act p.task)) (HasIndexAmong (shelf K.eq lists.old key.now) self.old) (stands_of self.old) (stands_of self.new) woken.old.items woken.new.items }
         ensures left { (q : K) (i : ℕ) → IsAmong i (indices_of self.new) → IsAmong i (shelf K.eq lists.old q) → IsAmong i (shelf K.eq lists.new q) }
-        ensures once { NoRepeats (tasks_of (places_of self.new)) }
+        ensures once { NoRepeats (tasks_of (stands_of self.new)) }
         ensures within { AreWithin self.new self.old }
         ensures capacity { vec_capacity woken.new ≡ vec_capacity woken.old }
     {

@@ -10,37 +10,37 @@
 //! let Work::Stretch(ticket) = first else { .. };
 //! let Ok(asked) = stretch(alloc, &program, ticket) else { .. };
 //! match board.act(alloc, 0, asked) {
-//!     Acted::Next(more) | Acted::Gone(more) => .. // all of it is to be done, in any order
-//!     Acted::Parked => .. // the board parks it, and lists it once it can go on
-//!     Acted::Over => .. // `board.over()` says how
+//!     ActAnswer::Next(more) | ActAnswer::Gone(more) => .. // all of it is to be done, in any order
+//!     ActAnswer::Parked => .. // the board parks it, and lists it once it can go on
+//!     ActAnswer::Over => .. // `board.over()` says how
 //!     ..
 //! }
 //! ```
 #![tactic(auto)]
 
-mod acted;
+mod act_answer;
+mod act_kind;
 mod asked;
 mod board;
+mod board_brand;
 mod by_index;
-mod came;
 mod list;
-mod named;
 mod newest;
 mod parked;
-mod place;
 mod room;
 mod shelves;
+mod stand;
+mod step_work;
 mod ticket;
 mod work;
-mod works;
 
-pub use acted::Acted;
+pub use act_answer::ActAnswer;
+pub use act_kind::ActKind;
 pub use asked::{Asked, stretch, stretch_with};
 pub use board::Board;
-pub use came::Came;
-pub use lvish_trace::{Noted, Outcome, Step, Trace, TraceEntry, TracedStep};
-pub use named::Named;
-pub use place::Place;
+pub use board_brand::BoardBrand;
+pub use lvish_trace::{Outcome, PackedStep, Step, Trace, TraceEntry, TracedStep};
+pub use stand::Stand;
+pub use step_work::StepWork;
 pub use ticket::Ticket;
 pub use work::Work;
-pub use works::Works;

@@ -5,21 +5,21 @@
 
 ghost use Rattle.std.specs.Prelude.{◌≡◌, ◌≤◌, ◌+◌, List, Option, [], length, vec_len, vec_capacity};
 ghost use Rattle.lvish_calculus.specs.Handing.{IsAmong, NoRepeats};
-ghost use Rattle.lvish_board.specs.Place.{TaskPlace};
+ghost use Rattle.lvish_board.specs.Stand.{TaskStand};
 ghost use Rattle.lvish_board.specs.Newest.{IsSetAt, IsSetIf};
-ghost use Rattle.lvish_trace.specs.NotedView.{index_of};
-ghost use Rattle.lvish_board.specs.Seated.{AreWithin, places_of};
-ghost use Rattle.lvish_board.specs.Standing.{tasks_of};
-ghost use Rattle.lvish_board.specs.Listed.{HasNext, works_of, option_list};
+ghost use Rattle.lvish_trace.specs.PackedView.{index_of};
+ghost use Rattle.lvish_board.specs.Seated.{AreWithin, stands_of};
+ghost use Rattle.lvish_board.specs.Board.{tasks_of};
+ghost use Rattle.lvish_board.specs.Listed.{HasNext, work_of, option_list};
 ghost use Rattle.lvish_board.specs.Left.{AreThose, IsLeft, IsLogged, candidates, fresh_in, own_ticket, made_ticket};
 
 use crate::asked::Asked;
-use crate::named::Named;
+use crate::board_brand::BoardBrand;
 use crate::newest::Newest;
 use crate::parked::Parked;
 use crate::room::{Room, give};
+use crate::step_work::StepWork;
 use crate::ticket::Ticket;
-use crate::works::Works;
 use lvish_calculus::{Meaning, Program};
 use lvish_core::{Core, CoreMeaning, Made, Moved, Touched};
 use lvish_lattice::Lattice;
@@ -29,23 +29,23 @@ use lvish_variable::Entry;
 
 /// What a step leaves by itself: the tickets of its tasks, and a handler that it added.
 #[derive(Drop)]
-pub(crate) struct OwnWork<P: Program, J: Named<P>> {
+pub(crate) struct OwnWork<P: Program, B: BoardBrand<P>> {
     pub step: Step,
-    pub own: Option<Ticket<P, J>>,
-    pub made: Option<Ticket<P, J>>,
+    pub own: Option<Ticket<P, B>>,
+    pub made: Option<Ticket<P, B>>,
     pub added: Option<HandlerName<<P::Lat as Lattice>::Event>>,
 }
 
 /// What the step of a task leaves by itself.
 #[inline(always)]
-pub(crate) fn left_by<P: Program, J: Named<P>>(
+pub(crate) fn left_by<P: Program, B: BoardBrand<P>>(
     step: Step,
-    asked: &mut Asked<P, J>,
+    asked: &mut Asked<P, B>,
     next: usize,
-    newest: &mut Newest<P, J>,
+    newest: &mut Newest<P, B>,
     moved: Moved<<P::Lat as Lattice>::Event, P::Local>,
-) -> OwnWork<P, J>
-    ensures newest { (mid : List (Option (TaskPlace P.Lat.Event P.Local))) × IsSetAt (index_of step) (own_ticket asked.old.task moved.own) newest.old mid × IsSetIf next (made_ticket moved.made) mid newest.new }
+) -> OwnWork<P, B>
+    ensures newest { (mid : List (Option (TaskStand P.Lat.Event P.Local))) × IsSetAt (index_of step) (own_ticket asked.old.task moved.own) newest.old mid × IsSetIf next (made_ticket moved.made) mid newest.new }
     ensures step { result.step ≡ step }
     ensures own { result.own ≡ own_ticket asked.old.task moved.own }
     ensures made { result.made ≡ made_ticket moved.made }
@@ -62,12 +62,12 @@ pub(crate) fn left_by<P: Program, J: Named<P>>(
 
 /// The ticket of the task that has acted, where it goes on.
 #[inline(always)]
-fn own_ticket_of<P: Program, J: Named<P>>(
+fn own_ticket_of<P: Program, B: BoardBrand<P>>(
     index: usize,
-    asked: &mut Asked<P, J>,
+    asked: &mut Asked<P, B>,
     own: Option<P::Local>,
-    newest: &mut Newest<P, J>,
-) -> Option<Ticket<P, J>>
+    newest: &mut Newest<P, B>,
+) -> Option<Ticket<P, B>>
     ensures ticket { result ≡ own_ticket asked.old.task own }
     ensures newest { IsSetAt index (own_ticket asked.old.task own) newest.old newest.new }
 {
@@ -82,11 +82,11 @@ fn own_ticket_of<P: Program, J: Named<P>>(
 
 /// The ticket of a task that a step made.
 #[inline(always)]
-pub(crate) fn ticket_of<P: Program, J: Named<P>>(
+pub(crate) fn ticket_of<P: Program, B: BoardBrand<P>>(
     made: Option<Made<<P::Lat as Lattice>::Event, P::Local>>,
     next: usize,
-    newest: &mut Newest<P, J>,
-) -> Option<Ticket<P, J>>
+    newest: &mut Newest<P, B>,
+) -> Option<Ticket<P, B>>
     ensures ticket { result ≡ made_ticket made }
     ensures newest { IsSetIf next (made_ticket made) newest.old newest.new }
 {
@@ -116,26 +116,26 @@ fn fresh<'c, P: Program>(
 /// `room` has the handlers that the step may concern; `logged` is the length of its variable's log
 /// before the step.
 #[inline(always)]
-pub(crate) fn leave<P: Program, J: Named<P>>(
+pub(crate) fn leave<P: Program, B: BoardBrand<P>>(
     core: &Core<'_, P>,
-    parked: &mut Parked<P, J>,
-    left: OwnWork<P, J>,
-    room: &mut Room<P, J>,
+    parked: &mut Parked<P, B>,
+    left: OwnWork<P, B>,
+    room: &mut Room<P, B>,
     logged: usize,
-    works: &mut Works<P, J>,
+    step_work: &mut StepWork<P, B>,
 )
-    requires program { core.now.program ≡ J.program }
+    requires program { core.now.program ≡ B.program }
     requires logged { IsLogged core.now.table.variables logged core.now.touched }
-    requires current { (p : TaskPlace P.Lat.Event P.Local) → IsAmong p (places_of parked.old) → ⟦<P as CoreMeaning>⟧.local_in core.now p.task ≡ Some p.from }
-    requires once { NoRepeats (tasks_of (places_of parked.old)) }
+    requires current { (p : TaskStand P.Lat.Event P.Local) → IsAmong p (stands_of parked.old) → ⟦<P as CoreMeaning>⟧.local_in core.now p.task ≡ Some p.from }
+    requires once { NoRepeats (tasks_of (stands_of parked.old)) }
     requires empty { (room.old.woken.items ≡ []) × (room.old.hands.items ≡ []) }
     requires woken_room { length parked.old ≤ vec_capacity room.old.woken }
     requires concerned_room { length room.old.concerned.items + length (option_list left.added) ≤ vec_capacity room.old.concerned }
     requires hands_room { length room.old.concerned.items + length (option_list left.added) ≤ vec_capacity room.old.hands }
-    ensures left { IsLeft P.Lat.Event.cmp (⟦<P as Meaning>⟧.machine J.program) P.Lat.spot_of P.Lat.watched core.now logged left.own left.made left.added room.old.concerned.items (places_of parked.old) (places_of parked.new) (works_of works.new) }
-    ensures own { works.new.own ≡ left.own }
-    ensures step { works.new.step ≡ left.step }
-    ensures once { NoRepeats (tasks_of (places_of parked.new)) }
+    ensures left { IsLeft P.Lat.Event.cmp (⟦<P as Meaning>⟧.machine B.program) P.Lat.spot_of P.Lat.watched core.now logged left.own left.made left.added room.old.concerned.items (stands_of parked.old) (stands_of parked.new) (work_of step_work.new) }
+    ensures own { step_work.new.own ≡ left.own }
+    ensures step { step_work.new.step ≡ left.step }
+    ensures once { NoRepeats (tasks_of (stands_of parked.new)) }
     ensures within { AreWithin parked.new parked.old }
 {
     let entries = fresh(core, logged);
@@ -148,11 +148,11 @@ pub(crate) fn leave<P: Program, J: Named<P>>(
     } = left;
     keep_candidates(entries, &mut room.concerned, added);
     list_hands(core, &mut room.concerned, &mut room.hands);
-    works.step = step;
-    works.own = own;
-    works.made = made;
-    give(&mut room.woken, &mut works.woken);
-    give(&mut room.hands, &mut works.hands);
+    step_work.step = step;
+    step_work.own = own;
+    step_work.made = made;
+    give(&mut room.woken, &mut step_work.woken);
+    give(&mut room.hands, &mut step_work.hands);
 }
 
 /// Leaves the handlers that a step may concern: none of a put's where it brought no entry, and an

@@ -1,24 +1,24 @@
 //! The newest stamps of the tasks.
 
 ghost use Rattle.std.specs.Prelude.{◌≡◌, ◌≤◌, ◌⊎◌, [], None, Some, IsTrue, length};
-ghost use Rattle.lvish_board.specs.Place.{TaskPlace};
+ghost use Rattle.lvish_board.specs.Stand.{TaskStand};
 ghost use Rattle.lvish_board.specs.Newest.{IsSetAt, known_at, values_of};
 
-use crate::named::Named;
-use crate::place::Place;
+use crate::board_brand::BoardBrand;
+use crate::stand::Stand;
 use lvish_calculus::Program;
 use lvish_history::{History, Opened, Stamp};
 use std::alloc::AllocError;
 use std::marker::Model;
 
 /// The newest stamp of each task, by the task's index: that of nothing where it has ended.
-pub(crate) struct Newest<P: Program, J: Named<P>> {
-    history: History<Place<P>, J>,
-    stamps: Vec<Stamp<Place<P>, J>>,
+pub(crate) struct Newest<P: Program, B: BoardBrand<P>> {
+    history: History<Stand<P>, B>,
+    stamps: Vec<Stamp<Stand<P>, B>>,
 }
 
 // Written out, so that it is proved once, and not at each exit of a function that owns one.
-impl<P: Program, J: Named<P>> Drop for Newest<P, J> {
+impl<P: Program, B: BoardBrand<P>> Drop for Newest<P, B> {
     fn drop(self) {
         let Newest {
             history: _,
@@ -27,20 +27,20 @@ impl<P: Program, J: Named<P>> Drop for Newest<P, J> {
     }
 }
 
-impl<P: Program, J: Named<P>> Model for Newest<P, J> {
+impl<P: Program, B: BoardBrand<P>> Model for Newest<P, B> {
     ghost use Rattle.std.specs.Prelude.{List, Option};
-    ghost use Rattle.lvish_board.specs.Place.{TaskPlace};
+    ghost use Rattle.lvish_board.specs.Stand.{TaskStand};
     ghost use Rattle.lvish_board.specs.Newest.{values_of};
 
-    ghost Value = { List (Option (TaskPlace P.Lat.Event P.Local)) };
+    ghost Value = { List (Option (TaskStand P.Lat.Event P.Local)) };
 
     ghost view = { λ n. values_of n.stamps.items };
 }
 
-impl<P: Program, J: Named<P>> Newest<P, J> {
+impl<P: Program, B: BoardBrand<P>> Newest<P, B> {
     /// Nothing is known of any task.
-    pub(crate) fn new(history: Opened<Place<P>>, room: Vec<Stamp<Place<P>, J>>) -> Newest<P, J>
-        requires book { history.seen.book ≡ J.book }
+    pub(crate) fn new(history: Opened<Stand<P>>, room: Vec<Stamp<Stand<P>, B>>) -> Newest<P, B>
+        requires book { history.seen.book ≡ B.book }
         requires empty { room.items ≡ [] }
         ensures { result ≡ [] }
     {
@@ -63,8 +63,8 @@ impl<P: Program, J: Named<P>> Newest<P, J> {
 
     /// Whether this is the newest stamp of the task at the index.
     #[inline(always)]
-    pub(crate) fn is(&self, index: usize, stamp: &Stamp<Place<P>, J>) -> bool
-        ensures { IsTrue result → (p : TaskPlace P.Lat.Event P.Local) × (known_at self.now index ≡ Some p) × (stamp.now.value ≡ Some p) }
+    pub(crate) fn is(&self, index: usize, stamp: &Stamp<Stand<P>, B>) -> bool
+        ensures { IsTrue result → (p : TaskStand P.Lat.Event P.Local) × (known_at self.now index ≡ Some p) × (stamp.now.value ≡ Some p) }
     {
         match self.stamps.get(index) {
             Some(newest) => newest.is(stamp),
@@ -74,18 +74,18 @@ impl<P: Program, J: Named<P>> Newest<P, J> {
 
     /// A stamp for the place where the task at the index stands from then on.
     #[inline(always)]
-    pub(crate) fn set(&mut self, index: usize, place: &Place<P>) -> Stamp<Place<P>, J>
-        ensures stamp { (result.value ≡ None) ⊎ (result.value ≡ Some place.now) }
-        ensures set { IsSetAt index (Some place.now) self.old self.new }
+    pub(crate) fn set(&mut self, index: usize, stand: &Stand<P>) -> Stamp<Stand<P>, B>
+        ensures stamp { (result.value ≡ None) ⊎ (result.value ≡ Some stand.now) }
+        ensures set { IsSetAt index (Some stand.now) self.old self.new }
     {
-        let stamp = self.history.stamp(place);
+        let stamp = self.history.stamp(stand);
         put_at(&mut self.stamps, index, stamp.copy());
         stamp
     }
 
     /// The stamp of no place.
     #[inline(always)]
-    pub(crate) fn none(&self) -> Stamp<Place<P>, J>
+    pub(crate) fn none(&self) -> Stamp<Stand<P>, B>
         ensures { result.value ≡ None }
     {
         self.history.none()
@@ -102,10 +102,10 @@ impl<P: Program, J: Named<P>> Newest<P, J> {
 
 /// Puts the stamp at the index of the list, or behind its last one.
 #[inline(always)]
-fn put_at<P: Program, J: Named<P>>(
-    stamps: &mut Vec<Stamp<Place<P>, J>>,
+fn put_at<P: Program, B: BoardBrand<P>>(
+    stamps: &mut Vec<Stamp<Stand<P>, B>>,
     index: usize,
-    stamp: Stamp<Place<P>, J>,
+    stamp: Stamp<Stand<P>, B>,
 )
     ensures { IsSetAt index stamp.value (values_of stamps.old.items) (values_of stamps.new.items) }
 {
@@ -117,10 +117,10 @@ fn put_at<P: Program, J: Named<P>>(
 
 /// Puts the stamp behind the last one, if its index comes next.
 #[inline(never)]
-fn push_at<P: Program, J: Named<P>>(
-    stamps: &mut Vec<Stamp<Place<P>, J>>,
+fn push_at<P: Program, B: BoardBrand<P>>(
+    stamps: &mut Vec<Stamp<Stand<P>, B>>,
     index: usize,
-    stamp: Stamp<Place<P>, J>,
+    stamp: Stamp<Stand<P>, B>,
 )
     requires { length stamps.old.items ≤ index }
     ensures { IsSetAt index stamp.value (values_of stamps.old.items) (values_of stamps.new.items) }

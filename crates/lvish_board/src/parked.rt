@@ -6,17 +6,17 @@ ghost use Rattle.std.specs.Ordering.{is_lt};
 ghost use Rattle.lvish_names.specs.NameOrder.{name_cmp};
 ghost use Rattle.lvish_calculus.specs.declared.label.Label.TheVariants.{Act};
 ghost use Rattle.lvish_calculus.specs.Handing.{IsAmong, NoRepeats};
-ghost use Rattle.lvish_board.specs.Place.{TaskPlace};
-ghost use Rattle.lvish_board.specs.Seated.{AreWithin, places_of};
-ghost use Rattle.lvish_board.specs.Standing.{tasks_of};
+ghost use Rattle.lvish_board.specs.Stand.{TaskStand};
+ghost use Rattle.lvish_board.specs.Seated.{AreWithin, stands_of};
+ghost use Rattle.lvish_board.specs.Board.{tasks_of};
 ghost use Rattle.lvish_board.specs.Waking.{Wakes};
 ghost use Rattle.lvish_board.specs.Shelved.{IsOnItsList, WaitsAt};
 ghost use Rattle.lvish_core.specs.declared.touched.Touched.TheVariants.{Put, Handed};
-ghost use Rattle.lvish_board.specs.Woken.{IsWaiting, IsParkedBeside, IsWoken, MayWake};
+ghost use Rattle.lvish_board.specs.Woken.{CanBlock, IsParkedBeside, IsWoken, MayWake};
 
 use crate::asked::Asked;
+use crate::board_brand::BoardBrand;
 use crate::by_index::ByIndex;
-use crate::named::Named;
 use crate::shelves::{BySpot, ByVariable};
 use lvish_calculus::{Program, Request};
 use lvish_core::{Core, CoreMeaning, Touched};
@@ -28,8 +28,8 @@ use std::cmp::Ordering;
 use std::marker::Model;
 
 /// The parked tasks, each once, and on one list each.
-pub(crate) struct Parked<P: Program, J: Named<P>> {
-    tasks: ByIndex<P, J>,
+pub(crate) struct Parked<P: Program, B: BoardBrand<P>> {
+    tasks: ByIndex<P, B>,
     /// The gets that wait at no spot, by the variable.
     whole: ByVariable,
     /// The other gets, by the variable and the spot at which they wait.
@@ -39,7 +39,7 @@ pub(crate) struct Parked<P: Program, J: Named<P>> {
 }
 
 // Written out, so that it is proved once, and not at each exit of a function that owns one.
-impl<P: Program, J: Named<P>> Drop for Parked<P, J> {
+impl<P: Program, B: BoardBrand<P>> Drop for Parked<P, B> {
     fn drop(self) {
         let Parked {
             tasks: _,
@@ -50,22 +50,22 @@ impl<P: Program, J: Named<P>> Drop for Parked<P, J> {
     }
 }
 
-impl<P: Program, J: Named<P>> Model for Parked<P, J> {
+impl<P: Program, B: BoardBrand<P>> Model for Parked<P, B> {
     ghost use Rattle.std.specs.Prelude.{List, ℕ};
     ghost use Rattle.lvish_calculus.specs.Handing.{IsAmong};
-    ghost use Rattle.lvish_board.specs.Place.{TaskPlace};
+    ghost use Rattle.lvish_board.specs.Stand.{TaskStand};
     ghost use Rattle.lvish_board.specs.Shelved.{IsOnItsList};
 
-    ghost Value = { List (ℕ × TaskPlace P.Lat.Event P.Local) };
+    ghost Value = { List (ℕ × TaskStand P.Lat.Event P.Local) };
 
     ghost view = { λ p. p.tasks };
 
-    ghost invariant = { λ p. (e : ℕ × TaskPlace P.Lat.Event P.Local) → IsAmong e p.tasks → IsOnItsList P.Lat.Spot.eq P.Lat.watched p.whole.lists.items p.spots.tables.items p.freezes.lists.items ((P.functions J.program).request e.1.from) e.0 };
+    ghost invariant = { λ p. (e : ℕ × TaskStand P.Lat.Event P.Local) → IsAmong e p.tasks → IsOnItsList P.Lat.Spot.eq P.Lat.watched p.whole.lists.items p.spots.tables.items p.freezes.lists.items ((P.functions B.program).request e.1.from) e.0 };
 }
 
-impl<P: Program, J: Named<P>> Parked<P, J> {
+impl<P: Program, B: BoardBrand<P>> Parked<P, B> {
     /// No task.
-    pub(crate) fn new(alloc: Global) -> Parked<P, J>
+    pub(crate) fn new(alloc: Global) -> Parked<P, B>
         ensures { result ≡ [] }
     {
         Parked {
@@ -83,7 +83,7 @@ impl<P: Program, J: Named<P>> Parked<P, J> {
         self.tasks.len()
     }
 
-    /// Parks a task out of its place, where none of its name is parked.
+    /// Parks a task out of its slot, where none of its name is parked.
     ///
     /// # Errors
     ///
@@ -92,19 +92,19 @@ impl<P: Program, J: Named<P>> Parked<P, J> {
         &mut self,
         alloc: Global,
         index: usize,
-        place: &mut Option<Asked<P, J>>,
+        slot: &mut Option<Asked<P, B>>,
     ) -> Result<(), AllocError>
-        requires there { IsSome place.old }
-        requires waiting { (a : TaskPlace P.Lat.Event P.Local) → place.old ≡ Some a → IsWaiting ((P.functions J.program).request a.from) }
-        requires same { (a q : TaskPlace P.Lat.Event P.Local) → place.old ≡ Some a → IsAmong q (places_of self.old) → q.task ≡ a.task → q ≡ a }
-        requires theirs { (a : TaskPlace P.Lat.Event P.Local) (e : ℕ × TaskPlace P.Lat.Event P.Local) → place.old ≡ Some a → IsAmong e self.old → (e.1.task ≡ a.task) ↔ (e.0 ≡ index) }
-        requires once { NoRepeats (tasks_of (places_of self.old)) }
-        ensures ok { (a : TaskPlace P.Lat.Event P.Local) → place.old ≡ Some a → IfOk result (λ _. IsParkedBeside (places_of self.old) a (places_of self.new)) }
-        ensures entries { (a : TaskPlace P.Lat.Event P.Local) (e : ℕ × TaskPlace P.Lat.Event P.Local) → place.old ≡ Some a → IsAmong e self.new → (e ≡ (index, a)) ⊎ IsAmong e self.old }
-        ensures once { NoRepeats (tasks_of (places_of self.new)) }
-        ensures err { OnErr result ((place.new ≡ place.old) × (self.new ≡ self.old)) }
+        requires there { IsSome slot.old }
+        requires waiting { (a : TaskStand P.Lat.Event P.Local) → slot.old ≡ Some a → CanBlock ((P.functions B.program).request a.from) }
+        requires same { (a q : TaskStand P.Lat.Event P.Local) → slot.old ≡ Some a → IsAmong q (stands_of self.old) → q.task ≡ a.task → q ≡ a }
+        requires theirs { (a : TaskStand P.Lat.Event P.Local) (e : ℕ × TaskStand P.Lat.Event P.Local) → slot.old ≡ Some a → IsAmong e self.old → (e.1.task ≡ a.task) ↔ (e.0 ≡ index) }
+        requires once { NoRepeats (tasks_of (stands_of self.old)) }
+        ensures ok { (a : TaskStand P.Lat.Event P.Local) → slot.old ≡ Some a → IfOk result (λ _. IsParkedBeside (stands_of self.old) a (stands_of self.new)) }
+        ensures entries { (a : TaskStand P.Lat.Event P.Local) (e : ℕ × TaskStand P.Lat.Event P.Local) → slot.old ≡ Some a → IsAmong e self.new → (e ≡ (index, a)) ⊎ IsAmong e self.old }
+        ensures once { NoRepeats (tasks_of (stands_of self.new)) }
+        ensures err { OnErr result ((slot.new ≡ slot.old) × (self.new ≡ self.old)) }
     {
-        let Some(asked) = place.as_ref() else {
+        let Some(asked) = slot.as_ref() else {
             unreachable!()
         };
         if self.tasks.has(index) {
@@ -119,7 +119,7 @@ impl<P: Program, J: Named<P>> Parked<P, J> {
             asked,
         )?;
         // Where this is refused the index stays on its list, and is dropped when a step looks there.
-        self.tasks.insert(index, place)
+        self.tasks.insert(index, slot)
     }
 
     /// Takes out the tasks that the last step woke, in the order of their names: these entries are
@@ -129,16 +129,16 @@ impl<P: Program, J: Named<P>> Parked<P, J> {
         &mut self,
         core: &Core<'_, P>,
         fresh: &[Entry<<P::Lat as Lattice>::Event>],
-        woken: &mut Vec<Asked<P, J>>,
+        woken: &mut Vec<Asked<P, B>>,
     )
-        requires program { core.now.program ≡ J.program }
-        requires current { (p : TaskPlace P.Lat.Event P.Local) → IsAmong p (places_of self.old) → ⟦<P as CoreMeaning>⟧.local_in core.now p.task ≡ Some p.from }
-        requires once { NoRepeats (tasks_of (places_of self.old)) }
+        requires program { core.now.program ≡ B.program }
+        requires current { (p : TaskStand P.Lat.Event P.Local) → IsAmong p (stands_of self.old) → ⟦<P as CoreMeaning>⟧.local_in core.now p.task ≡ Some p.from }
+        requires once { NoRepeats (tasks_of (stands_of self.old)) }
         requires empty { woken.old.items ≡ [] }
         requires room { length self.old ≤ vec_capacity woken.old }
-        ensures woken { IsWoken (λ p. ⟦<P as CoreMeaning>⟧.can_take core.now (Act p.task)) (λ p. MayWake P.Lat.spot_of P.Lat.watched core.now.touched fresh.now ((P.functions core.now.program).request p.from)) (places_of self.old) (places_of self.new) woken.new.items }
+        ensures woken { IsWoken (λ p. ⟦<P as CoreMeaning>⟧.can_take core.now (Act p.task)) (λ p. MayWake P.Lat.spot_of P.Lat.watched core.now.touched fresh.now ((P.functions core.now.program).request p.from)) (stands_of self.old) (stands_of self.new) woken.new.items }
         ensures by_name { IsStrictlySortedBy (name_cmp P.Lat.Event.cmp) (tasks_of woken.new.items) }
-        ensures once { NoRepeats (tasks_of (places_of self.new)) }
+        ensures once { NoRepeats (tasks_of (stands_of self.new)) }
         ensures within { AreWithin self.new self.old }
         ensures few { vec_len woken.new ≤ length self.old }
     {
@@ -155,9 +155,9 @@ impl<P: Program, J: Named<P>> Parked<P, J> {
     /// Whether the last step may have woken a parked task.
     #[inline(always)]
     fn may_wake(&self, core: &Core<'_, P>) -> bool
-        requires program { core.now.program ≡ J.program }
-        requires current { (p : TaskPlace P.Lat.Event P.Local) → IsAmong p (places_of self.now) → ⟦<P as CoreMeaning>⟧.local_in core.now p.task ≡ Some p.from }
-        ensures { IsFalse result → (fresh : List (Entry P.Lat.Event)) (p : TaskPlace P.Lat.Event P.Local) → IsAmong p (places_of self.now) → MayWake P.Lat.spot_of P.Lat.watched core.now.touched fresh ((P.functions core.now.program).request p.from) → ⟦<P as CoreMeaning>⟧.can_take core.now (Act p.task) → ⊥ }
+        requires program { core.now.program ≡ B.program }
+        requires current { (p : TaskStand P.Lat.Event P.Local) → IsAmong p (stands_of self.now) → ⟦<P as CoreMeaning>⟧.local_in core.now p.task ≡ Some p.from }
+        ensures { IsFalse result → (fresh : List (Entry P.Lat.Event)) (p : TaskStand P.Lat.Event P.Local) → IsAmong p (stands_of self.now) → MayWake P.Lat.spot_of P.Lat.watched core.now.touched fresh ((P.functions core.now.program).request p.from) → ⟦<P as CoreMeaning>⟧.can_take core.now (Act p.task) → ⊥ }
     {
         match core.last_touched() {
             Some(Touched::Put(variable)) => self.may_get(variable),
@@ -171,7 +171,7 @@ impl<P: Program, J: Named<P>> Parked<P, J> {
     /// Whether a get of the variable may wait.
     #[inline(always)]
     fn may_get(&self, variable: usize) -> bool
-        ensures { IsFalse result → (fresh : List (Entry P.Lat.Event)) (p : TaskPlace P.Lat.Event P.Local) → IsAmong p (places_of self.now) → MayWake P.Lat.spot_of P.Lat.watched (Some (Put variable)) fresh ((P.functions J.program).request p.from) → ⊥ }
+        ensures { IsFalse result → (fresh : List (Entry P.Lat.Event)) (p : TaskStand P.Lat.Event P.Local) → IsAmong p (stands_of self.now) → MayWake P.Lat.spot_of P.Lat.watched (Some (Put variable)) fresh ((P.functions B.program).request p.from) → ⊥ }
     {
         if self.has_spots(variable) {
             return true;
@@ -182,7 +182,7 @@ impl<P: Program, J: Named<P>> Parked<P, J> {
     /// Whether a get of the variable may wait at no spot.
     #[inline(always)]
     fn has_whole(&self, variable: usize) -> bool
-        ensures { IsFalse result → (p : TaskPlace P.Lat.Event P.Local) → IsAmong p (places_of self.now) → WaitsAt P.Lat.watched variable None ((P.functions J.program).request p.from) → ⊥ }
+        ensures { IsFalse result → (p : TaskStand P.Lat.Event P.Local) → IsAmong p (stands_of self.now) → WaitsAt P.Lat.watched variable None ((P.functions B.program).request p.from) → ⊥ }
     {
         match self.whole.lists.get(variable) {
             Some(indices) => !indices.is_empty(),
@@ -193,7 +193,7 @@ impl<P: Program, J: Named<P>> Parked<P, J> {
     /// Whether a get of the variable may wait at a spot.
     #[inline(always)]
     fn has_spots(&self, variable: usize) -> bool
-        ensures { IsFalse result → (w : P.Lat.Spot) (p : TaskPlace P.Lat.Event P.Local) → IsAmong p (places_of self.now) → WaitsAt P.Lat.watched variable (Some w) ((P.functions J.program).request p.from) → ⊥ }
+        ensures { IsFalse result → (w : P.Lat.Spot) (p : TaskStand P.Lat.Event P.Local) → IsAmong p (stands_of self.now) → WaitsAt P.Lat.watched variable (Some w) ((P.functions B.program).request p.from) → ⊥ }
     {
         match self.spots.tables.get(variable) {
             Some(lists) => !lists.is_empty(),
@@ -204,9 +204,9 @@ impl<P: Program, J: Named<P>> Parked<P, J> {
     /// Whether a freeze of the variable may wait that can go on.
     #[inline(always)]
     fn may_freeze(&self, core: &Core<'_, P>, variable: usize) -> bool
-        requires program { core.now.program ≡ J.program }
-        requires current { (p : TaskPlace P.Lat.Event P.Local) → IsAmong p (places_of self.now) → ⟦<P as CoreMeaning>⟧.local_in core.now p.task ≡ Some p.from }
-        ensures { IsFalse result → (fresh : List (Entry P.Lat.Event)) (p : TaskPlace P.Lat.Event P.Local) → IsAmong p (places_of self.now) → MayWake P.Lat.spot_of P.Lat.watched (Some (Handed variable)) fresh ((P.functions core.now.program).request p.from) → ⟦<P as CoreMeaning>⟧.can_take core.now (Act p.task) → ⊥ }
+        requires program { core.now.program ≡ B.program }
+        requires current { (p : TaskStand P.Lat.Event P.Local) → IsAmong p (stands_of self.now) → ⟦<P as CoreMeaning>⟧.local_in core.now p.task ≡ Some p.from }
+        ensures { IsFalse result → (fresh : List (Entry P.Lat.Event)) (p : TaskStand P.Lat.Event P.Local) → IsAmong p (stands_of self.now) → MayWake P.Lat.spot_of P.Lat.watched (Some (Handed variable)) fresh ((P.functions core.now.program).request p.from) → ⟦<P as CoreMeaning>⟧.can_take core.now (Act p.task) → ⊥ }
     {
         let Some(indices) = self.freezes.lists.get(variable) else {
             return false;
@@ -223,16 +223,16 @@ impl<P: Program, J: Named<P>> Parked<P, J> {
         &mut self,
         core: &Core<'_, P>,
         fresh: &[Entry<<P::Lat as Lattice>::Event>],
-        woken: &mut Vec<Asked<P, J>>,
+        woken: &mut Vec<Asked<P, B>>,
     )
-        requires program { core.now.program ≡ J.program }
-        requires current { (p : TaskPlace P.Lat.Event P.Local) → IsAmong p (places_of self.old) → ⟦<P as CoreMeaning>⟧.local_in core.now p.task ≡ Some p.from }
-        requires once { NoRepeats (tasks_of (places_of self.old)) }
+        requires program { core.now.program ≡ B.program }
+        requires current { (p : TaskStand P.Lat.Event P.Local) → IsAmong p (stands_of self.old) → ⟦<P as CoreMeaning>⟧.local_in core.now p.task ≡ Some p.from }
+        requires once { NoRepeats (tasks_of (stands_of self.old)) }
         requires empty { woken.old.items ≡ [] }
         requires room { length self.old ≤ vec_capacity woken.old }
-        ensures woken { IsWoken (λ p. ⟦<P as CoreMeaning>⟧.can_take core.now (Act p.task)) (λ p. MayWake P.Lat.spot_of P.Lat.watched core.now.touched fresh.now ((P.functions core.now.program).request p.from)) (places_of self.old) (places_of self.new) woken.new.items }
+        ensures woken { IsWoken (λ p. ⟦<P as CoreMeaning>⟧.can_take core.now (Act p.task)) (λ p. MayWake P.Lat.spot_of P.Lat.watched core.now.touched fresh.now ((P.functions core.now.program).request p.from)) (stands_of self.old) (stands_of self.new) woken.new.items }
         ensures by_name { IsStrictlySortedBy (name_cmp P.Lat.Event.cmp) (tasks_of woken.new.items) }
-        ensures once { NoRepeats (tasks_of (places_of self.new)) }
+        ensures once { NoRepeats (tasks_of (stands_of self.new)) }
         ensures within { AreWithin self.new self.old }
         ensures few { vec_len woken.new ≤ length self.old }
     {
@@ -252,14 +252,14 @@ impl<P: Program, J: Named<P>> Parked<P, J> {
         core: &Core<'_, P>,
         variable: usize,
         fresh: &[Entry<<P::Lat as Lattice>::Event>],
-        woken: &mut Vec<Asked<P, J>>,
+        woken: &mut Vec<Asked<P, B>>,
     )
-        requires program { core.now.program ≡ J.program }
-        requires current { (p : TaskPlace P.Lat.Event P.Local) → IsAmong p (places_of self.old) → ⟦<P as CoreMeaning>⟧.local_in core.now p.task ≡ Some p.from }
-        requires once { NoRepeats (tasks_of (places_of self.old)) }
+        requires program { core.now.program ≡ B.program }
+        requires current { (p : TaskStand P.Lat.Event P.Local) → IsAmong p (stands_of self.old) → ⟦<P as CoreMeaning>⟧.local_in core.now p.task ≡ Some p.from }
+        requires once { NoRepeats (tasks_of (stands_of self.old)) }
         requires room { vec_len woken.old + length self.old ≤ vec_capacity woken.old }
-        ensures wakes { Wakes (λ p. ⟦<P as CoreMeaning>⟧.can_take core.now (Act p.task)) (λ p. MayWake P.Lat.spot_of P.Lat.watched (Some (Put variable)) fresh.now ((P.functions core.now.program).request p.from)) (places_of self.old) (places_of self.new) woken.old.items woken.new.items }
-        ensures once { NoRepeats (tasks_of (places_of self.new)) }
+        ensures wakes { Wakes (λ p. ⟦<P as CoreMeaning>⟧.can_take core.now (Act p.task)) (λ p. MayWake P.Lat.spot_of P.Lat.watched (Some (Put variable)) fresh.now ((P.functions core.now.program).request p.from)) (stands_of self.old) (stands_of self.new) woken.old.items woken.new.items }
+        ensures once { NoRepeats (tasks_of (stands_of self.new)) }
         ensures within { AreWithin self.new self.old }
     {
         self.wake_whole(core, variable, woken);
@@ -274,13 +274,13 @@ impl<P: Program, J: Named<P>> Parked<P, J> {
     }
 
     /// Takes out the gets that wait at no spot of the variable and can go on.
-    fn wake_whole(&mut self, core: &Core<'_, P>, variable: usize, woken: &mut Vec<Asked<P, J>>)
-        requires program { core.now.program ≡ J.program }
-        requires current { (p : TaskPlace P.Lat.Event P.Local) → IsAmong p (places_of self.old) → ⟦<P as CoreMeaning>⟧.local_in core.now p.task ≡ Some p.from }
-        requires once { NoRepeats (tasks_of (places_of self.old)) }
+    fn wake_whole(&mut self, core: &Core<'_, P>, variable: usize, woken: &mut Vec<Asked<P, B>>)
+        requires program { core.now.program ≡ B.program }
+        requires current { (p : TaskStand P.Lat.Event P.Local) → IsAmong p (stands_of self.old) → ⟦<P as CoreMeaning>⟧.local_in core.now p.task ≡ Some p.from }
+        requires once { NoRepeats (tasks_of (stands_of self.old)) }
         requires room { vec_len woken.old + length self.old ≤ vec_capacity woken.old }
-        ensures wakes { Wakes (λ p. ⟦<P as CoreMeaning>⟧.can_take core.now (Act p.task)) (λ p. WaitsAt P.Lat.watched variable None ((P.functions core.now.program).request p.from)) (places_of self.old) (places_of self.new) woken.old.items woken.new.items }
-        ensures once { NoRepeats (tasks_of (places_of self.new)) }
+        ensures wakes { Wakes (λ p. ⟦<P as CoreMeaning>⟧.can_take core.now (Act p.task)) (λ p. WaitsAt P.Lat.watched variable None ((P.functions core.now.program).request p.from)) (stands_of self.old) (stands_of self.new) woken.old.items woken.new.items }
+        ensures once { NoRepeats (tasks_of (stands_of self.new)) }
         ensures within { AreWithin self.new self.old }
         ensures capacity { vec_capacity woken.new ≡ vec_capacity woken.old }
     {
@@ -295,14 +295,14 @@ impl<P: Program, J: Named<P>> Parked<P, J> {
         core: &Core<'_, P>,
         variable: usize,
         spot: &<P::Lat as Reads>::Spot,
-        woken: &mut Vec<Asked<P, J>>,
+        woken: &mut Vec<Asked<P, B>>,
     )
-        requires program { core.now.program ≡ J.program }
-        requires current { (p : TaskPlace P.Lat.Event P.Local) → IsAmong p (places_of self.old) → ⟦<P as CoreMeaning>⟧.local_in core.now p.task ≡ Some p.from }
-        requires once { NoRepeats (tasks_of (places_of self.old)) }
+        requires program { core.now.program ≡ B.program }
+        requires current { (p : TaskStand P.Lat.Event P.Local) → IsAmong p (stands_of self.old) → ⟦<P as CoreMeaning>⟧.local_in core.now p.task ≡ Some p.from }
+        requires once { NoRepeats (tasks_of (stands_of self.old)) }
         requires room { vec_len woken.old + length self.old ≤ vec_capacity woken.old }
-        ensures wakes { Wakes (λ p. ⟦<P as CoreMeaning>⟧.can_take core.now (Act p.task)) (λ p. WaitsAt P.Lat.watched variable (Some spot.now) ((P.functions core.now.program).request p.from)) (places_of self.old) (places_of self.new) woken.old.items woken.new.items }
-        ensures once { NoRepeats (tasks_of (places_of self.new)) }
+        ensures wakes { Wakes (λ p. ⟦<P as CoreMeaning>⟧.can_take core.now (Act p.task)) (λ p. WaitsAt P.Lat.watched variable (Some spot.now) ((P.functions core.now.program).request p.from)) (stands_of self.old) (stands_of self.new) woken.old.items woken.new.items }
+        ensures once { NoRepeats (tasks_of (stands_of self.new)) }
         ensures within { AreWithin self.new self.old }
         ensures capacity { vec_capacity woken.new ≡ vec_capacity woken.old }
     {
@@ -312,13 +312,13 @@ impl<P: Program, J: Named<P>> Parked<P, J> {
     }
 
     /// Takes out the freezes of the variable that can go on.
-    fn wake_freezes(&mut self, core: &Core<'_, P>, variable: usize, woken: &mut Vec<Asked<P, J>>)
-        requires program { core.now.program ≡ J.program }
-        requires current { (p : TaskPlace P.Lat.Event P.Local) → IsAmong p (places_of self.old) → ⟦<P as CoreMeaning>⟧.local_in core.now p.task ≡ Some p.from }
-        requires once { NoRepeats (tasks_of (places_of self.old)) }
+    fn wake_freezes(&mut self, core: &Core<'_, P>, variable: usize, woken: &mut Vec<Asked<P, B>>)
+        requires program { core.now.program ≡ B.program }
+        requires current { (p : TaskStand P.Lat.Event P.Local) → IsAmong p (stands_of self.old) → ⟦<P as CoreMeaning>⟧.local_in core.now p.task ≡ Some p.from }
+        requires once { NoRepeats (tasks_of (stands_of self.old)) }
         requires room { vec_len woken.old + length self.old ≤ vec_capacity woken.old }
-        ensures wakes { Wakes (λ p. ⟦<P as CoreMeaning>⟧.can_take core.now (Act p.task)) (λ p. MayWake P.Lat.spot_of P.Lat.watched (Some (Handed variable)) [] ((P.functions core.now.program).request p.from)) (places_of self.old) (places_of self.new) woken.old.items woken.new.items }
-        ensures once { NoRepeats (tasks_of (places_of self.new)) }
+        ensures wakes { Wakes (λ p. ⟦<P as CoreMeaning>⟧.can_take core.now (Act p.task)) (λ p. MayWake P.Lat.spot_of P.Lat.watched (Some (Handed variable)) [] ((P.functions core.now.program).request p.from)) (stands_of self.old) (stands_of self.new) woken.old.items woken.new.items }
+        ensures once { NoRepeats (tasks_of (stands_of self.new)) }
         ensures within { AreWithin self.new self.old }
     {
         if let Some(indices) = self.freezes.lists.get_mut(variable) {
@@ -332,17 +332,17 @@ impl<P: Program, J: Named<P>> Parked<P, J> {
 /// # Errors
 ///
 /// Where there is no room for it.
-fn list_index<P: Program, J: Named<P>>(
+fn list_index<P: Program, B: BoardBrand<P>>(
     whole: &mut ByVariable,
     spots: &mut BySpot<<P::Lat as Reads>::Spot>,
     freezes: &mut ByVariable,
     alloc: Global,
     index: usize,
-    asked: &Asked<P, J>,
+    asked: &Asked<P, B>,
 ) -> Result<(), AllocError>
-    requires waiting { IsWaiting ((P.functions J.program).request asked.now.from) }
+    requires waiting { CanBlock ((P.functions B.program).request asked.now.from) }
     ensures kept { (r : Request P.Lat P.Lat.Read P.Local) (t : ℕ) → IsOnItsList P.Lat.Spot.eq P.Lat.watched whole.old.lists.items spots.old.tables.items freezes.old.lists.items r t → IsOnItsList P.Lat.Spot.eq P.Lat.watched whole.new.lists.items spots.new.tables.items freezes.new.lists.items r t }
-    ensures there { OnOk result (IsOnItsList P.Lat.Spot.eq P.Lat.watched whole.new.lists.items spots.new.tables.items freezes.new.lists.items ((P.functions J.program).request asked.now.from) index) }
+    ensures there { OnOk result (IsOnItsList P.Lat.Spot.eq P.Lat.watched whole.new.lists.items spots.new.tables.items freezes.new.lists.items ((P.functions B.program).request asked.now.from) index) }
 {
     match asked.request() {
         Request::Get(variable, read) => match <P::Lat as Reads>::watch(read) {
@@ -355,7 +355,7 @@ fn list_index<P: Program, J: Named<P>>(
 }
 
 /// Orders these tasks by their names.
-fn sort_by_task<P: Program, J: Named<P>>(woken: &mut Vec<Asked<P, J>>)
+fn sort_by_task<P: Program, B: BoardBrand<P>>(woken: &mut Vec<Asked<P, B>>)
     ensures permutation { IsPermutation woken.old.items woken.new.items }
     ensures sorted { IsSortedBy (λ x y. is_lt (name_cmp P.Lat.Event.cmp x.task y.task)) woken.new.items }
     ensures len { vec_len woken.new ≡ vec_len woken.old }
@@ -368,7 +368,7 @@ fn sort_by_task<P: Program, J: Named<P>>(woken: &mut Vec<Asked<P, J>>)
 }
 
 /// The order of the names of two tasks.
-fn order<P: Program, J: Named<P>>(one: &Asked<P, J>, other: &Asked<P, J>) -> Ordering
+fn order<P: Program, B: BoardBrand<P>>(one: &Asked<P, B>, other: &Asked<P, B>) -> Ordering
     ensures { result ≡ name_cmp P.Lat.Event.cmp one.now.task other.now.task }
 {
     one.task().cmp(other.task())

@@ -4,7 +4,7 @@ ghost use Rattle.std.specs.Prelude.{◌≡◌, ◌≤◌, ◌+◌, [], IfOk, len
 ghost use Rattle.lvish_board.specs.Left.{AreConcerned, most_added};
 
 use crate::asked::Asked;
-use crate::named::Named;
+use crate::board_brand::BoardBrand;
 use lvish_calculus::{Meaning, Program, Request};
 use lvish_core::{Core, CoreMeaning};
 use lvish_handlers::Held;
@@ -15,8 +15,8 @@ use std::mem;
 
 /// Room for the work of a step, taken before it, so that nothing is refused after it. A board keeps
 /// it from step to step, so that a step takes memory only where there isn't enough room.
-pub(crate) struct Room<P: Program, J: Named<P>> {
-    pub woken: Vec<Asked<P, J>>,
+pub(crate) struct Room<P: Program, B: BoardBrand<P>> {
+    pub woken: Vec<Asked<P, B>>,
     /// The names of the handlers that a step may concern.
     pub concerned: Vec<HandlerName<<P::Lat as Lattice>::Event>>,
     /// Those of them with something left for them.
@@ -24,7 +24,7 @@ pub(crate) struct Room<P: Program, J: Named<P>> {
 }
 
 // Written out, so that it is proved once, and not at each exit of a function that owns one.
-impl<P: Program, J: Named<P>> Drop for Room<P, J> {
+impl<P: Program, B: BoardBrand<P>> Drop for Room<P, B> {
     fn drop(self) {
         let Room {
             woken: _,
@@ -34,9 +34,9 @@ impl<P: Program, J: Named<P>> Drop for Room<P, J> {
     }
 }
 
-impl<P: Program, J: Named<P>> Room<P, J> {
+impl<P: Program, B: BoardBrand<P>> Room<P, B> {
     /// No room.
-    pub(crate) fn new(alloc: Global) -> Room<P, J> {
+    pub(crate) fn new(alloc: Global) -> Room<P, B> {
         Room {
             woken: Vec::new(alloc),
             concerned: Vec::new(alloc),
@@ -75,9 +75,9 @@ impl<P: Program, J: Named<P>> Room<P, J> {
         &mut self,
         core: &Core<'_, P>,
         parked: usize,
-        asked: &Asked<P, J>,
+        asked: &Asked<P, B>,
     ) -> Result<usize, AllocError>
-        requires program { core.now.program ≡ J.program }
+        requires program { core.now.program ≡ B.program }
         ensures empty { IfOk result (λ _. (self.new.woken.items ≡ []) × (self.new.hands.items ≡ [])) }
         ensures concerned { IfOk result (λ n. AreConcerned P.Lat.Event.cmp (⟦<P as Meaning>⟧.machine core.now.program) core.now ((P.functions core.now.program).request asked.now.from) self.new.concerned.items n) }
         ensures woken_room { IfOk result (λ _. parked ≤ vec_capacity self.new.woken) }

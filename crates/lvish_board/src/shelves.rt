@@ -86,8 +86,8 @@ fn push_under<K: Eq + Hash + Drop>(
     ensures kept { (q : K) (x : ℕ) → IsAmong x (shelf K.eq lists.old q) → IsAmong x (shelf K.eq lists.new q) }
     ensures there { OnOk result (IsAmong index (shelf K.eq lists.new key)) }
 {
-    let place = lists.entry(key)?;
-    let list = place.or_insert_with(|| SmallVec::new(alloc));
+    let entry = lists.entry(key)?;
+    let list = entry.or_insert_with(|| SmallVec::new(alloc));
     list.push(index)?;
     Ok(())
 }

@@ -1,5 +1,5 @@
 use crate::asked::Asked;
-use crate::named::Named;
+use crate::board_brand::BoardBrand;
 use crate::ticket::Ticket;
 use lvish_calculus::Program;
 use lvish_lattice::Lattice;
@@ -7,11 +7,11 @@ use lvish_names::HandlerName;
 
 /// What a worker can do for a board.
 #[derive(Drop)]
-pub enum Work<P: Program, J: Named<P>> {
+pub enum Work<P: Program, B: BoardBrand<P>> {
     /// To run the task's local statements, by [`stretch`](crate::stretch).
-    Stretch(Ticket<P, J>),
+    Stretch(Ticket<P, B>),
     /// To make what the task asks for, by [`Board::act`](crate::Board::act).
-    Act(Asked<P, J>),
+    Act(Asked<P, B>),
     /// To hand the handler its next event, by [`Board::hand`](crate::Board::hand).
     Hand(HandlerName<<P::Lat as Lattice>::Event>),
 }

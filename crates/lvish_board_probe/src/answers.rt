@@ -5,7 +5,7 @@ ghost use Rattle.std.specs.Prelude.{◌≡◌, ◌≤◌};
 use crate::board_desk::{write_calls, write_calls_after};
 use crate::calls::Calls;
 use crate::naming::{Naming, Of};
-use lvish_board::Place;
+use lvish_board::Stand;
 use lvish_history::Opened;
 use lvish_script::{Fault, ScriptFault, read_script};
 use lvish_task::ScriptCode;
@@ -82,8 +82,8 @@ fn write_named<N: Naming, M: Naming>(
     text: &mut String,
     budget: u64,
     calls: &Calls<'_>,
-    here: Opened<Place<ScriptCode>>,
-    there: Opened<Place<ScriptCode>>,
+    here: Opened<Stand<ScriptCode>>,
+    there: Opened<Stand<ScriptCode>>,
 ) -> Result<(), AllocError>
     requires program { code.now ≡ N.code }
     requires budget { budget ≡ N.budget }

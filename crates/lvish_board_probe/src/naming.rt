@@ -1,6 +1,6 @@
 //! A board's program and budget, named by a type that a call picks.
 
-use lvish_board::Named;
+use lvish_board::BoardBrand;
 use lvish_history::Origin;
 use lvish_task::ScriptCode;
 use std::marker::{Brand, PhantomData};
@@ -33,7 +33,7 @@ impl<N: Naming> Origin for Of<N> {
     ghost book = { N.book };
 }
 
-impl<N: Naming> Named<ScriptCode> for Of<N> {
+impl<N: Naming> BoardBrand<ScriptCode> for Of<N> {
     ghost program = { N.code };
 
     ghost budget = { N.budget };

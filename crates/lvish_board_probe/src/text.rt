@@ -1,6 +1,6 @@
 //! Boards, as text.
 
-use lvish_board::{Board, Named, Outcome, TraceEntry};
+use lvish_board::{Board, BoardBrand, Outcome, TraceEntry};
 use lvish_calculus::{Label, Program};
 use lvish_core::Core;
 use lvish_lattice::{Lattice, Numbered};
@@ -138,10 +138,10 @@ fn write_each_label<E: Numbered>(text: &mut String, labels: &[Label<E>]) -> Resu
 
 /// What shows of a board's core and trace: the steps, the tasks that haven't ended, the states and
 /// their logs, the labels that can be taken, and the entries.
-pub fn write_machine<P: Program, J: Named<P>>(
+pub fn write_machine<P: Program, B: BoardBrand<P>>(
     text: &mut String,
     alloc: Global,
-    board: &Board<'_, P, J>,
+    board: &Board<'_, P, B>,
 ) -> Result<(), AllocError>
 where
     <P::Lat as Lattice>::Event: Numbered,

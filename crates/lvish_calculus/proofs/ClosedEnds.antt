@@ -10,7 +10,7 @@ use Rattle.lvish_calculus.proofs.Steps.{Makes, puts}
 use Rattle.lvish_calculus.proofs.Order.{IsLe, le_join, le_trans, with_join-same}
 use Rattle.lvish_calculus.proofs.Sound.{IsSound, some_is}
 use Rattle.lvish_calculus.proofs.Keeps.{sound_after, sound_start}
-use Rattle.lvish_calculus.proofs.Moves.{ready_at, task_stays, unhandled_stays}
+use Rattle.lvish_calculus.proofs.Moves.{ready_at, task_stays, not_handed_stays}
 use Rattle.lvish_calculus.proofs.Doomed.{cases_label}
 use Rattle.lvish_calculus.proofs.Ends.{Way, here, goes}
 use Rattle.lvish_calculus.proofs.CoreRuns.{run_way, way_run}
@@ -64,11 +64,11 @@ module _ {S E R A L : Type 0} (M : Machine S E R A L) (ok : IsLawful M) where
       enabled : IsEnabled M from (Hand h e)
       way : Way M (changed M change from) rest c
 
-    handed_there : (d c : State S E L) (ls : List (Label E)) → Before d ls → IsSound d → Way M d ls c → (h : Handler E) (e : E) → d.handled h e ≡ false → c.handled h e ≡ true → HandedThere c h e
+    handed_there : (d c : State S E L) (ls : List (Label E)) → Before d ls → IsSound d → Way M d ls c → (h : Handler E) (e : E) → d.handed h e ≡ false → c.handed h e ≡ true → HandedThere c h e
     handed_there d c ls b s here h e z y = absurd (both_ways _ z y)
     handed_there d c (m ∷ ls) b s (goes ch mm en w) h e z y = elim (cases_label M ok m (Hand h e)) [
       | inl q ↦ record { from = d; change = ch; rest = ls; before = subst (λ x. Before d (x ∷ ls)) q b; sound = s; makes = subst (λ x. Makes M d x ch) q mm; enabled = subst (λ x. IsEnabled M d x) q en; way = w }
-      | inr ne ↦ handed_there (changed M ch d) c ls (before_step d m ls ch mm en b) (sound_after M ok d m ch mm en s) w h e (unhandled_stays M ok d m ch mm h e z ne) y
+      | inr ne ↦ handed_there (changed M ch d) c ls (before_step d m ls ch mm en b) (sound_after M ok d m ch mm en s) w h e (not_handed_stays M ok d m ch mm h e z ne) y
     ]
 
     -- on a way to c, the task of this name is at this local state
@@ -113,10 +113,10 @@ module _ {S E R A L : Type 0} (M : Machine S E R A L) (ok : IsLawful M) where
         | inr z ↦ absurd (both_ways _ (left t l f a w.puts v pools z q) frozen)
       ]
 
-      handed_end : (h : Handler E) (post : Post) (v : ℕ) (e : E) → c.handlers h ≡ Some post → M.pool_variable post.pool ≡ Some v → IsBelow M e (c.content v) → c.handled h e ≡ true
-      handed_end h post v e is of below = elim (cases_Bool (c.handled h e)) [
+      handed_end : (h : Handler E) (post : Post) (v : ℕ) (e : E) → c.handlers h ≡ Some post → M.pool_variable post.pool ≡ Some v → IsBelow M e (c.content v) → c.handed h e ≡ true
+      handed_end h post v e is of below = elim (cases_Bool (c.handed h e)) [
         | inl y ↦ y
-        | inr y ↦ absurd (end (Hand h e) (record { variable = v; on = record { post = post; is = is; of = of }; below = below; unhandled = y }))
+        | inr y ↦ absurd (end (Hand h e) (record { variable = v; on = record { post = post; is = is; of = of }; below = below; not_handed = y }))
       ]
 
       -- a handler that is there at the end was handed each event below, whose task was there

@@ -108,7 +108,7 @@ module _ {S E R A L : Type 0} (M : Machine S E R A L) (ok : IsLawful M) where
 
   -- e is to be handed next: of the events that h wasn't handed, the first in the run's order
   pub record IsNext (xs : List (Label E)) (c : State S E L) (h : Handler E) (v : ℕ) (e : E) : Type 0 where
-    pub first : (x : E) → IsBelow M x (c.content v) → c.handled h x ≡ false → IsNoLater M xs v e x × (IsNoLater M xs v x e → M.event_le e x ≡ true)
+    pub first : (x : E) → IsBelow M x (c.content v) → c.handed h x ≡ false → IsNoLater M xs v e x × (IsNoLater M xs v x e → M.event_le e x ≡ true)
 
   pub core_none : HandsOldestFirst M []
   core_none [] s h e cuts c rc v on x below un = absurd (cc cuts)
@@ -136,7 +136,7 @@ module _ {S E R A L : Type 0} (M : Machine S E R A L) (ok : IsLawful M) where
         let on2 : IsOn M c h u = subst (λ k. IsOn M k h u) cc1 (subst (λ k. IsOn M c1 k u) gh on1) in
         let uv : u ≡ v = on_one M c h u v on2 on in
         let below2 : IsBelow M x (c.content v) = subst (λ k. IsBelow M x (c.content k)) uv (subst (λ (k : State S E L). IsBelow M x (k.content u)) cc1 below) in
-        let un2 : c.handled h x ≡ false = subst (λ (k : State S E L). k.handled h x ≡ false) cc1 (subst (λ k. c1.handled k x ≡ false) gh un) in
+        let un2 : c.handed h x ≡ false = subst (λ (k : State S E L). k.handed h x ≡ false) cc1 (subst (λ k. c1.handed k x ≡ false) gh un) in
         subst (λ q. N q u y) (sym a) (subst (λ w. N xs w y) (sym uv) (subst (λ z. N xs v z) (sym ye) (next.first x below2 un2)))
     | before r w ↦ core p r g y w c1 rc1 u on1 x below un
   ]

@@ -7,7 +7,7 @@ use Rattle.lvish_calculus.specs.Laws.{Reaches}
 use Rattle.lvish_calculus.specs.Growth.{IsStepOfRuns, RunsKeep, RunsGrow}
 use Rattle.lvish_calculus.proofs.Steps.{Makes}
 use Rattle.lvish_calculus.proofs.Sound.{IsSound, own_is}
-use Rattle.lvish_calculus.proofs.Keeps.{tasks_after, made_absent, present_after, handled_stays}
+use Rattle.lvish_calculus.proofs.Keeps.{tasks_after, made_absent, present_after, handed_stays}
 use Rattle.lvish_calculus.proofs.Runs.{way_keeps, walked, reached}
 use Rattle.lvish_calculus.proofs.SameThere.{run_join}
 use Rattle.lvish_calculus.proofs.Made.{handlers_way, le_way, frozen_way}
@@ -54,7 +54,7 @@ module _ {S E R A L : Type 0} (M : Machine S E R A L) (ok : IsLawful M) where
         contents = le_way M ok c d ys s w;
         frozen = frozen_way M ok c d ys s w;
         handlers = handlers_way M ok c d ys s w;
-        handled = λ h e z. way_keeps M ok (λ (x : State S E L). x.handled h e ≡ true) (λ x l ch m en sx. handled_stays M ok x l ch m en sx h e) c d ys s w z;
+        handed = λ h e z. way_keeps M ok (λ (x : State S E L). x.handed h e ≡ true) (λ x l ch m en sx. handed_stays M ok x l ch m en sx h e) c d ys s w z;
         tasks = λ t z. way_keeps M ok (λ (x : State S E L). x.tasks t ≡ Absent → ⊥) (λ x l ch m en sx. present_after M ok x l ch m en sx t) c d ys s w z;
         ended = λ t z. way_keeps M ok (λ (x : State S E L). x.tasks t ≡ Ended) (λ x l ch m en sx. ended_stays t x l ch m en sx) c d ys s w z;
       }

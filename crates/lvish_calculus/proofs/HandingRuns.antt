@@ -5,12 +5,12 @@ use Rattle.std.proofs.lemmas.Map.Views.{list_any-from_Contains}
 use Rattle.std.specs.Cmp.{nat_eq_equiv}
 use Rattle.std.specs.Ordering.{nat_cmp, is_le}
 use Rattle.lvish_calculus.specs.Machine.{IsLawful, Freeze, Add}
-use Rattle.lvish_calculus.specs.Calculus.{State, Label, Hand, Post, Act, IsLive, IsOn, IsQuiet, IsToHand, Ended, Absent, is_live}
+use Rattle.lvish_calculus.specs.Calculus.{State, Label, Hand, Post, Act, IsLive, IsOn, IsQuiescent, IsToHand, Ended, Absent, is_live}
 use Rattle.lvish_names.specs.Names.{Name, main, handed, Handler, same_name, same_handler, handler_of}
 use Rattle.lvish_calculus.specs.Laws.{Reaches}
 use Rattle.lvish_calculus.specs.Handing.{HandsOldestFirst, IsNoLater}
 use Rattle.lvish_calculus.specs.Examples.{Set, over_sets, EndsAs, numbers, HandingAt, adding, freezing, handing_asks, handing_pool, handing, copier, in_put_order, one_first, handing_end}
-use Rattle.lvish_calculus.specs.WaitingExamples.{IsBlockedAfter, IsEnabledAfter, EndsHolding, over_counters, LevelAt, level_functions, reader, until_fork, until_one, until_three, level_run, three_and_two, one_unhanded, one_running, both_copied, NestingAt, nesting, nesting_pool, the_outer, both_pools, outer_task, inner_task, outer, inner, outer_running, inner_running, inner_ended, frozen_before, frozen_after, nesting_end}
+use Rattle.lvish_calculus.specs.BlockedExamples.{IsBlockedAfter, IsEnabledAfter, EndsHolding, over_counters, LevelAt, level_functions, reader, until_fork, until_one, until_three, level_run, three_and_two, one_unhanded, one_running, both_copied, NestingAt, nesting, nesting_pool, the_outer, both_pools, outer_task, inner_task, outer, inner, outer_running, inner_running, inner_ended, frozen_before, frozen_after, nesting_end}
 use Rattle.lvish_calculus.proofs.Names.{cases_handler, same_handler-other, nat_eq-true}
 use Rattle.lvish_calculus.proofs.Sound.{some_is}
 use Rattle.lvish_calculus.proofs.CoreRuns.{no_later_one, no_later_new, core_none, core_acts, core_hand}
@@ -28,8 +28,8 @@ pub record IsDrained (c : State Set ℕ HandingAt) : Type 0 where
   pub content : numbers (c.content 0) ≡ 1 ∷ 3 ∷ []
   pub is : c.handlers copier ≡ Some (record { pool = 0; procedure = 0 })
   pub others : (h : Handler ℕ) → same_handler nat_eq h copier ≡ false → c.handlers h ≡ None
-  pub one : c.handled copier 1 ≡ true
-  pub three : c.handled copier 3 ≡ true
+  pub one : c.handed copier 1 ≡ true
+  pub three : c.handed copier 3 ≡ true
 
 one_or_three : (e : ℕ) → Contains (1 ∷ 3 ∷ []) e → (e ≡ 1) ⊎ (e ≡ 3)
 one_or_three e z = elim (cases_Bool (nat_eq e 1)) [
@@ -40,28 +40,28 @@ one_or_three e z = elim (cases_Bool (nat_eq e 1)) [
   ]
 ]
 
-all_handled : (c : State Set ℕ HandingAt) → IsDrained c → (h : Handler ℕ) (e v : ℕ) → IsOn (over_sets handing) c h v → Contains (numbers (c.content v)) e → c.handled h e ≡ true
-all_handled c d h e v on below = elim (cases_handler nat_eq nat_same h copier) [
+each_handed : (c : State Set ℕ HandingAt) → IsDrained c → (h : Handler ℕ) (e v : ℕ) → IsOn (over_sets handing) c h v → Contains (numbers (c.content v)) e → c.handed h e ≡ true
+each_handed c d h e v on below = elim (cases_handler nat_eq nat_same h copier) [
   | inr ne ↦ let z : Some on.post ≡ None = sym on.is ∙ d.others h (same_handler-other nat_eq nat_same h copier ne) in cc
   | inl here ↦
       let pool : on.post.pool ≡ 0 = ap (λ (p : Post). p.pool) (some_is (sym on.is ∙ ap c.handlers here ∙ d.is)) in
       let v_is : 0 ≡ v = some_is (subst (λ p. handing.pool_variable p ≡ Some v) pool on.of) in
       let e_is : (e ≡ 1) ⊎ (e ≡ 3) = one_or_three e (subst (λ xs. Contains xs e) d.content (subst (λ w. Contains (numbers (c.content w)) e) (sym v_is) below)) in
-      subst (λ k. c.handled k e ≡ true) (sym here) (elim e_is [
-        | inl z ↦ subst (λ x. c.handled copier x ≡ true) (sym z) d.one
-        | inr z ↦ subst (λ x. c.handled copier x ≡ true) (sym z) d.three
+      subst (λ k. c.handed k e ≡ true) (sym here) (elim e_is [
+        | inl z ↦ subst (λ x. c.handed copier x ≡ true) (sym z) d.one
+        | inr z ↦ subst (λ x. c.handed copier x ≡ true) (sym z) d.three
       ])
 ]
 
 nothing_to_hand : (c : State Set ℕ HandingAt) → IsDrained c → (h : Handler ℕ) (e : ℕ) → IsToHand (over_sets handing) c h e → ⊥
-nothing_to_hand c d h e hand = both_ways _ hand.unhandled (all_handled c d h e hand.variable hand.on hand.below)
+nothing_to_hand c d h e hand = both_ways _ hand.not_handed (each_handed c d h e hand.variable hand.on hand.below)
 
 -- s may be frozen after the handler's tasks
 pub can_freeze : (c : State Set ℕ HandingAt) → IsDrained c → c.tasks three_copied ≡ Ended → c.tasks one_copied ≡ Ended
     → ((n : Name ℕ) → same_name nat_eq n main ≡ false → same_name nat_eq n three_copied ≡ false → same_name nat_eq n one_copied ≡ false → c.tasks n ≡ Absent)
-    → IsQuiet (over_sets handing) c 0 (0 ∷ [])
+    → IsQuiescent (over_sets handing) c 0 (0 ∷ [])
 can_freeze c d three one others = record {
-  drained = λ h e on below. all_handled c d h e 0 on below;
+  drained = λ h e on below. each_handed c d h e 0 on below;
   ended = λ n in_pool. dead n in_pool.handler in_pool.of;
 }
   where
@@ -131,16 +131,16 @@ three_handed = Act main ∷ Act main ∷ Act main ∷ Hand copier 3 ∷ []
 
 three_core : HandsOldestFirst (over_sets handing) three_handed
 three_core = core_hand (over_sets handing) handing_lawful put_both _ copier 0 3 (tt, (tt, (tt, refl))) (record { post = record { pool = 0; procedure = 0 }; is = refl; of = refl })
-    (record { first = λ x below unhandled. elim (one_or_three x below) [ inl z ↦ subst (λ y. ComesFirst put_both 3 y) (sym z) three_first | inr z ↦ itself_first put_both 3 x z refl ] })
+    (record { first = λ x below not_handed. elim (one_or_three x below) [ inl z ↦ subst (λ y. ComesFirst put_both 3 y) (sym z) three_first | inr z ↦ itself_first put_both 3 x z refl ] })
     (core_acts (over_sets handing) handing_lawful [] (main ∷ main ∷ main ∷ []) (core_none (over_sets handing) handing_lawful))
 
 -- once 3 was handed, 1 comes
-one_core : (p : List (Label ℕ)) (c : State Set ℕ HandingAt) → Reaches (over_sets handing) p c → c.handlers copier ≡ Some (record { pool = 0; procedure = 0 }) → c.handled copier 3 ≡ true → numbers (c.content 0) ≡ 1 ∷ 3 ∷ []
+one_core : (p : List (Label ℕ)) (c : State Set ℕ HandingAt) → Reaches (over_sets handing) p c → c.handlers copier ≡ Some (record { pool = 0; procedure = 0 }) → c.handed copier 3 ≡ true → numbers (c.content 0) ≡ 1 ∷ 3 ∷ []
     → HandsOldestFirst (over_sets handing) p → HandsOldestFirst (over_sets handing) (p ++ Hand copier 1 ∷ [])
 one_core p c there handler three is = core_hand (over_sets handing) handing_lawful p c copier 0 1 there (record { post = record { pool = 0; procedure = 0 }; is = handler; of = refl }) (record {
-  first = λ x below unhandled. elim (one_or_three x (subst (λ xs. Contains xs x) is below)) [
+  first = λ x below not_handed. elim (one_or_three x (subst (λ xs. Contains xs x) is below)) [
     | inl z ↦ itself_first p 1 x z refl
-    | inr z ↦ absurd (both_ways _ (subst (λ y. c.handled copier y ≡ false) z unhandled) three)
+    | inr z ↦ absurd (both_ways _ (subst (λ y. c.handed copier y ≡ false) z not_handed) three)
   ];
 })
 
@@ -215,8 +215,8 @@ record IsNested (c : State Set ℕ NestingAt) : Type 0 where
   pub outer_is : c.handlers outer ≡ Some (record { pool = 0; procedure = 0 })
   pub inner_is : c.handlers inner ≡ Some (record { pool = 1; procedure = 1 })
   pub other_handlers : (h : Handler ℕ) → same_handler nat_eq h outer ≡ false → same_handler nat_eq h inner ≡ false → c.handlers h ≡ None
-  pub outer_handed : c.handled outer 1 ≡ true
-  pub inner_handed : c.handled inner 1 ≡ true
+  pub outer_handed : c.handed outer 1 ≡ true
+  pub inner_handed : c.handed inner 1 ≡ true
 
 just_one : (e : ℕ) → Contains (1 ∷ []) e → e ≡ 1
 just_one e z = elim (cases_Bool (nat_eq e 1)) [
@@ -225,31 +225,31 @@ just_one e z = elim (cases_Bool (nat_eq e 1)) [
 ]
 
 -- a handler in this pool, which is of s, was handed 1
-handed_on : (pools : List ℕ) (c : State Set ℕ NestingAt) → IsNested c → (h : Handler ℕ) (p q : ℕ) → c.handlers h ≡ Some (record { pool = p; procedure = q }) → nesting_pool p ≡ Some 0 → c.handled h 1 ≡ true
-    → (e v : ℕ) → IsOn (over_sets (nesting pools)) c h v → Contains (numbers (c.content v)) e → c.handled h e ≡ true
+handed_on : (pools : List ℕ) (c : State Set ℕ NestingAt) → IsNested c → (h : Handler ℕ) (p q : ℕ) → c.handlers h ≡ Some (record { pool = p; procedure = q }) → nesting_pool p ≡ Some 0 → c.handed h 1 ≡ true
+    → (e v : ℕ) → IsOn (over_sets (nesting pools)) c h v → Contains (numbers (c.content v)) e → c.handed h e ≡ true
 handed_on pools c d h p q is of given e v on below =
     let post : on.post ≡ record { pool = p; procedure = q } = some_is (sym on.is ∙ is) in
     let pool : on.post.pool ≡ p = ap (λ (x : Post). x.pool) post in
     let v_is : v ≡ 0 = some_is (sym on.of ∙ ap nesting_pool pool ∙ of) in
     let one : e ≡ 1 = just_one e (subst (λ xs. Contains xs e) d.content (subst (λ w. Contains (numbers (c.content w)) e) v_is below)) in
-    subst (λ x. c.handled h x ≡ true) (sym one) given
+    subst (λ x. c.handed h x ≡ true) (sym one) given
 
-all_handed : (pools : List ℕ) (c : State Set ℕ NestingAt) → IsNested c → (h : Handler ℕ) (e v : ℕ) → IsOn (over_sets (nesting pools)) c h v → Contains (numbers (c.content v)) e → c.handled h e ≡ true
+all_handed : (pools : List ℕ) (c : State Set ℕ NestingAt) → IsNested c → (h : Handler ℕ) (e v : ℕ) → IsOn (over_sets (nesting pools)) c h v → Contains (numbers (c.content v)) e → c.handed h e ≡ true
 all_handed pools c d h e v on below = elim (cases_handler nat_eq nat_same h outer) [
-  | inl a ↦ handed_on pools c d h 0 0 (ap c.handlers a ∙ d.outer_is) refl (ap (λ k. c.handled k 1) a ∙ d.outer_handed) e v on below
+  | inl a ↦ handed_on pools c d h 0 0 (ap c.handlers a ∙ d.outer_is) refl (ap (λ k. c.handed k 1) a ∙ d.outer_handed) e v on below
   | inr a ↦ elim (cases_handler nat_eq nat_same h inner) [
-    | inl b ↦ handed_on pools c d h 1 1 (ap c.handlers b ∙ d.inner_is) refl (ap (λ k. c.handled k 1) b ∙ d.inner_handed) e v on below
+    | inl b ↦ handed_on pools c d h 1 1 (ap c.handlers b ∙ d.inner_is) refl (ap (λ k. c.handed k 1) b ∙ d.inner_handed) e v on below
     | inr b ↦ let z : Some on.post ≡ None = sym on.is ∙ d.other_handlers h (same_handler-other nat_eq nat_same h outer a) (same_handler-other nat_eq nat_same h inner b) in cc
   ]
 ]
 
 none_to_hand : (pools : List ℕ) (c : State Set ℕ NestingAt) → IsNested c → (h : Handler ℕ) (e : ℕ) → IsToHand (over_sets (nesting pools)) c h e → ⊥
-none_to_hand pools c d h e hand = both_ways _ hand.unhandled (all_handed pools c d h e hand.variable hand.on hand.below)
+none_to_hand pools c d h e hand = both_ways _ hand.not_handed (all_handed pools c d h e hand.variable hand.on hand.below)
 
 -- s may be frozen where the inner task has ended, or its pool isn't named
 can_freeze_nested : (pools : List ℕ) (c : State Set ℕ NestingAt) → IsNested c → c.tasks outer_task ≡ Ended → (Contains pools 1 → IsLive (c.tasks inner_task) → ⊥)
     → ((n : Name ℕ) → same_name nat_eq n main ≡ false → same_name nat_eq n outer_task ≡ false → same_name nat_eq n inner_task ≡ false → c.tasks n ≡ Absent)
-    → IsQuiet (over_sets (nesting pools)) c 0 pools
+    → IsQuiescent (over_sets (nesting pools)) c 0 pools
 can_freeze_nested pools c d outer_ended inner_dead others = record {
   drained = λ h e on below. all_handed pools c d h e 0 on below;
   ended = λ n i. dead n i.handler i.post i.of i.is i.listed;

@@ -4,13 +4,13 @@ use Rattle.std.proofs.lemmas.Bool.{cases_Bool}
 use Rattle.lvish_names.specs.Names.{Name}
 use Rattle.lvish_lattice.specs.Lattice.{IsAtOrBelow}
 use Rattle.lvish_calculus.specs.Machine.{Machine, IsLawful, Put, Get, Fork, Add, Freeze, Pause, End, Content, Conflict}
-use Rattle.lvish_calculus.specs.Calculus.{State, Running, Error, Live, Label, Act, Hand, Change, Changes, changed, IsOn, IsQuiet, IsEnabled, Freezes, effect, step}
+use Rattle.lvish_calculus.specs.Calculus.{State, Running, Error, Live, Label, Act, Hand, Change, Changes, changed, IsOn, IsQuiescent, IsEnabled, Freezes, effect, step}
 use Rattle.lvish_calculus.specs.Independence.{footprint, AreDisjoint, DisjointCommute, task_variable, request_variable, with_contents, StepsStay}
 use Rattle.lvish_calculus.proofs.Steps.{Makes, puts, gets, forks, adds, freezes, pauses, ends, hands, view, unview}
 use Rattle.lvish_calculus.proofs.Order.{IsLe, le_trans, below_le}
 use Rattle.lvish_calculus.proofs.Sound.{IsSound, some_is}
 use Rattle.lvish_calculus.proofs.Keeps.{handlers_stay}
-use Rattle.lvish_calculus.proofs.Moves.{ready_at, ready_from, content_le, task_stays, unhandled_stays, frozen_by, touches, Untouched, quiet_stays}
+use Rattle.lvish_calculus.proofs.Moves.{ready_at, ready_from, content_le, task_stays, not_handed_stays, frozen_by, touches, Untouched, quiet_stays}
 use Rattle.lvish_calculus.proofs.Diamond.{commute}
 use Rattle.lvish_calculus.proofs.Runs.{step_is, made_by, reached}
 
@@ -57,7 +57,7 @@ module _ {S E R A L : Type 0} (M : Machine S E R A L) (ok : IsLawful M) (c : Sta
         (adds t o f a p pool procedure v is2 q b w (unfrozen v out z), ready_at M ok (changed M chm c) t o f a p (Add pool procedure) is2 q tt)
     after_disjoint l chl (freezes t o f a p v pools is q) en ne apart =
         let is2 = task_stays M ok c m chm mm enm s t o f a p is ne in
-        let quiet : IsQuiet M c v pools = ready_from M ok c t o f a p (Freeze v pools) is q en in
+        let quiet : IsQuiescent M c v pools = ready_from M ok c t o f a p (Freeze v pools) is q en in
         let un = untouched v (apart v (footprint_at t o f a p v is (ap (request_variable M) q) (Act t) refl)) in (
           subst (λ x. Makes M (changed M chm c) (Act t) (record { own = Some (t, Live (M.resume (M.at o) (Content x)) f a p); made = None; added = None; joined = None; froze = Some v; handing = None })) un.content (freezes t o f a p v pools is2 q),
           ready_at M ok (changed M chm c) t o f a p (Freeze v pools) is2 q (quiet_stays M ok c m chm mm enm s v pools (ok.freeze_own o v pools q) quiet un),
@@ -71,7 +71,7 @@ module _ {S E R A L : Type 0} (M : Machine S E R A L) (ok : IsLawful M) (c : Sta
     after_disjoint l chl (hands h x post is) en ne apart =
         let on2 : IsOn M (changed M chm c) h en.variable = record { post = en.on.post; is = handlers_stay M ok c m chm mm enm s h en.on.post en.on.is; of = en.on.of } in (
           hands h x post (handlers_stay M ok c m chm mm enm s h post is),
-          record { variable = en.variable; on = on2; below = below_le M ok x _ _ (content_le M ok c m chm mm enm s en.variable) en.below; unhandled = unhandled_stays M ok c m chm mm h x en.unhandled ne },
+          record { variable = en.variable; on = on2; below = below_le M ok x _ _ (content_le M ok c m chm mm enm s en.variable) en.below; not_handed = not_handed_stays M ok c m chm mm h x en.not_handed ne },
         )
 
 module _ {S E R A L : Type 0} (M : Machine S E R A L) (ok : IsLawful M) where
@@ -122,8 +122,8 @@ module _ {S E R A L : Type 0} (M : Machine S E R A L) (ok : IsLawful M) where
         makes_stays (Act t) ch (ready_at M ok (with_contents M c greater) t o f a p (Add pool procedure) is q tt) (adds t o f a p pool procedure v is q b w z)
     stays l ch (freezes t o f a p v pools is q) own en =
         let same : greater v ≡ c.content v = own v (record { task = t; local = o; forks = f; adds = a; puts = p; pools = pools; label = refl; is = is; asked = q }) in
-        let quiet : IsQuiet M c v pools = ready_from M ok c t o f a p (Freeze v pools) is q en in
-        let quiet2 : IsQuiet M (with_contents M c greater) v pools = record {
+        let quiet : IsQuiescent M c v pools = ready_from M ok c t o f a p (Freeze v pools) is q en in
+        let quiet2 : IsQuiescent M (with_contents M c greater) v pools = record {
           drained = λ h e on below. quiet.drained h e (record { post = on.post; is = on.is; of = on.of }) (subst (λ x. Contains (M.events x) e) same below);
           ended = λ u i live. quiet.ended u (record { handler = i.handler; of = i.of; post = i.post; is = i.is; listed = i.listed }) live;
         } in
@@ -136,7 +136,7 @@ module _ {S E R A L : Type 0} (M : Machine S E R A L) (ok : IsLawful M) where
           variable = en.variable;
           on = record { post = en.on.post; is = en.on.is; of = en.on.of };
           below = below_le M ok x _ _ (le en.variable) en.below;
-          unhandled = en.unhandled;
+          not_handed = en.not_handed;
         }) (hands h x post is)
 
   pub steps_stay : StepsStay M

@@ -11,8 +11,8 @@ use Rattle.lvish_calculus.specs.Examples.{over_sets, CrossingAt, forking_u, u_fr
 use Rattle.lvish_calculus.specs.ErrorExamples.{ExampleCell, empty, holding, joined_cell, same_cell, held_numbers, over_cells, CellAt, two_numbers, cell_asks, LateAddAt, late_handler, late_add_asks, the_pool, ChainAt, chain, chain_asks}
 use Rattle.lvish_calculus.specs.ErrorExamples as error
 use Rattle.lvish_calculus.specs.Examples as example
-use Rattle.lvish_calculus.specs.WaitingExamples.{up_to, over_counters, LevelAt, level_functions, level_asks, NestingAt, nesting, nesting_asks, nesting_pool, the_outer, both_pools}
-use Rattle.lvish_calculus.specs.WaitingExamples as waiting
+use Rattle.lvish_calculus.specs.BlockedExamples.{up_to, over_counters, LevelAt, level_functions, level_asks, NestingAt, nesting, nesting_asks, nesting_pool, the_outer, both_pools}
+use Rattle.lvish_calculus.specs.BlockedExamples as blocked
 use Rattle.lvish_calculus.proofs.Names.{nat_eq-true, nat_eq-refl}
 use Rattle.lvish_calculus.proofs.Sound.{some_is}
 use Rattle.lvish_calculus.proofs.FromTraits.{sets_lawful}
@@ -74,15 +74,15 @@ abbrev AreOfS : List ℕ → Type 0
 AreOfS pools = (p : ℕ) → Contains pools p → nesting_pool p ≡ Some 0
 
 nesting_freezes : (pools : List ℕ) → AreOfS pools → (l : NestingAt) (v : ℕ) (named : List ℕ) → nesting_asks pools l ≡ Freeze v named → (p : ℕ) → Contains named p → nesting_pool p ≡ Some v
-nesting_freezes pools are waiting.freezing v named e p z =
+nesting_freezes pools are blocked.freezing v named e p z =
     let same : pools ≡ named = cc in
     let vv : 0 ≡ v = cc in
     are p (subst (λ q. Contains q p) (sym same) z) ∙ ap Some vv
 nesting_freezes pools are l v named e p z = absurd (cc e)
 
 nesting_adds : (pools : List ℕ) (l : NestingAt) (p proc : ℕ) → nesting_asks pools l ≡ Add p proc → (v : ℕ) × (nesting_pool p ≡ Some v)
-nesting_adds pools waiting.adding p proc e = let pp : 0 ≡ p = cc in (0, ap nesting_pool (sym pp))
-nesting_adds pools waiting.adding_inner p proc e = let pp : 1 ≡ p = cc in (0, ap nesting_pool (sym pp))
+nesting_adds pools blocked.adding p proc e = let pp : 0 ≡ p = cc in (0, ap nesting_pool (sym pp))
+nesting_adds pools blocked.adding_inner p proc e = let pp : 1 ≡ p = cc in (0, ap nesting_pool (sym pp))
 nesting_adds pools l p proc e = absurd (cc e)
 
 outer_of_s : AreOfS the_outer
@@ -141,11 +141,11 @@ levels_joined a b c e is = (
     ]
 
 pub level_asks_no_freeze : (l : LevelAt) (v : ℕ) (pools : List ℕ) → level_asks l ≡ Freeze v pools → ⊥
-level_asks_no_freeze waiting.forking v pools e = cc e
+level_asks_no_freeze blocked.forking v pools e = cc e
 level_asks_no_freeze l v pools e = cc e
 
 level_adds : (l : LevelAt) (p proc : ℕ) → level_asks l ≡ Add p proc → ⊥
-level_adds waiting.forking p proc e = cc e
+level_adds blocked.forking p proc e = cc e
 level_adds l p proc e = cc e
 
 pub levels_lawful : IsLawful (over_counters level_functions)

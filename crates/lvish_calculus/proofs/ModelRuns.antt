@@ -8,7 +8,7 @@ use Rattle.lvish_calculus.specs.Laws.{IsCrossed, FreezesAllBy, NeverErrs}
 use Rattle.lvish_calculus.specs.Live.{HasLive}
 use Rattle.lvish_calculus.specs.LeastModel.{LeavesNoFreeze, PlaysAgainst, IsMet, main_starts, after_put, after_get, after_fork, child_starts, after_add, handler_starts, after_freeze, after_pause}
 use Rattle.lvish_calculus.specs.Examples.{Set, over_sets, copier, u, t, until_both, AreDisjointAfter, RunHandsWell, IsClosedAfter, EndsClosed, LateAt, forking, freezing, putting, main_done, writer_done, late, late_asks, late_goes, until_frozen, one_there, crossing, both_freeze, u_first, HandingAt, handing, in_put_order, until_added, until_three_put, one_twice, t_freezing}
-use Rattle.lvish_calculus.specs.WaitingExamples.{over_counters, level_functions, level_run}
+use Rattle.lvish_calculus.specs.BlockedExamples.{over_counters, level_functions, level_run}
 use Rattle.lvish_calculus.proofs.Sound.{some_is}
 use Rattle.lvish_calculus.proofs.LawfulRuns.{crossing_lawful, levels_lawful, level_asks_no_freeze}
 use Rattle.lvish_calculus.proofs.HandingRuns.{in_put_order_ends, handing_lawful, three_copied, one_copied, level_ends, not_one}

@@ -2,7 +2,7 @@
 use Rattle.std.proofs.Common.{◌≡◌, ℕ, suc, Bool, true, false, not, ◌&&◌, List, [], ◌∷◌, Option, Some, None, Ordering, if◌then◌else◌, refl, sym, subst}
 use Rattle.lvish_calculus.specs.Machine.{Machine, Request, Put, Get, Fork, Add, Freeze, Pause, End, Fault, Reply, Done, Answer, Content, ErrorKind, Conflict, Frozen, Late, Deep}
 use Rattle.lvish_calculus.specs.Program.{Functions, IsReplyTo, machine_of}
-use Rattle.lvish_calculus.specs.Calculus.{Task, Absent, Live, Ended, Post, State, Configuration, Running, Error, Label, Act, Hand, Change, changed, Effect, Changes, Fails, Nothing, just, put_effect, get_effect, add_effect, request_effect, task_effect, hand_effect, effect, after, step, start, IsRun, with_task, with_handler, with_join, with_frozen, with_handled}
+use Rattle.lvish_calculus.specs.Calculus.{Task, Absent, Live, Ended, Post, State, Configuration, Running, Error, Label, Act, Hand, Change, changed, Effect, Changes, Fails, Nothing, just, put_effect, get_effect, add_effect, request_effect, task_effect, hand_effect, effect, after, step, start, IsRun, with_task, with_handler, with_join, with_frozen, with_handed}
 use Rattle.lvish_names.specs.Names.{Name, main, forked, handed, Handler, is_deep, same_name, same_handler}
 use Rattle.lvish_calculus.specs.SameRuns.{SameRequest, IsMatch, without_child, SameTask, SameState, SameConfiguration, RunsAreOf, HaveSameRuns}
 use Rattle.lvish_calculus.proofs.SameThere.{Base, over, flip_state, flip_configuration, enabled_there}
@@ -62,7 +62,7 @@ record MatchedStates {S E L K : Type 0} (P : L → K → Type 0) (Q : ℕ → Ty
   tasks : (t : Name E) → MatchedTasks P (c.tasks t) (d.tasks t)
   handlers : (h : Handler E) → c.handlers h ≡ d.handlers h
   begins : (h : Handler E) → Begins Q (c.handlers h)
-  handled : (h : Handler E) (e : E) → c.handled h e ≡ d.handled h e
+  handed : (h : Handler E) (e : E) → c.handed h e ≡ d.handed h e
 
 -- matched states, or the same error
 data MatchedConfigurations {S E L K : Type 0} (P : L → K → Type 0) (Q : ℕ → Type 0) : Configuration S E L → Configuration S E K → Type 0 where
@@ -109,7 +109,7 @@ module _ {S E R A L K : Type 0} (B : Base S E R A) (f : Functions S E R A L) (g 
   seen_task ended = tt
 
   seen_state : (c : State S E L) (d : State S E K) → MatchedStates P Q c d → SameState M N c d
-  seen_state c d s = record { content = s.content; frozen = s.frozen; tasks = λ t. seen_task (s.tasks t); handlers = s.handlers; handled = s.handled }
+  seen_state c d s = record { content = s.content; frozen = s.frozen; tasks = λ t. seen_task (s.tasks t); handlers = s.handlers; handed = s.handed }
 
   seen : (c : Configuration S E L) (d : Configuration S E K) → MatchedConfigurations P Q c d → SameConfiguration M N c d
   seen u w (running c d s) = seen_state c d s
@@ -203,7 +203,7 @@ module _ {S E R A L K : Type 0} (B : Base S E R A) (f : Functions S E R A L) (g 
       tasks = writes_over x.own y.own _ _ m.own (writes_over x.made y.made _ _ m.made s.tasks);
       handlers = λ h i. with_handler B.event_same (m.added i) (λ k. s.handlers k i) h;
       begins = begins_over x.added m.begins;
-      handled = λ h e i. with_handled B.event_same (m.handing i) (λ k u. s.handled k u i) h e;
+      handed = λ h e i. with_handed B.event_same (m.handing i) (λ k u. s.handed k u i) h e;
     }
 
     after_over : (x : Effect S E L) (y : Effect S E K) → MatchedOutcomes P Q x y → MatchedConfigurations P Q (after M c x) (after N d y)
@@ -234,7 +234,7 @@ module _ {S E R A L K : Type 0} (B : Base S E R A) (f : Functions S E R A L) (g 
     tasks = λ t. if_task (same_name B.event_same t main) (live f.start g.start 0 0 0 ok.start) absent;
     handlers = λ h. refl;
     begins = λ h. tt;
-    handled = λ h e. refl;
+    handed = λ h e. refl;
   }
 
   runs_are_of : RunsAreOf M N

@@ -3,7 +3,7 @@ use Rattle.std.proofs.Common.{◌≡◌, ◌↔◌, inl, inr, ℕ, Bool, List, [
 use Rattle.std.specs.declared.cmp.Ordering.{Ordering}
 use Rattle.lvish_calculus.specs.Machine.{Machine, Request, Get, Freeze, IsBelow}
 use Rattle.lvish_calculus.specs.Program.{Functions, machine_of}
-use Rattle.lvish_calculus.specs.Calculus.{Label, Act, Hand, Task, Absent, Live, Ended, State, Configuration, Running, Error, IsOn, IsIn, IsLive, is_live, IsQuiet, IsReady, IsReadyTask, IsEnabled, CanStep, IsRun, IsEnd, Freezes, start, step}
+use Rattle.lvish_calculus.specs.Calculus.{Label, Act, Hand, Task, Absent, Live, Ended, State, Configuration, Running, Error, IsOn, IsIn, IsLive, is_live, IsQuiescent, IsReady, IsReadyTask, IsEnabled, CanStep, IsRun, IsEnd, Freezes, start, step}
 use Rattle.lvish_names.specs.Names.{Name, Handler, same_handler}
 use Rattle.lvish_calculus.specs.Laws.{Reaches, FreezesBefore, IsCrossed, FreezesAllBy, NeverErrs}
 use Rattle.lvish_calculus.specs.Handing.{handed_to, IsAmong, NoRepeats, ComesBefore, Introduces, IsNoLater, HandsOldestFirst, HandsWell, HandsTo, IsWellHanded}
@@ -25,7 +25,7 @@ module _ {S E R A L K : Type 0} (M : Machine S E R A L) (N : Machine S E R A K) 
     frozen = λ v. sym (s.frozen v);
     tasks = λ t. flip_task (c.tasks t) (d.tasks t) (s.tasks t);
     handlers = λ h. sym (s.handlers h);
-    handled = λ h e. sym (s.handled h e);
+    handed = λ h e. sym (s.handed h e);
   }
 
   pub flip_configuration : (C : Configuration S E L) (D : Configuration S E K) → SameConfiguration M N C D → SameConfiguration N M D C
@@ -96,9 +96,9 @@ module _ {S E R A L K : Type 0} (B : Base S E R A) (f : Functions S E R A L) (g 
   abbrev flipped : SameState (over B g) (over B f) d c
   flipped = flip_state (over B f) (over B g) c d s
 
-  quiet_there : (v : ℕ) (ks : List ℕ) → IsQuiet (over B f) c v ks → IsQuiet (over B g) d v ks
+  quiet_there : (v : ℕ) (ks : List ℕ) → IsQuiescent (over B f) c v ks → IsQuiescent (over B g) d v ks
   quiet_there v ks q = record {
-    drained = λ h e on below. sym (s.handled h e) ∙ q.drained h e (on_there B g f sloop d c flipped h v on) (below_there B g f sloop d c flipped e v below);
+    drained = λ h e on below. sym (s.handed h e) ∙ q.drained h e (on_there B g f sloop d c flipped h v on) (below_there B g f sloop d c flipped e v below);
     ended = λ t is live. q.ended t (pool_there B g f sloop d c flipped t ks is) (live_there B g f sloop d c flipped t live);
   }
 
@@ -119,7 +119,7 @@ module _ {S E R A L K : Type 0} (B : Base S E R A) (f : Functions S E R A L) (g 
     variable = en.variable;
     on = on_there B f g pools c d s h en.variable en.on;
     below = below_there B f g pools c d s e en.variable en.below;
-    unhandled = sym (s.handled h e) ∙ en.unhandled;
+    not_handed = sym (s.handed h e) ∙ en.not_handed;
   }
 
   pub live_count : (n : ℕ) → HasLive c n → HasLive d n
@@ -232,9 +232,9 @@ module _ {S E R A L K : Type 0} (B : Base S E R A) (f : Functions S E R A L) (g 
 
 module _ {S E R A L K : Type 0} (B : Base S E R A) (f : Functions S E R A L) (g : Functions S E R A K) (H : HaveSameRuns (over B f) (over B g)) where
   pub core_there : (xs : List (Label E)) → HandsOldestFirst (over B f) xs → HandsOldestFirst (over B g) xs
-  core_there xs core p s h e is d run v on x below unhandled =
+  core_there xs core p s h e is d run v on x below not_handed =
       let k = reached (over B g) (over B f) (back B f g H) p d run in
-      let z = core p s h e is k.0 k.1 v (on_there B g f (back B f g H).pools d k.0 k.2 h v on) x (below_there B g f (back B f g H).pools d k.0 k.2 x v below) (sym (k.2.handled h x) ∙ unhandled) in
+      let z = core p s h e is k.0 k.1 v (on_there B g f (back B f g H).pools d k.0 k.2 h v on) x (below_there B g f (back B f g H).pools d k.0 k.2 x v below) (sym (k.2.handed h x) ∙ not_handed) in
       (no_later_there B f g H p v e x z.0, λ n. z.1 (no_later_there B g f (back B f g H) p v x e n))
 
   handed_same : (h : Handler E) (xs : List (Label E)) → handed_to (over B f) h xs ≡ handed_to (over B g) h xs

@@ -2,25 +2,25 @@
 use Rattle.std.proofs.Common.{◌≡◌, ◌↔◌, ℕ, Bool, true, false, List, [], Some, None, refl, sym, subst, ap, ◌∙◌, arith, inl, inr, nat_eq, Option, ◌∷◌, ◌++◌, Contains}
 use Rattle.std.proofs.lemmas.Grind.{common_steps}
 use Rattle.lvish_calculus.specs.Machine.{Machine, IsBelow, Freeze, ErrorKind, Deep}
-use Rattle.lvish_calculus.specs.Calculus.{State, Running, Label, Act, Hand, Task, Live, Absent, Ended, IsLive, IsQuiet, IsToHand, IsEnd, IsReadyTask, Freezes, start, Configuration, Error, IsRun, step, after, task_effect, IsDoomed, IsDoomedRequest}
+use Rattle.lvish_calculus.specs.Calculus.{State, Running, Label, Act, Hand, Task, Live, Absent, Ended, IsLive, IsQuiescent, IsToHand, IsEnd, IsReadyTask, Freezes, start, Configuration, Error, IsRun, step, after, task_effect, IsDoomed, IsDoomedRequest}
 use Rattle.lvish_names.specs.Names.{Name, main, Handler, same_name}
 use Rattle.lvish_calculus.specs.Laws.{IsCrossed}
 use Rattle.lvish_calculus.specs.Live.{HasLive}
 use Rattle.lvish_calculus.specs.Program.{Functions}
 use Rattle.lvish_calculus.specs.Examples.{Set, over_sets, LeadsTo, EndsAs, shown, crossing, u_first, t_first, u_first_end, t_first_end, u, t, u_freezing, t_freezing, late, put_first, put_first_end, writer}
 use Rattle.lvish_calculus.specs.ErrorExamples.{IsDoomedAfter, IsUndoomedAfter, over_cells, two_numbers, putting_one, putting_two, one_writer, until_two, MeetsError, ChainAt, forking, done, chain, nested, forks_from, late_handler, adder, add_first, add_first_end}
-use Rattle.lvish_calculus.specs.WaitingExamples.{until_fork}
-use Rattle.lvish_calculus.proofs.Waiting.{live_ready}
+use Rattle.lvish_calculus.specs.BlockedExamples.{until_fork}
+use Rattle.lvish_calculus.proofs.Blocked.{live_ready}
 use Rattle.lvish_calculus.proofs.Names.{cases_name, same_name-other, nat_eq-true, nat_eq-refl}
 
 -- without a handler, a freeze that names no pools is quiet
-pub quiet : {S E R A L : Type 0} (M : Machine S E R A L) (c : State S E L) (v : ℕ) → ((h : Handler E) → c.handlers h ≡ None) → IsQuiet M c v []
+pub quiet : {S E R A L : Type 0} (M : Machine S E R A L) (c : State S E L) (v : ℕ) → ((h : Handler E) → c.handlers h ≡ None) → IsQuiescent M c v []
 quiet M c v none = record { drained = λ h e on below. absurd (cc (sym on.is ∙ none h)); ended = λ t i live. let z = i.listed in absurd (omega (arith, z.1)) }
 
 -- an event below the variable's state is to be handed to a handler on it
 pub to_hand : {S R A L : Type 0} {M : Machine S ℕ R A L} {c : State S ℕ L} {h : Handler ℕ} {e : ℕ} (v pool procedure : ℕ) → c.handlers h ≡ Some (record { pool = pool; procedure = procedure }) → M.pool_variable pool ≡ Some v
-    → IsBelow M e (c.content v) → c.handled h e ≡ false → IsToHand M c h e
-to_hand v pool procedure is of below unhandled = record { variable = v; on = record { post = record { pool = pool; procedure = procedure }; is = is; of = of }; below = below; unhandled = unhandled }
+    → IsBelow M e (c.content v) → c.handed h e ≡ false → IsToHand M c h e
+to_hand v pool procedure is of below not_handed = record { variable = v; on = record { post = record { pool = pool; procedure = procedure }; is = is; of = of }; below = below; not_handed = not_handed }
 
 pub nat_same : (a b : ℕ) → (nat_eq a b ≡ true) ↔ (a ≡ b)
 nat_same a b = (nat_eq-true a b, λ e. subst (λ x. nat_eq a x ≡ true) e (nat_eq-refl a))

@@ -22,7 +22,7 @@ pub record State (S E L : Type 0) : Type 0 where
   pub frozen : ℕ → Bool
   pub tasks : Name E → Task L
   pub handlers : Handler E → Option Post
-  pub handled : Handler E → E → Bool
+  pub handed : Handler E → E → Bool
 
 -- a state, or the error that the run met: its kind, its variable if it has one, and the task (LVars and LVish: error)
 pub data Configuration (S E L : Type 0) : Type 0 where
@@ -64,7 +64,7 @@ module _ {S E R A L : Type 0} (M : Machine S E R A L) where
     frozen = λ v. false;
     tasks = λ t. if same_name M.event_same t main then Live M.start 0 0 0 else Absent;
     handlers = λ h. None;
-    handled = λ h e. false;
+    handed = λ h e. false;
   }
 
   -- a handler handles the events of this variable
@@ -74,14 +74,14 @@ module _ {S E R A L : Type 0} (M : Machine S E R A L) where
     pub of : M.pool_variable post.pool ≡ Some v
 
   -- every event below the variable's state was handed to every handler on it, and every task of the pools has ended
-  pub record IsQuiet (c : State S E L) (v : ℕ) (pools : List ℕ) : Type 0 where
-    pub drained : (h : Handler E) (e : E) → IsOn c h v → IsBelow M e (c.content v) → c.handled h e ≡ true
+  pub record IsQuiescent (c : State S E L) (v : ℕ) (pools : List ℕ) : Type 0 where
+    pub drained : (h : Handler E) (e : E) → IsOn c h v → IsBelow M e (c.content v) → c.handed h e ≡ true
     pub ended : (t : Name E) → IsIn c t pools → IsLive (c.tasks t) → ⊥
 
   -- the request can be made: a Get has its answer, a Freeze finds its variable quiescent, and every other request is always ready (LVars: threshold reads block; LVish: freeze after, and here any freeze waits for the handlers of its variable)
   abbrev pub IsReady : State S E L → Request S R L → Type 0
   IsReady c (Get v r) = IsSome (M.answer r (c.content v))
-  IsReady c (Freeze v pools) = IsQuiet c v pools
+  IsReady c (Freeze v pools) = IsQuiescent c v pools
   IsReady c _ = Unit {0}
 
   -- a live task whose request is ready
@@ -95,7 +95,7 @@ module _ {S E R A L : Type 0} (M : Machine S E R A L) where
     pub variable : ℕ
     pub on : IsOn c h variable
     pub below : IsBelow M e (c.content variable)
-    pub unhandled : c.handled h e ≡ false
+    pub not_handed : c.handed h e ≡ false
 
   -- a task's step is enabled where its request is ready, a handing where the event is to be handed
   abbrev pub IsEnabled : State S E L → Label E → Type 0
@@ -183,9 +183,9 @@ with_frozen None frozen v = frozen v
 with_frozen (Some new) frozen v = nat_eq v new || frozen v
 
 -- what was handed to which handler, and one event more
-abbrev pub with_handled : {E : Type 0} → (E → E → Bool) → Option (Handler E × E) → (Handler E → E → Bool) → Handler E → E → Bool
-with_handled eq None handled h e = handled h e
-with_handled eq (Some new) handled h e = (same_handler eq h new.0 && eq e new.1) || handled h e
+abbrev pub with_handed : {E : Type 0} → (E → E → Bool) → Option (Handler E × E) → (Handler E → E → Bool) → Handler E → E → Bool
+with_handed eq None before h e = before h e
+with_handed eq (Some new) before h e = (same_handler eq h new.0 && eq e new.1) || before h e
 
 module _ {S E R A L : Type 0} (M : Machine S E R A L) where
   -- a state with a change made to it
@@ -195,7 +195,7 @@ module _ {S E R A L : Type 0} (M : Machine S E R A L) where
     frozen = with_frozen ch.froze c.frozen;
     tasks = with_task M.event_same ch.own (with_task M.event_same ch.made c.tasks);
     handlers = with_handler M.event_same ch.added c.handlers;
-    handled = with_handled M.event_same ch.handing c.handled;
+    handed = with_handed M.event_same ch.handing c.handed;
   }
 
   -- the configuration after a step that comes to this

@@ -16,12 +16,12 @@ module _ {S E R A L : Type 0} (M : Machine S E R A L) where
   RunsKeep = (holds : State S E L → Bool) → holds (start M) ≡ true → ((c d : State S E L) → IsStepOfRuns c d → holds c ≡ true → holds d ≡ true)
       → (ls : List (Label E)) (c : State S E L) → Reaches M ls c → holds c ≡ true
 
-  -- d has all that c has: contents grow, but what is frozen stays as it is; handlers, handled events and tasks stay, and ended tasks stay ended
+  -- d has all that c has: contents grow, but what is frozen stays as it is; handlers, handed events and tasks stay, and ended tasks stay ended
   pub record HasGrown (c d : State S E L) : Type 0 where
     pub contents : (v : ℕ) → IsAtOrBelow M.join (c.content v) (d.content v)
     pub frozen : (v : ℕ) → c.frozen v ≡ true → (d.frozen v ≡ true) × (d.content v ≡ c.content v)
     pub handlers : (h : Handler E) (post : Post) → c.handlers h ≡ Some post → d.handlers h ≡ Some post
-    pub handled : (h : Handler E) (e : E) → c.handled h e ≡ true → d.handled h e ≡ true
+    pub handed : (h : Handler E) (e : E) → c.handed h e ≡ true → d.handed h e ≡ true
     pub tasks : (t : Name E) → (c.tasks t ≡ Absent → ⊥) → d.tasks t ≡ Absent → ⊥
     pub ended : (t : Name E) → c.tasks t ≡ Ended → d.tasks t ≡ Ended
 

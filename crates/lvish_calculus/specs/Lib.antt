@@ -10,8 +10,8 @@ pub mod Independence
 pub mod Agreement
 pub mod Handing
 pub mod Live
-pub mod Waiting
+pub mod Blocked
 pub mod Examples
 pub mod ReachExample
-pub mod WaitingExamples
+pub mod BlockedExamples
 pub mod ErrorExamples

@@ -55,7 +55,7 @@ pub record SameState {S E R A L K : Type 0} (M : Machine S E R A L) (N : Machine
   pub frozen : (v : ℕ) → c.frozen v ≡ d.frozen v
   pub tasks : (t : Name E) → SameTask M N (c.tasks t) (d.tasks t)
   pub handlers : (h : Handler E) → c.handlers h ≡ d.handlers h
-  pub handled : (h : Handler E) (e : E) → c.handled h e ≡ d.handled h e
+  pub handed : (h : Handler E) (e : E) → c.handed h e ≡ d.handed h e
 
 -- the same states, or equal errors
 abbrev pub SameConfiguration : {S E R A L K : Type 0} → Machine S E R A L → Machine S E R A K → Configuration S E L → Configuration S E K → Type 0

@@ -5,7 +5,7 @@ ghost use Rattle.lvish_calculus.specs.Machine.{IsLawful, Conflict, Late, Deep};
 ghost use Rattle.lvish_names.specs.Names.{main};
 ghost use Rattle.lvish_calculus.specs.Examples.{EndsAs, over_sets};
 ghost use Rattle.lvish_calculus.specs.ErrorExamples.{MeetsError, IsDoomedAfter, IsUndoomedAfter, over_cells, two_numbers, one_writer, until_two, two_first, one_first};
-ghost use Rattle.lvish_calculus.specs.WaitingExamples.{until_fork};
+ghost use Rattle.lvish_calculus.specs.BlockedExamples.{until_fork};
 ghost use Rattle.lvish_calculus.specs.ErrorExamples.{late_handler, adder, freeze_first, add_first, add_first_end, chain, nested, forks_from};
 
 /// Two puts whose join is top are an error, by whichever task comes second.

@@ -5,7 +5,7 @@ ghost use Rattle.lvish_calculus.specs.Machine.{IsLawful};
 ghost use Rattle.lvish_calculus.specs.Calculus.{Running, start};
 ghost use Rattle.lvish_names.specs.Names.{Name};
 ghost use Rattle.lvish_calculus.specs.Handing.{HandingKept};
-ghost use Rattle.lvish_calculus.specs.Waiting.{WaitsForItsVariable, AllWait};
+ghost use Rattle.lvish_calculus.specs.Blocked.{IsWokenByItsVariable, AllAreBlocked};
 ghost use Rattle.lvish_calculus.specs.FreezeOrder.{AreComparable, freeze_order, CrossedByOrder, CrossOrComparable, CrossOrSameOrder};
 ghost use Rattle.lvish_calculus.specs.LeastModel.{EndsAreClosed, RunsAreLeast, FrozenDecides, PlaysAreTasks, EventsAreSupported, OnlyFrozenOrLate, ClosedNeverErrs};
 ghost use Rattle.lvish_calculus.specs.Agreement.{NeverAsksFreeze, AgreeOrErr, AllLeadToTheEnd, AgreeOrSomeErrs, AllLeadOrSomeErrs, CommuteOrErr, SameLabelsIf};
@@ -63,7 +63,7 @@ pub fn runs_keep<P: Program>()
 }
 
 /// A run that goes on only grows: contents rise, but those of frozen variables stay; frozen marks,
-/// handlers, handled events and tasks stay, and ended tasks stay ended.
+/// handlers, handed events and tasks stay, and ended tasks stay ended.
 pub fn runs_grow<P: Program>()
     ensures { (p : P) → RunsGrow (⟦<P as Meaning>⟧.machine p) }
 {
@@ -216,13 +216,13 @@ pub fn handing_kept<P: Program>()
 }
 
 /// What can wake a blocked task.
-pub fn waiting<P: Program>()
+pub fn wakes_by_variable<P: Program>()
     // A live task stays as it is at every step but its own, and only a put into the variable of
     // its get can wake it; or, for a freeze, an event that is handed on its variable, or the end
     // of a task that handles one.
-    ensures its_variable { (p : P) → WaitsForItsVariable (⟦<P as Meaning>⟧.machine p) }
+    ensures its_variable { (p : P) → IsWokenByItsVariable (⟦<P as Meaning>⟧.machine p) }
     // If every live task is blocked, no task can step.
-    ensures all { (p : P) → AllWait (⟦<P as Meaning>⟧.machine p) }
+    ensures all { (p : P) → AllAreBlocked (⟦<P as Meaning>⟧.machine p) }
 {
     lawful::<P>();
 }

@@ -7,6 +7,7 @@
 //! contracts are the laws, of every program and every run.
 #![tactic(auto)]
 
+pub mod blocked_examples;
 pub mod error_examples;
 pub mod examples;
 pub mod label;
@@ -14,7 +15,6 @@ pub mod laws;
 pub mod meaning;
 pub mod program;
 pub mod request;
-pub mod waiting_examples;
 
 pub use label::Label;
 pub use meaning::Meaning;

@@ -2,6 +2,7 @@ pub mod Answers
 pub mod Checked
 pub mod Commands
 pub mod Derivations
+pub mod Explained
 pub mod Graphs
 pub mod Layouts
 pub mod Lines
@@ -13,4 +14,3 @@ pub mod Runs
 pub mod Statuses
 pub mod Streams
 pub mod Tries
-pub mod Why

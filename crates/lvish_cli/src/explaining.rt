@@ -2,7 +2,7 @@
 
 ghost use Rattle.std.specs.Prelude.{IfOk, IfSome, Some};
 ghost use Rattle.lvish_cli.specs.Streams.{text_seen};
-ghost use Rattle.lvish_cli.specs.Why.{IsWhy};
+ghost use Rattle.lvish_cli.specs.Explained.{IsWhy};
 
 use crate::performing::Left;
 use crate::reading::read_text;

@@ -26,7 +26,7 @@ mod writing;
 pub use answering::answer_to;
 pub use explaining::{why_of_text, why_read};
 pub use order::{
-    CheckOrder, GraphOrder, Numbers, Order, PickOrder, Picks, RunOrder, Source, TryOrder,
+    CheckOrder, GraphOrder, NumberWords, Order, PickOrder, Picks, RunOrder, Source, TryOrder,
     UsageFault, WhyOrder,
 };
 pub use output::Output;

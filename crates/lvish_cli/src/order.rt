@@ -9,7 +9,7 @@ use thiserror::Error;
 pub type Picks = Items<u64>;
 
 /// Numbers of an event and of picks, as words give them.
-pub type Numbers = Items<i64>;
+pub type NumberWords = Items<i64>;
 
 /// What the words ask for.
 #[derive(Debug)]
@@ -143,7 +143,7 @@ pub struct WhyOrder {
     /// The name of the variable that has it.
     pub variable: String,
     /// Its key, where the variable's kind has keys, its number, and the picks.
-    pub numbers: Numbers,
+    pub numbers: NumberWords,
     /// After this many steps the run is stopped.
     pub budget: u64,
     /// How many causes deep a tree is printed.

@@ -9,7 +9,7 @@ use crate::order::{Order, Source, UsageFault};
 use crate::performing::performed;
 use crate::status::Status;
 use crate::telling::{Hearer, Telling};
-use crate::words::{Asked, asked_by};
+use crate::words::{Words, asked_by};
 use crate::writing::write_answer;
 use lvish_run::RunMeaning;
 use lvish_syntax::Script;
@@ -24,7 +24,7 @@ use std::{fs, io, mem};
 #[derive(Drop)]
 pub struct Ending {
     pub status: Status,
-    pub told: Option<Vec<u8>>,
+    pub explained: Option<Vec<u8>>,
 }
 
 /// Does what the words ask, from the file that they name, or from standard input, to standard output.
@@ -66,7 +66,10 @@ pub fn command_with<T: AllocGlobal + Files + Threads + Wait + Sync, S: AsStr, R:
     // Having no words is no misuse.
     ensures usage { words.now ≡ [] → status_number result ≢ 2 }
 {
-    let Ending { status, told: _ } = commanded(rt, words, Hearer::Stream, input, output);
+    let Ending {
+        status,
+        explained: _,
+    } = commanded(rt, words, Hearer::Stream, input, output);
     status
 }
 
@@ -83,7 +86,7 @@ fn commanded<T: AllocGlobal + Files + Threads + Wait + Sync, S: AsStr, R: Read, 
     ensures usage { words.now ≡ [] → status_number result.status ≢ 2 }
 {
     match asked_by(rt.alloc(), words) {
-        Ok(Asked { order, source, why }) => {
+        Ok(Words { order, source, why }) => {
             // (of a text that is formatted a fault says nothing)
             let why = if order.asks_format() {
                 Some(false)
@@ -95,7 +98,7 @@ fn commanded<T: AllocGlobal + Files + Threads + Wait + Sync, S: AsStr, R: Read, 
         }
         Err(fault) => Ending {
             status: tell(output, fault),
-            told: None,
+            explained: None,
         },
     }
 }
@@ -146,11 +149,11 @@ fn perform_file<T: AllocGlobal + Files + Threads + Wait + Sync, W: Write>(
         Ok(mut file) => perform_last(rt, order, path, telling, &mut file, output),
         Err(error) if error.kind() == ErrorKind::OutOfMemory => Ending {
             status: Status::Memory,
-            told: None,
+            explained: None,
         },
         Err(error) => Ending {
             status: Status::Unreadable,
-            told: unreadable(rt.alloc(), path, &error),
+            explained: unreadable(rt.alloc(), path, &error),
         },
     }
 }
@@ -171,7 +174,7 @@ fn perform_last<T: AllocGlobal + Threads + Wait + Sync, R: Read, W: Write>(
         (W.contents writer.old) (W.contents writer.new) result.status }
 {
     let (status, left) = performed(rt, rt.alloc(), order, reader, writer);
-    let told = told_of(rt.alloc(), path, &left, telling);
+    let explained = told_of(rt.alloc(), path, &left, telling);
     mem::forget(left);
-    Ending { status, told }
+    Ending { status, explained }
 }

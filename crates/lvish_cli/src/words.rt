@@ -5,7 +5,7 @@ use crate::commands::{
     CommandKind, USUAL_DEPTH, USUAL_SEED, USUAL_STEPS, USUAL_TIMES, USUAL_WORKERS, kind_of, program,
 };
 use crate::order::{
-    CheckOrder, GraphOrder, Numbers, Order, PickOrder, Picks, RunOrder, Source, TryOrder,
+    CheckOrder, GraphOrder, NumberWords, Order, PickOrder, Picks, RunOrder, Source, TryOrder,
     UsageFault, WhyOrder,
 };
 use clap::error::ErrorKind;
@@ -16,7 +16,7 @@ use std::convert::AsStr;
 
 /// What words ask for.
 #[derive(Drop)]
-pub struct Asked {
+pub struct Words {
     pub order: Order,
     /// Where the script is.
     pub source: Source,
@@ -31,7 +31,7 @@ pub fn order_of<S: AsStr>(alloc: Global, words: &[S]) -> Result<(Order, Source),
     ensures none { words.now ≡ [] → IsOkAnd result (λ asked.
         (asked.0 ≡ Order.Run usual_run) × (asked.1 ≡ Source.StandardInput)) }
 {
-    let Asked {
+    let Words {
         order,
         source,
         why: _,
@@ -40,7 +40,7 @@ pub fn order_of<S: AsStr>(alloc: Global, words: &[S]) -> Result<(Order, Source),
 }
 
 /// The order that the words give, where its script is, and whether they speak of explanations.
-pub(crate) fn asked_by<S: AsStr>(alloc: Global, words: &[S]) -> Result<Asked, UsageFault>
+pub(crate) fn asked_by<S: AsStr>(alloc: Global, words: &[S]) -> Result<Words, UsageFault>
     ensures within { IfOk result (λ asked. IsInBounds asked.order) }
     ensures none { words.now ≡ [] → IsOkAnd result (λ asked.
         (asked.order ≡ Order.Run usual_run) × (asked.source ≡ Source.StandardInput)) }
@@ -54,7 +54,7 @@ pub(crate) fn asked_by<S: AsStr>(alloc: Global, words: &[S]) -> Result<Asked, Us
             picks: false,
             json: false,
         });
-        return Ok(Asked {
+        return Ok(Words {
             order,
             source: Source::StandardInput,
             why: None,
@@ -68,14 +68,14 @@ pub(crate) fn asked_by<S: AsStr>(alloc: Global, words: &[S]) -> Result<Asked, Us
 }
 
 /// What words that match ask for.
-fn asked_of(alloc: Global, matches: &ArgMatches<'_>) -> Result<Asked, UsageFault>
+fn asked_of(alloc: Global, matches: &ArgMatches<'_>) -> Result<Words, UsageFault>
     ensures { IfOk result (λ asked. IsInBounds asked.order) }
 {
     let Some((command, words)) = matches.subcommand() else {
         return Err(UsageFault::Refused(String::new(alloc)));
     };
     let order = order_by(alloc, command, words)?;
-    Ok(Asked {
+    Ok(Words {
         order,
         source: source_of(alloc, words)?,
         why: words.get_str("why").map(|asked| asked == "yes"),
@@ -205,7 +205,7 @@ fn picks_of(alloc: Global, words: &ArgMatches<'_>) -> Result<Picks, AllocError> 
 }
 
 /// The numbers of an event and of picks that are given.
-fn numbers_of(alloc: Global, words: &ArgMatches<'_>) -> Result<Numbers, AllocError> {
+fn numbers_of(alloc: Global, words: &ArgMatches<'_>) -> Result<NumberWords, AllocError> {
     let mut numbers = Vec::new(alloc);
     if let Some(given) = words.get_many::<i64>("numbers") {
         for number in given {
@@ -214,7 +214,7 @@ fn numbers_of(alloc: Global, words: &ArgMatches<'_>) -> Result<Numbers, AllocErr
             }
         }
     }
-    Ok(Numbers::from(numbers))
+    Ok(NumberWords::from(numbers))
 }
 
 /// Help that was asked for, or why words are refused.

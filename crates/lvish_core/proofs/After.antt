@@ -11,7 +11,7 @@ use Rattle.lvish_picture.specs.Picture.{table_picture}
 use Rattle.lvish_core.specs.After.{OthersStay, StartsAsSaid}
 use Rattle.lvish_core.specs.Changes.{local_of, moved_by, moved_in}
 use Rattle.lvish_core.specs.Core.{CoreView, state, picture, at_fault, says, IsStep}
-use Rattle.lvish_core.specs.Waiting.{WaitsUntilTouched}
+use Rattle.lvish_core.specs.Blocked.{IsBlockedUntilTouched}
 use Rattle.lvish_core.specs.laws.Runs.{no_error_before, at_state, running_same}
 
 -- a task with a local state is live
@@ -47,7 +47,7 @@ module _ {P S E R A L : Type 0} (M : Machine S E R A L) where
       by DoneStep e z = absurd z
       by (ErrorStep kind) e z = step.shows_before kind e
 
-  pub others_stay : WaitsUntilTouched P M → OthersStay P M
+  pub others_stay : IsBlockedUntilTouched P M → OthersStay P M
   others_stay until c d xs l said run step t at is ne = by d.fault refl
     where
       by : (o : Option (RunError E)) → d.fault ≡ o → local_of ((state M d).tasks t) ≡ Some at

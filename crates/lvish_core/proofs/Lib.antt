@@ -28,7 +28,7 @@ pub mod Listed
 pub mod Ended
 pub mod Begins
 pub mod Takes
-pub mod Waiting
+pub mod Blocked
 pub mod Spotted
 pub mod Staged
 pub mod After

@@ -5,7 +5,7 @@ use Rattle.std.proofs.lemmas.Option.{same_Some, slice_get_read, slice_get_within
 use Rattle.std.proofs.lemmas.List.Elements.{Contains-get_or}
 use Rattle.lvish_core.specs.Vocabulary.{Get, Freeze, HandlerPlace}
 use Rattle.lvish_calculus.specs.Machine.{Machine, IsOf}
-use Rattle.lvish_calculus.specs.Calculus.{IsReady, IsQuiet}
+use Rattle.lvish_calculus.specs.Calculus.{IsReady, IsQuiescent}
 use Rattle.lvish_names.specs.Names.{Handler}
 use Rattle.lvish_variable.specs.Variable.{VariableView as Variable}
 use Rattle.lvish_handlers.specs.Handlers.{HandlersView as Handlers, IsWithin}
@@ -35,7 +35,7 @@ module _ {P S E R A L : Type 0} (M : Machine S E R A L) (n running : ℕ) (place
   counted_pools v hs lt is pools of i d less = (k.counted v hs (get_or pools i d) (beside v hs lt is) (of (get_or pools i d) (Contains-get_or pools i d less))).0
 
   module _ (quiet : FreezesByCounts M) (v : ℕ) (x : Variable S E) (hs : Handlers E) (lt : v < n) (at : x ≡ get_or c.table.variables v x) (by : hs ≡ get_or c.table.handlers v hs) (pools : List ℕ) (of : IsOf M pools v) where
-    told : (All (λ h. h.handed ≡ length x.log) hs.held × All (λ p. slice_index hs.running p ≡ 0) pools) ↔ IsQuiet M (state M c) v pools
+    told : (All (λ h. h.handed ≡ length x.log) hs.held × All (λ p. slice_index hs.running p ≡ 0) pools) ↔ IsQuiescent M (state M c) v pools
     told = quiet k.standing.run c.table v x hs pools k.standing.pictured k.counted (there v x lt at) (beside v hs lt by) of
 
     -- a freeze is ready where the handlers were handed the whole log and no task runs in the pools

@@ -12,7 +12,7 @@ use Rattle.lvish_core.specs.Kept.{IsKept}
 use Rattle.lvish_core.specs.Changes.{local_of, IsMoved}
 use Rattle.lvish_variable.specs.Variable.{VariableView as Variable}
 use Rattle.lvish_core.specs.Reads.{AreStates, IsDrainedAt}
-use Rattle.lvish_core.specs.Waiting.{NoneFreezes}
+use Rattle.lvish_core.specs.Blocked.{NoneFreezes}
 use Rattle.lvish_core.specs.Core.{CoreView, CanTake, IsStep, IsStepRefused, state, at_fault, picture}
 use Rattle.lvish_core.specs.Acts.{IsAsked, IsActing, ActsIfReady}
 use Rattle.lvish_picture.proofs.Slots.{get_there}

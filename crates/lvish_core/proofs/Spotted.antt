@@ -12,15 +12,15 @@ use Rattle.lvish_variable.specs.Variable.{logged}
 use Rattle.lvish_core.specs.Changes.{brought}
 use Rattle.lvish_core.specs.Core.{state, IsRunTo}
 use Rattle.lvish_core.specs.laws.Runs.{content_at}
-use Rattle.lvish_core.specs.Spots.{PassesAtItsSpot}
+use Rattle.lvish_core.specs.Spots.{WakesAtItsSpot}
 
 module _ {S E R A L : Type 0} (M : Machine S E R A L) (ok : IsLawful M) where
   member : (s : S) (e : E) → Decides (is_member M.event_same (M.events s) e) (Contains (M.events s) e)
   member s = is_member-Decides (λ a b. ((ok.event_same_is a b).0, (ok.event_same_is a b).1)) (M.events s)
 
 module _ {P S E R A L W : Type 0} (M : Machine S E R A L) (ok : IsLawful M) (spot_of : E → W) (watched : R → Option W) (waits : IsWatched M.event_same M.events spot_of watched M.answer) where
-  pub passes_at_its_spot : PassesAtItsSpot P M spot_of watched
-  passes_at_its_spot c d xs l said run step v x y at_x at_y r w is none a some =
+  pub wakes_at_its_spot : WakesAtItsSpot P M spot_of watched
+  wakes_at_its_spot c d xs l said run step v x y at_x at_y r w is none a some =
       let b = waits r w is x.state y.state a none some in
       let run_d : IsRunTo M d (xs ++ l ∷ []) = step.leads xs run in
       let there : Contains (M.events y.state) b.event = (member M ok y.state b.event).0 b.there in

@@ -12,7 +12,7 @@ pub mod Acts
 pub mod Handed
 pub mod Beside
 pub mod CoreLaws
-pub mod Waiting
+pub mod Blocked
 pub mod Spots
 pub mod After
 pub mod laws

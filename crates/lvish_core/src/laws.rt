@@ -2,10 +2,10 @@
 
 ghost use Rattle.lvish_core.specs.After.{OthersStay, StartsAsSaid};
 ghost use Rattle.lvish_core.specs.CoreLaws.{TakesCoreRuns, TakesSomething, HandsToEach, HandsOneEvent, HandsWhatComes, EntriesNameTheirPuts, PutsHaveTheirEntries};
-ghost use Rattle.lvish_core.specs.Spots.{PassesAtItsSpot};
-ghost use Rattle.lvish_core.specs.Waiting.{WaitsUntilTouched, EndsByCounts};
+ghost use Rattle.lvish_core.specs.Spots.{WakesAtItsSpot};
+ghost use Rattle.lvish_core.specs.Blocked.{IsBlockedUntilTouched, EndsByCounts};
 
-use lvish_calculus::laws::{handing_kept, lawful, waiting};
+use lvish_calculus::laws::{handing_kept, lawful, wakes_by_variable};
 use lvish_calculus::{Meaning, Program};
 use lvish_picture::laws::{ends_by_cursors, handed_next, handlers_are_held, ordered};
 
@@ -51,14 +51,14 @@ pub fn hands_one_event<P: Program>()
 }
 
 /// Which steps can wake a blocked task, and what shows an end.
-pub fn waiting_tasks<P: Program>()
+pub fn blocked_tasks<P: Program>()
     // Only a step that concerned its variable can wake a blocked task.
-    ensures until_touched { (p : P) → WaitsUntilTouched P (⟦<P as Meaning>⟧.machine p) }
+    ensures until_touched { (p : P) → IsBlockedUntilTouched P (⟦<P as Meaning>⟧.machine p) }
     // If every running task is blocked, the cursors show whether this is an end.
     ensures ends { (p : P) → EndsByCounts P (⟦<P as Meaning>⟧.machine p) }
 {
     lawful::<P>();
-    waiting::<P>();
+    wakes_by_variable::<P>();
     ends_by_cursors::<P>();
 }
 
@@ -69,14 +69,14 @@ pub fn tasks_after<P: Program>()
     // One that starts is in the local state that the step says.
     ensures made { (p : P) → StartsAsSaid P (⟦<P as Meaning>⟧.machine p) }
 {
-    waiting_tasks::<P>();
+    blocked_tasks::<P>();
     lawful::<P>();
 }
 
 /// A step wakes a get that waits at a spot only where it brings an event of this spot to the log of
 /// the get's variable.
-pub fn passes_at_its_spot<P: Program>()
-    ensures { (p : P) → PassesAtItsSpot P (⟦<P as Meaning>⟧.machine p) P.Lat.spot_of P.Lat.watched }
+pub fn wakes_at_its_spot<P: Program>()
+    ensures { (p : P) → WakesAtItsSpot P (⟦<P as Meaning>⟧.machine p) P.Lat.spot_of P.Lat.watched }
 {
     lawful::<P>();
 }

@@ -7,7 +7,7 @@ use crate::handler_place::HandlerPlace;
 /// What the last step concerned, as far as something else may wait for it.
 ///
 /// A blocked task has to be asked again only after a step that concerned its variable
-/// ([`waiting_tasks`](crate::laws::waiting_tasks)).
+/// ([`blocked_tasks`](crate::laws::blocked_tasks)).
 #[derive(Clone, Copy, Debug, PartialEq, Eq)]
 pub enum Touched {
     /// A put into this variable.

@@ -7,7 +7,7 @@
 //! ```
 //! let main = TaskName::<i64>::main();
 //! let handler = HandlerName::new(&main, 1)?;
-//! let task = TaskName::handled(alloc, &handler, &3)?;
+//! let task = TaskName::handed(alloc, &handler, &3)?;
 //! assert_eq!(rt; task.text(alloc)?.as_str(), "main/h1:0:3");
 //! ```
 #![tactic(auto)]

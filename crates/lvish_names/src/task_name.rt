@@ -127,7 +127,7 @@ impl<E: Plain> TaskName<E> {
     /// # Errors
     ///
     /// Where there is no room for the new name.
-    pub fn handled(
+    pub fn handed(
         alloc: Global,
         handler: &HandlerName<E>,
         event: &E,

@@ -6,7 +6,7 @@ ghost use Rattle.lvish_outcome.specs.Outcome.{count_of};
 use crate::find_command::command_at;
 use crate::find_standing::standing_of;
 use crate::find_trouble::Said;
-use crate::standing::Standing;
+use crate::standing::StandingText;
 use crate::told::{BlockedTold, LineCount};
 use crate::wait::Wait;
 use lvish_compound::Event;
@@ -43,7 +43,7 @@ fn wait_of<'b>(
     script: &'b Script,
     told: &Told<'_, '_>,
     live: &Live,
-    standing: &Standing<'b>,
+    standing: &StandingText<'b>,
 ) -> Result<Wait<'b>, AllocError> {
     let Some(command) = command_at(alloc, lines, standing.line)? else {
         return Ok(Wait::Other);

@@ -2,10 +2,10 @@
 
 ghost use Rattle.std.specs.Prelude.{◌≡◌, IfOk};
 
-use crate::standing::{Call, Local, Standing};
+use crate::standing::{CallText, LocalText, StandingText};
 use lvish_compound::Event;
 use lvish_names::TaskName;
-use lvish_retrace::{Standing as Stand, ToldProcedure};
+use lvish_retrace::{Standing, ToldProcedure};
 use std::alloc::{AllocError, Global};
 
 /// The name of the procedure with this number.
@@ -20,8 +20,8 @@ fn name_at<'t>(procedures: &[ToldProcedure<'t>], number: usize) -> &'t [u8] {
 fn locals_of<'t>(
     alloc: Global,
     procedures: &[ToldProcedure<'t>],
-    stand: &Stand,
-) -> Result<Vec<Local<'t>>, AllocError> {
+    stand: &Standing,
+) -> Result<Vec<LocalText<'t>>, AllocError> {
     let mut locals = Vec::new(alloc);
     let Some(procedure) = procedures.get(stand.procedure) else {
         return Ok(locals);
@@ -32,7 +32,7 @@ fn locals_of<'t>(
         .iter()
         .zip(stand.values.as_slice())
     {
-        locals.push(Local {
+        locals.push(LocalText {
             name,
             value: *value,
         })?;
@@ -42,7 +42,7 @@ fn locals_of<'t>(
 
 /// A call, behind others.
 fn push_call<'t>(
-    calls: &mut Vec<Call<'t>>,
+    calls: &mut Vec<CallText<'t>>,
     procedure: &'t [u8],
     line: usize,
 ) -> Result<(), AllocError> {
@@ -52,7 +52,7 @@ fn push_call<'t>(
             Ok(())
         }
         _ => {
-            calls.push(Call {
+            calls.push(CallText {
                 procedure,
                 line,
                 times: 1,
@@ -66,8 +66,8 @@ fn push_call<'t>(
 fn calls_of<'t>(
     alloc: Global,
     procedures: &[ToldProcedure<'t>],
-    stand: &Stand,
-) -> Result<Vec<Call<'t>>, AllocError> {
+    stand: &Standing,
+) -> Result<Vec<CallText<'t>>, AllocError> {
     let mut calls = Vec::new(alloc);
     for call in stand.calls.as_slice().iter().rev() {
         push_call(&mut calls, name_at(procedures, call.procedure), call.line)?;
@@ -80,12 +80,12 @@ pub fn standing_of<'a>(
     alloc: Global,
     procedures: &[ToldProcedure<'a>],
     task: &'a TaskName<Event>,
-    stand: &Stand,
-) -> Result<Standing<'a>, AllocError>
+    stand: &Standing,
+) -> Result<StandingText<'a>, AllocError>
     ensures task { IfOk result (λ s. s.task.now ≡ task.now) }
     ensures line { IfOk result (λ s. s.line ≡ stand.now.line) }
 {
-    Ok(Standing {
+    Ok(StandingText {
         task,
         procedure: name_at(procedures, stand.procedure),
         line: stand.line,

@@ -7,7 +7,7 @@ ghost use Rattle.lvish_outcome.specs.Rests.{Says};
 
 use crate::spot::Spot;
 use crate::spots::{spot_named, spot_of_pool};
-use crate::standing::Local;
+use crate::standing::LocalText;
 use crate::trouble::{Sum, Trouble};
 use crate::values::value_of;
 use lvish_calculus::ErrorKind;
@@ -20,7 +20,7 @@ use lvish_syntax::{Command, Declaration, Identifier, LetValue, Term, Threshold, 
 pub struct Said<'b, 'a> {
     pub command: &'b Command,
     pub declarations: &'a [Declaration],
-    pub locals: &'b [Local<'a>],
+    pub locals: &'b [LocalText<'a>],
 }
 
 impl<'a> Said<'_, 'a> {

@@ -9,14 +9,14 @@ use std::alloc::{AllocError, Global};
 
 /// A local, and its value.
 #[derive(Clone, Copy)]
-pub struct Local<'a> {
+pub struct LocalText<'a> {
     pub name: &'a [u8],
     pub value: i64,
 }
 
 /// The procedure that calls, the line of the call, and how many calls of that line follow each other.
 #[derive(Clone, Copy)]
-pub struct Call<'a> {
+pub struct CallText<'a> {
     pub procedure: &'a [u8],
     pub line: usize,
     pub times: usize,
@@ -24,18 +24,18 @@ pub struct Call<'a> {
 
 /// Where a task stands: the procedure that it is in, the line there, and its locals; then the calls that
 /// led there, the innermost first.
-pub struct Standing<'a> {
+pub struct StandingText<'a> {
     pub task: &'a TaskName<Event>,
     pub procedure: &'a [u8],
     pub line: usize,
-    pub locals: Vec<Local<'a>>,
-    pub calls: Vec<Call<'a>>,
+    pub locals: Vec<LocalText<'a>>,
+    pub calls: Vec<CallText<'a>>,
 }
 
 // Written out, so that it is proved once, and not at each exit of a function that owns one.
-impl Drop for Standing<'_> {
+impl Drop for StandingText<'_> {
     fn drop(self) {
-        let Standing {
+        let StandingText {
             task: _,
             procedure: _,
             line: _,
@@ -50,7 +50,7 @@ fn push_local(
     alloc: Global,
     text: &mut Vec<u8>,
     before: &str,
-    local: &Local<'_>,
+    local: &LocalText<'_>,
 ) -> Result<(), AllocError>
     ensures { OnOk result (text.new.items ≡ text.old.items ++ local_text before.now local.now) }
 {
@@ -62,7 +62,11 @@ fn push_local(
 }
 
 /// The locals, if there are any.
-fn push_locals(alloc: Global, text: &mut Vec<u8>, locals: &[Local<'_>]) -> Result<(), AllocError>
+fn push_locals(
+    alloc: Global,
+    text: &mut Vec<u8>,
+    locals: &[LocalText<'_>],
+) -> Result<(), AllocError>
     ensures { OnOk result (text.new.items ≡ text.old.items ++ locals_text locals.now) }
 {
     let [first, rest @ ..] = locals else {
@@ -102,7 +106,7 @@ fn times_text(alloc: Global, times: usize) -> Result<String, AllocError>
 
 /// The line of a call.
 #[tactic(auto, unfolding(crate::specs::Standing::called_line))]
-fn push_called(alloc: Global, text: &mut Vec<u8>, call: &Call<'_>) -> Result<(), AllocError>
+fn push_called(alloc: Global, text: &mut Vec<u8>, call: &CallText<'_>) -> Result<(), AllocError>
     ensures { OnOk result (text.new.items ≡ text.old.items ++ called_line call.now) }
 {
     let times = times_text(alloc, call.times)?;
@@ -114,7 +118,7 @@ fn push_called(alloc: Global, text: &mut Vec<u8>, call: &Call<'_>) -> Result<(),
 }
 
 /// The lines of calls.
-fn push_calls(alloc: Global, text: &mut Vec<u8>, calls: &[Call<'_>]) -> Result<(), AllocError>
+fn push_calls(alloc: Global, text: &mut Vec<u8>, calls: &[CallText<'_>]) -> Result<(), AllocError>
     ensures { OnOk result (text.new.items ≡ text.old.items ++ called_lines calls.now) }
 {
     for call in calls {
@@ -124,7 +128,7 @@ fn push_calls(alloc: Global, text: &mut Vec<u8>, calls: &[Call<'_>]) -> Result<(
 }
 
 /// The task, its procedure and its line.
-fn push_at(alloc: Global, text: &mut Vec<u8>, standing: &Standing<'_>) -> Result<(), AllocError>
+fn push_at(alloc: Global, text: &mut Vec<u8>, standing: &StandingText<'_>) -> Result<(), AllocError>
     ensures { OnOk result (text.new.items ≡ text.old.items ++ at_text standing.now) }
 {
     let task = standing.task;
@@ -138,7 +142,7 @@ fn push_at(alloc: Global, text: &mut Vec<u8>, standing: &Standing<'_>) -> Result
 pub fn push_standing(
     alloc: Global,
     text: &mut Vec<u8>,
-    standing: &Standing<'_>,
+    standing: &StandingText<'_>,
 ) -> Result<(), AllocError>
     ensures { OnOk result (text.new.items ≡ text.old.items ++ standing_text standing.now) }
 {

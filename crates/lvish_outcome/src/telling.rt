@@ -3,7 +3,7 @@
 ghost use Rattle.std.specs.Prelude.{◌≡◌, ◌++◌, IfOk, OnOk, map, string_bytes};
 ghost use Rattle.lvish_outcome.specs.Telling.{marked_text, at_word, does_text, one_waits, many_wait, waits_text, error_text, blocked_text, blocked_texts, made_text, steps_text, steps_texts};
 
-use crate::standing::{Standing, push_standing};
+use crate::standing::{StandingText, push_standing};
 use crate::told::{BlockedTold, ErrorTold, LineCount};
 use crate::trouble::Trouble;
 use crate::wait::Wait;

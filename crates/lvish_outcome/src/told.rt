@@ -1,11 +1,11 @@
 use crate::earlier::Earlier;
-use crate::standing::Standing;
+use crate::standing::StandingText;
 use crate::trouble::Trouble;
 use crate::wait::Wait;
 
 /// What is told of an error.
 pub struct ErrorTold<'a> {
-    pub standing: Standing<'a>,
+    pub standing: StandingText<'a>,
     pub trouble: Trouble<'a>,
     /// The word of the line at which the carets stand, from 0.
     pub word: usize,
@@ -28,7 +28,7 @@ impl Drop for ErrorTold<'_> {
 /// and what it waits for.
 pub struct BlockedTold<'a> {
     pub count: usize,
-    pub standing: Standing<'a>,
+    pub standing: StandingText<'a>,
     pub wait: Wait<'a>,
 }
 

@@ -1,10 +1,10 @@
 //! What the terms of a line come to.
 
-use crate::standing::Local;
+use crate::standing::LocalText;
 use lvish_syntax::Term;
 
 /// The value of the local of this name.
-fn value_named(locals: &[Local<'_>], name: &[u8]) -> Option<i64> {
+fn value_named(locals: &[LocalText<'_>], name: &[u8]) -> Option<i64> {
     for local in locals {
         if local.name == name {
             return Some(local.value);
@@ -14,7 +14,7 @@ fn value_named(locals: &[Local<'_>], name: &[u8]) -> Option<i64> {
 }
 
 /// The value of a term.
-pub fn value_of(locals: &[Local<'_>], term: &Term) -> Option<i64> {
+pub fn value_of(locals: &[LocalText<'_>], term: &Term) -> Option<i64> {
     match term {
         Term::Local(name) => value_named(locals, name.as_str().as_bytes()),
         Term::Number(number) => Some(*number),

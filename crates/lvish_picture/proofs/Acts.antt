@@ -26,12 +26,12 @@ use Rattle.lvish_variable.specs.Variable.{VariableView as Variable, logged}
 use Rattle.lvish_variable.proofs.Kept.{logged-append}
 use Rattle.lvish_handlers.specs.declared.held.Held.{Held}
 use Rattle.lvish_handlers.specs.Handlers.{HandlersView as Handlers}
-use Rattle.lvish_picture.specs.Picture.{Table, HandlerAtLog, seats, seats_at, table_picture, task_of, post_in, handled_in, IsTable, IsPictured}
+use Rattle.lvish_picture.specs.Picture.{Table, HandlerAtLog, seats, seats_at, table_picture, task_of, post_in, handed_in, IsTable, IsPictured}
 use Rattle.lvish_picture.specs.Steps.{IsPutStep, IsFreezeStep, IsAddStep, IsPlainStep, IsErring}
 use Rattle.lvish_picture.specs.Laws.{IsOrdered, IsTableStep, ActKept, ErrorsAreSteps}
 use Rattle.lvish_picture.proofs.Kept.{Fresh, same_state, none_fresh, unchanged, one_grown, act_kept, act_errs, reheld}
 use Rattle.lvish_picture.proofs.Seats.{Place, place, middle, all_among, among_left}
-use Rattle.lvish_picture.proofs.Handed.{names_at, handled_longer, post_longer, handled_added, post_added, once_added, name_known}
+use Rattle.lvish_picture.proofs.Handed.{names_at, was_handed_longer, post_longer, handed_added, post_added, once_added, name_known}
 use Rattle.lvish_picture.proofs.Slots.{field_at, field_set, field_kept, field_other, contained, among, among_filter}
 use Rattle.lvish_picture.proofs.Tables.{logged_len, handlers_there, table_variable, table_handlers, table_held}
 
@@ -50,13 +50,13 @@ module _ {S E R A L : Type 0} (M : Machine S E R A L) (ok : IsLawful M) where
         ∙ post_longer M.event_same at.before (logged x.log) (logged y.log) hs.0.held at.after g
         ∙ sym (ap (λ l. post_in M.event_same l g) at.there)
 
-    handed_longer : (g : Handler E) (e : E) → handled_in M.event_same (seats (slice_set c.variables v y) c.handlers) g e ≡ handled_in M.event_same (seats c.variables c.handlers) g e
+    handed_longer : (g : Handler E) (e : E) → handed_in M.event_same (seats (slice_set c.variables v y) c.handlers) g e ≡ handed_in M.event_same (seats c.variables c.handlers) g e
     handed_longer g e =
-        ap (λ l. handled_in M.event_same l g e) (at.variable y)
-        ∙ ap (λ l. handled_in M.event_same (at.before ++ (seats_at l hs.0.held ++ at.after)) g e) longer
-        ∙ handled_longer M.event_same at.before (logged x.log) fs hs.0.held at.after g e
+        ap (λ l. handed_in M.event_same l g e) (at.variable y)
+        ∙ ap (λ l. handed_in M.event_same (at.before ++ (seats_at l hs.0.held ++ at.after)) g e) longer
+        ∙ was_handed_longer M.event_same at.before (logged x.log) fs hs.0.held at.after g e
         (λ h i. let le = all_among (λ (q : Held E). q.handed ≤ length x.log) h hs.0.held (k.within v x hs.0 was hs.1) i in let q = logged_len x.log in omega (arith, le, q))
-        ∙ sym (ap (λ l. handled_in M.event_same l g e) at.there)
+        ∙ sym (ap (λ l. handed_in M.event_same l g e) at.there)
 
   -- a filter of what wasn't below is what is fresh
   module _ (ord : IsOrdered M) (c d : State S E L) (v : ℕ) (a b put : S) (joined : M.join a put ≡ Some b) (was : c.content v ≡ a) (now : d.content v ≡ b) where
@@ -192,9 +192,9 @@ module _ {S E R A L : Type 0} (M : Machine S E R A L) (ok : IsLawful M) where
       ∙ sym (post_added M.event_same ok.event_same_is before after_it seat g (λ z. new (names_left name before after_it z)))
       ∙ ap (λ l. post_in M.event_same l g) (sym now)))
       (fun_ext (λ g. fun_ext (λ y.
-      ap (λ l. handled_in M.event_same l g y) there
-      ∙ sym (handled_added M.event_same before after_it seat g y refl)
-      ∙ ap (λ l. handled_in M.event_same l g y) (sym now)))) in
+      ap (λ l. handed_in M.event_same l g y) there
+      ∙ sym (handed_added M.event_same before after_it seat g y refl)
+      ∙ ap (λ l. handed_in M.event_same l g y) (sym now)))) in
       let once : NoRepeats (names_at (seats c.variables hss)) = subst (λ l. NoRepeats (names_at l)) (sym now) (once_added before after_it seat (subst (λ l. NoRepeats (names_at l)) there k.table.once) new) in
       let r : IsTableStep M c xs (Act t) e = act_kept M ok c xs t s.local s.forks s.adds s.puts (Add s.pool s.procedure) k s.asking tt e ch does is
       (λ w x at. unchanged M ok c e w x refl at)

@@ -24,7 +24,7 @@ use Rattle.lvish_picture.proofs.Handed.{names_at, post_found}
 use Rattle.lvish_picture.proofs.Slots.{get_there, among, cases_3, in_take, contained}
 use Rattle.lvish_picture.proofs.Acts.{new_name}
 use Rattle.lvish_picture.proofs.Tables.{logged_len}
-use Rattle.lvish_picture.proofs.Hands.{post_is, on_is, handled_is, next_unhandled, next_below, next_enabled, next_core, next_is}
+use Rattle.lvish_picture.proofs.Hands.{post_is, on_is, handed_is, next_not_handed, next_below, next_enabled, next_core, next_is}
 
 -- whose name it is
 named : {E : Type 0} (held : List (Held E)) (n : Handler E) → IsAmong n (names held) → (h : Held E) × IsAmong h held × (h.name ≡ n)
@@ -50,7 +50,7 @@ module _ {S E R A L : Type 0} (M : Machine S E R A L) (ok : IsLawful M) where
         ],
         λ h e en. elim (cases_absent (task_of M.event_same c.tasks (handed h.adder h.number e))) [
           | inl q ↦ q
-          | inr there ↦ absurd (both_ways _ en.unhandled (sound.hands_known h.adder h.number e there))
+          | inr there ↦ absurd (both_ways _ en.not_handed (sound.hands_known h.adder h.number e there))
         ],
       )
 
@@ -62,12 +62,12 @@ module _ {S E R A L : Type 0} (M : Machine S E R A L) (ok : IsLawful M) where
     order : IsInOrder M xs (table_picture M c) v (logged x.log)
     order = k.logs v x s.at
 
-    -- what is below and wasn't handled stands after the cursor
-    after_cursor : (e : E) → IsBelow M e ((table_picture M c).content v) → (table_picture M c).handled h.name e ≡ false → (n : ℕ) × (h.handed ≤ n) × (n < length (logged x.log)) × (get_or (logged x.log) n e ≡ e)
+    -- what is below and wasn't handed stands after the cursor
+    after_cursor : (e : E) → IsBelow M e ((table_picture M c).content v) → (table_picture M c).handed h.name e ≡ false → (n : ℕ) × (h.handed ≤ n) × (n < length (logged x.log)) × (get_or (logged x.log) n e ≡ e)
     after_cursor e below un =
         let at = (order.all e).1 below in
         elim (cases_lt (at.0) h.handed) [
-          | inl low ↦ absurd (both_ways _ un (handled_is M ok xs c k v x s.at hs s.beside h (among hs.held h s.held) e
+          | inl low ↦ absurd (both_ways _ un (handed_is M ok xs c k v x s.at hs s.beside h (among hs.held h s.held) e
               ∙ (is_member-Decides ok.event_same_is (take h.handed (logged x.log)) e).1 (in_take (logged x.log) h.handed at.0 e low at.1 at.2)))
           | inr high ↦ (at.0, high, at.1, at.2)
         ]
@@ -77,7 +77,7 @@ module _ {S E R A L : Type 0} (M : Machine S E R A L) (ok : IsLawful M) where
 
     pub below_end : ((e : E) × IsEnabled M (table_picture M c) (Hand h.name e)) ↔ (h.handed < length x.log)
     below_end = (
-      λ z. let g = after_cursor (z.0) (enabled_below z.0 z.1) z.1.unhandled in let l = logged_len x.log in omega (arith, g.1, g.2, l),
+      λ z. let g = after_cursor (z.0) (enabled_below z.0 z.1) z.1.not_handed in let l = logged_len x.log in omega (arith, g.1, g.2, l),
       λ lt.
           let l : length (logged x.log) ≡ length x.log = logged_len x.log in
           let some : h.handed < length (logged x.log) = omega arith in
@@ -101,7 +101,7 @@ module _ {S E R A L : Type 0} (M : Machine S E R A L) (ok : IsLawful M) where
         back : IsEnabled M (table_picture M c) (Hand h.name e) × HandsOldestFirst M (xs ++ Hand h.name e ∷ []) → next_of M.event_same x.log hs.held h.name ≡ Some e
         back z =
             let en : IsEnabled M (table_picture M c) (Hand h.name e) = z.0 in
-            let g = after_cursor e (enabled_below e en) en.unhandled in
+            let g = after_cursor e (enabled_below e en) en.not_handed in
             let high : h.handed ≤ g.0 = g.1 in
             let lt : g.0 < length (logged x.log) = g.2 in
             let some : h.handed < length (logged x.log) = omega (arith, high, lt) in
@@ -113,7 +113,7 @@ module _ {S E R A L : Type 0} (M : Machine S E R A L) (ok : IsLawful M) where
                   (subst (λ q. IsBefore M xs v q (get_or (logged x.log) g.0 y.0)) next (order.order h.handed g.0 y.0 less lt)) in
                   let first = z.1 xs [] h.name e refl (table_picture M c) k.reached v on y.0
                   (next_below M ok xs c k v x s.at hs s.beside h (among hs.held h s.held) y.0 some next)
-                  (next_unhandled M ok xs c k v x s.at hs s.beside h (among hs.held h s.held) y.0 some next) in
+                  (next_not_handed M ok xs c k v x s.at hs s.beside h (among hs.held h s.held) y.0 some next) in
                   absurd (b.other (ord.antisymmetric y.0 e (b.lesser first.0) (first.1 b.no_later)))
               | inr (inl eq) ↦ sym next ∙ ap (λ n. get_or (logged x.log) n y.0) eq ∙ get_or_default (logged x.log) g.0 y.0 e lt ∙ g.3
               | inr (inr more) ↦ absurd (omega (arith, high, more))
@@ -154,10 +154,10 @@ module _ {S E R A L : Type 0} (M : Machine S E R A L) (ok : IsLawful M) where
         let hh : g.1 ≡ hs = some_is (sym s.beside ∙ beside) in
         let i : IsAmong (g.2) hs.held = subst (λ (q : Handlers E). IsAmong (g.2) q.held) hh (among g.1.held g.2 s.held) in
         let full : g.2.handed ≡ length x.log = all_among (λ (h : Held E). h.handed ≡ length x.log) g.2 hs.held all i in
-        elim (cases_Bool ((table_picture M c).handled name e)) [
+        elim (cases_Bool ((table_picture M c).handed name e)) [
           | inl b ↦ b
           | inr b ↦
-              let z = after_cursor xs c k v g.0 g.1 g.2 s e below (subst (λ n. (table_picture M c).handled n e ≡ false) (sym g.4) b) in
+              let z = after_cursor xs c k v g.0 g.1 g.2 s e below (subst (λ n. (table_picture M c).handed n e ≡ false) (sym g.4) b) in
               let len : length (logged g.0.log) ≡ length x.log = logged_len g.0.log ∙ ap (λ (q : Variable S E). length q.log) xx in
               absurd (omega (arith, z.1, z.2, full, len))
         ],
@@ -167,7 +167,7 @@ module _ {S E R A L : Type 0} (M : Machine S E R A L) (ok : IsLawful M) where
           | inl lt ↦
               let s : IsHandlerSeated c v x hs h = record { at = at; beside = beside; held = contained hs.held h i } in
               let z = (below_end xs c k v x hs h s).1 lt in
-              absurd (both_ways _ (z.1.unhandled) (every h.name z.0 (on xs c k v x hs h s) (enabled_below xs c k v x hs h s z.0 z.1)))
+              absurd (both_ways _ (z.1.not_handed) (every h.name z.0 (on xs c k v x hs h s) (enabled_below xs c k v x hs h s z.0 z.1)))
           | inr ge ↦ omega (arith, le, ge)
         ]),
   )

@@ -13,7 +13,7 @@ use Rattle.lvish_calculus.proofs.Names.{swap_ifs, swap_ors, same_handler-true, s
 use Rattle.lvish_calculus.proofs.Sound.{some_is}
 use Rattle.lvish_handlers.specs.declared.held.Held.{Held}
 use Rattle.lvish_handlers.specs.Handlers.{one_more}
-use Rattle.lvish_picture.specs.Picture.{HandlerAtLog, seats_at, post_in, handled_in}
+use Rattle.lvish_picture.specs.Picture.{HandlerAtLog, seats_at, post_in, handed_in}
 use Rattle.lvish_picture.proofs.Seats.{among_map, among_mid}
 
 or_parts : (a b c r : Bool) → ((a && (b || c)) || r) ≡ ((a && b) || ((a && c) || r))
@@ -41,15 +41,15 @@ module _ {E : Type 0} (eq : E → E → Bool) where
   member_more (x ∷ log) (suc n) e y lt is = ap (λ b. eq y x || b) (member_more log n e y (omega arith) is) ∙ swap_ors (eq y x) (eq y e) (is_member eq (take n log) y)
 
   -- a handler that is handed its log's next entry
-  pub handled_more : (before after : List (HandlerAtLog E)) (log : List E) (h : Held E) (e : E) (g : Handler E) (y : E) → h.handed < length log → get_or log h.handed e ≡ e
-      → handled_in eq (before ++ record { log = log; held = one_more h } ∷ after) g y ≡ ((same_handler eq g h.name && eq y e) || handled_in eq (before ++ record { log = log; held = h } ∷ after) g y)
-  handled_more [] after log h e g y some next =
-      ap (λ n. (same_handler eq g h.name && is_member eq (take n log) y) || handled_in eq after g y) (add-one h.handed)
-      ∙ ap (λ b. (same_handler eq g h.name && b) || handled_in eq after g y) (member_more log h.handed e y some next)
-      ∙ or_parts (same_handler eq g h.name) (eq y e) (is_member eq (take h.handed log) y) (handled_in eq after g y)
-  handled_more (s ∷ before) after log h e g y some next =
-      ap (λ b. part g y s || b) (handled_more before after log h e g y some next)
-      ∙ swap_ors (part g y s) (same_handler eq g h.name && eq y e) (handled_in eq (before ++ record { log = log; held = h } ∷ after) g y)
+  pub handed_more : (before after : List (HandlerAtLog E)) (log : List E) (h : Held E) (e : E) (g : Handler E) (y : E) → h.handed < length log → get_or log h.handed e ≡ e
+      → handed_in eq (before ++ record { log = log; held = one_more h } ∷ after) g y ≡ ((same_handler eq g h.name && eq y e) || handed_in eq (before ++ record { log = log; held = h } ∷ after) g y)
+  handed_more [] after log h e g y some next =
+      ap (λ n. (same_handler eq g h.name && is_member eq (take n log) y) || handed_in eq after g y) (add-one h.handed)
+      ∙ ap (λ b. (same_handler eq g h.name && b) || handed_in eq after g y) (member_more log h.handed e y some next)
+      ∙ or_parts (same_handler eq g h.name) (eq y e) (is_member eq (take h.handed log) y) (handed_in eq after g y)
+  handed_more (s ∷ before) after log h e g y some next =
+      ap (λ b. part g y s || b) (handed_more before after log h e g y some next)
+      ∙ swap_ors (part g y s) (same_handler eq g h.name && eq y e) (handed_in eq (before ++ record { log = log; held = h } ∷ after) g y)
 
   post_cons : (s : HandlerAtLog E) (xs : List (HandlerAtLog E)) (g : Handler E) → post_in eq (s ∷ xs) g ≡ (if same_handler eq g s.held.name then Some (post_at s) else post_in eq xs g)
   post_cons s xs g = by (same_handler eq g s.held.name)
@@ -75,17 +75,17 @@ module _ {E : Type 0} (eq : E → E → Bool) where
   post_more (s ∷ before) after log h g = post_head s (before ++ record { log = log; held = one_more h } ∷ after) (before ++ record { log = log; held = h } ∷ after) g (post_more before after log h g)
 
   -- a longer log
-  handled_longer_at : (log fs : List E) (held : List (Held E)) (after : List (HandlerAtLog E)) (g : Handler E) (y : E) → ((h : Held E) → IsAmong h held → h.handed ≤ length log)
-      → handled_in eq (seats_at (log ++ fs) held ++ after) g y ≡ handled_in eq (seats_at log held ++ after) g y
-  handled_longer_at log fs [] after g y within = refl
-  handled_longer_at log fs (h ∷ held) after g y within =
-      ap (λ l. (same_handler eq g h.name && is_member eq l y) || handled_in eq (seats_at (log ++ fs) held ++ after) g y) (take-append-le h.handed log fs (within h (inl refl)))
-      ∙ ap (λ b. (same_handler eq g h.name && is_member eq (take h.handed log) y) || b) (handled_longer_at log fs held after g y (λ k z. within k (inr z)))
+  handed_longer_at : (log fs : List E) (held : List (Held E)) (after : List (HandlerAtLog E)) (g : Handler E) (y : E) → ((h : Held E) → IsAmong h held → h.handed ≤ length log)
+      → handed_in eq (seats_at (log ++ fs) held ++ after) g y ≡ handed_in eq (seats_at log held ++ after) g y
+  handed_longer_at log fs [] after g y within = refl
+  handed_longer_at log fs (h ∷ held) after g y within =
+      ap (λ l. (same_handler eq g h.name && is_member eq l y) || handed_in eq (seats_at (log ++ fs) held ++ after) g y) (take-append-le h.handed log fs (within h (inl refl)))
+      ∙ ap (λ b. (same_handler eq g h.name && is_member eq (take h.handed log) y) || b) (handed_longer_at log fs held after g y (λ k z. within k (inr z)))
 
-  pub handled_longer : (before : List (HandlerAtLog E)) (log fs : List E) (held : List (Held E)) (after : List (HandlerAtLog E)) (g : Handler E) (y : E) → ((h : Held E) → IsAmong h held → h.handed ≤ length log)
-      → handled_in eq (before ++ (seats_at (log ++ fs) held ++ after)) g y ≡ handled_in eq (before ++ (seats_at log held ++ after)) g y
-  handled_longer [] log fs held after g y within = handled_longer_at log fs held after g y within
-  handled_longer (s ∷ before) log fs held after g y within = ap (λ b. part g y s || b) (handled_longer before log fs held after g y within)
+  pub was_handed_longer : (before : List (HandlerAtLog E)) (log fs : List E) (held : List (Held E)) (after : List (HandlerAtLog E)) (g : Handler E) (y : E) → ((h : Held E) → IsAmong h held → h.handed ≤ length log)
+      → handed_in eq (before ++ (seats_at (log ++ fs) held ++ after)) g y ≡ handed_in eq (before ++ (seats_at log held ++ after)) g y
+  was_handed_longer [] log fs held after g y within = handed_longer_at log fs held after g y within
+  was_handed_longer (s ∷ before) log fs held after g y within = ap (λ b. part g y s || b) (was_handed_longer before log fs held after g y within)
 
   post_longer_at : (log other : List E) (held : List (Held E)) (after : List (HandlerAtLog E)) (g : Handler E) → post_in eq (seats_at other held ++ after) g ≡ post_in eq (seats_at log held ++ after) g
   post_longer_at log other [] after g = refl
@@ -99,11 +99,11 @@ module _ {E : Type 0} (eq : E → E → Bool) where
   post_longer (s ∷ before) log other held after g = post_head s (before ++ (seats_at other held ++ after)) (before ++ (seats_at log held ++ after)) g (post_longer before log other held after g)
 
   -- a handler that was handed nothing
-  pub handled_added : (before after : List (HandlerAtLog E)) (s : HandlerAtLog E) (g : Handler E) (y : E) → s.held.handed ≡ 0 → handled_in eq (before ++ s ∷ after) g y ≡ handled_in eq (before ++ after) g y
-  handled_added [] after s g y none =
-      ap (λ n. (same_handler eq g s.held.name && is_member eq (take n s.log) y) || handled_in eq after g y) none
-      ∙ ap (λ b. b || handled_in eq after g y) (and-false (same_handler eq g s.held.name))
-  handled_added (r ∷ before) after s g y none = ap (λ b. part g y r || b) (handled_added before after s g y none)
+  pub handed_added : (before after : List (HandlerAtLog E)) (s : HandlerAtLog E) (g : Handler E) (y : E) → s.held.handed ≡ 0 → handed_in eq (before ++ s ∷ after) g y ≡ handed_in eq (before ++ after) g y
+  handed_added [] after s g y none =
+      ap (λ n. (same_handler eq g s.held.name && is_member eq (take n s.log) y) || handed_in eq after g y) none
+      ∙ ap (λ b. b || handed_in eq after g y) (and-false (same_handler eq g s.held.name))
+  handed_added (r ∷ before) after s g y none = ap (λ b. part g y r || b) (handed_added before after s g y none)
 
 -- the names as the seats change
 pub names_longer_at : {E : Type 0} (log other : List E) (held : List (Held E)) (after : List (HandlerAtLog E)) → names_at (seats_at other held ++ after) ≡ names_at (seats_at log held ++ after)
@@ -168,22 +168,22 @@ module _ {E : Type 0} (eq : E → E → Bool) (is : (a b : E) → (eq a b ≡ tr
     | inr b ↦ let f = post_found ss g post (sym (ap (λ q. if q then Some (post_at r) else post_in eq ss g) b) ∙ sym (post_cons eq r ss g) ∙ e) in (f.0, inr f.1, f.2, f.3)
   ]
 
-  none_handled : (ss : List (HandlerAtLog E)) (g : Handler E) (y : E) → (IsAmong g (names_at ss) → ⊥) → handled_in eq ss g y ≡ false
-  none_handled [] g y none = refl
-  none_handled (r ∷ ss) g y none =
-      ap (λ b. (b && is_member eq (first_of r) y) || handled_in eq ss g y) (same_handler-other eq is g r.held.name (λ e. none (inl e)))
-      ∙ none_handled ss g y (λ z. none (inr z))
+  none_handed : (ss : List (HandlerAtLog E)) (g : Handler E) (y : E) → (IsAmong g (names_at ss) → ⊥) → handed_in eq ss g y ≡ false
+  none_handed [] g y none = refl
+  none_handed (r ∷ ss) g y none =
+      ap (λ b. (b && is_member eq (first_of r) y) || handed_in eq ss g y) (same_handler-other eq is g r.held.name (λ e. none (inl e)))
+      ∙ none_handed ss g y (λ z. none (inr z))
 
-  pub handled_there : (ss : List (HandlerAtLog E)) (s : HandlerAtLog E) (y : E) → NoRepeats (names_at ss) → IsAmong s ss → handled_in eq ss s.held.name y ≡ is_member eq (first_of s) y
-  handled_there [] s y once h = absurd h
-  handled_there (r ∷ ss) s y once (inl e) =
-      ap (λ b. (b && is_member eq (first_of r) y) || handled_in eq ss s.held.name y) (subst (λ (q : HandlerAtLog E). same_handler eq s.held.name q.held.name ≡ true) e (same_handler-refl eq is s.held.name))
-      ∙ ap (λ b. is_member eq (first_of r) y || b) (none_handled ss s.held.name y (λ z. once.0 (subst (λ (q : HandlerAtLog E). IsAmong q.held.name (names_at ss)) e z)))
+  pub handed_event_there : (ss : List (HandlerAtLog E)) (s : HandlerAtLog E) (y : E) → NoRepeats (names_at ss) → IsAmong s ss → handed_in eq ss s.held.name y ≡ is_member eq (first_of s) y
+  handed_event_there [] s y once h = absurd h
+  handed_event_there (r ∷ ss) s y once (inl e) =
+      ap (λ b. (b && is_member eq (first_of r) y) || handed_in eq ss s.held.name y) (subst (λ (q : HandlerAtLog E). same_handler eq s.held.name q.held.name ≡ true) e (same_handler-refl eq is s.held.name))
+      ∙ ap (λ b. is_member eq (first_of r) y || b) (none_handed ss s.held.name y (λ z. once.0 (subst (λ (q : HandlerAtLog E). IsAmong q.held.name (names_at ss)) e z)))
       ∙ or-false (is_member eq (first_of r) y)
       ∙ ap (λ (q : HandlerAtLog E). is_member eq (first_of q) y) (sym e)
-  handled_there (r ∷ ss) s y once (inr h) =
-      ap (λ b. (b && is_member eq (first_of r) y) || handled_in eq ss s.held.name y) (same_handler-other eq is s.held.name r.held.name (λ e. once.0 (subst (λ (n : Handler E). IsAmong n (names_at ss)) e (among_map (λ (k : HandlerAtLog E). k.held.name) s ss h))))
-      ∙ handled_there ss s y once.1 h
+  handed_event_there (r ∷ ss) s y once (inr h) =
+      ap (λ b. (b && is_member eq (first_of r) y) || handed_in eq ss s.held.name y) (same_handler-other eq is s.held.name r.held.name (λ e. once.0 (subst (λ (n : Handler E). IsAmong n (names_at ss)) e (among_map (λ (k : HandlerAtLog E). k.held.name) s ss h))))
+      ∙ handed_event_there ss s y once.1 h
 
   -- the names are just those of the handlers that have a post
   pub name_known : (ss : List (HandlerAtLog E)) (g : Handler E) → IsAmong g (names_at ss) → (post : Post) × (post_in eq ss g ≡ Some post)

@@ -17,11 +17,11 @@ use Rattle.lvish_variable.specs.Variable.{VariableView as Variable, logged}
 use Rattle.lvish_handlers.specs.declared.held.Held.{Held}
 use Rattle.lvish_handlers.specs.Handlers.{HandlersView as Handlers, one_more, held_as, next_of}
 use Rattle.lvish_picture.specs.Logs.{IsInOrder}
-use Rattle.lvish_picture.specs.Picture.{Table, HandlerAtLog, seats, seats_at, table_picture, task_of, post_in, handled_in, IsPictured}
+use Rattle.lvish_picture.specs.Picture.{Table, HandlerAtLog, seats, seats_at, table_picture, task_of, post_in, handed_in, IsPictured}
 use Rattle.lvish_picture.specs.Laws.{IsTableStep, HandKept}
 use Rattle.lvish_picture.proofs.Kept.{next_entry, same_state, unchanged, kept_by, reheld}
 use Rattle.lvish_picture.proofs.Seats.{Place, place, middle, all_among, seat_there, among_other}
-use Rattle.lvish_picture.proofs.Handed.{names_at, post_there, handled_there, handled_more, post_more, names_more, one_seat}
+use Rattle.lvish_picture.proofs.Handed.{names_at, post_there, handed_event_there, handed_more, post_more, names_more, one_seat}
 use Rattle.lvish_picture.proofs.Slots.{among_here}
 use Rattle.lvish_picture.proofs.Tables.{logged_len, table_handlers}
 
@@ -61,8 +61,8 @@ module _ {S E R A L : Type 0} (M : Machine S E R A L) (ok : IsLawful M) where
       of = all_among (λ (q : Held E). M.pool_variable q.pool ≡ Some v) h hs.held (k.table.own v hs beside) i;
     }
 
-    pub handled_is : (y : E) → (table_picture M c).handled h.name y ≡ is_member M.event_same (take h.handed (logged x.log)) y
-    handled_is y = handled_there M.event_same ok.event_same_is (seats c.variables c.handlers) (record { log = logged x.log; held = h }) y k.table.once seated
+    pub handed_is : (y : E) → (table_picture M c).handed h.name y ≡ is_member M.event_same (take h.handed (logged x.log)) y
+    handed_is y = handed_event_there M.event_same ok.event_same_is (seats c.variables c.handlers) (record { log = logged x.log; held = h }) y k.table.once seated
 
     order : IsInOrder M xs (table_picture M c) v (logged x.log)
     order = k.logs v x at
@@ -70,14 +70,14 @@ module _ {S E R A L : Type 0} (M : Machine S E R A L) (ok : IsLawful M) where
     once : AllPairs (λ a b. a ≢ b) (logged x.log)
     once = λ n m d lt ins. (order.order n m d lt ins).other
 
-    -- what wasn't handled isn't among the first entries
-    unhandled_not : (y : E) → (table_picture M c).handled h.name y ≡ false → Contains (take h.handed (logged x.log)) y → ⊥
-    unhandled_not y z has = both_ways _ z (handled_is y ∙ (is_member-Decides ok.event_same_is (take h.handed (logged x.log)) y).1 has)
+    -- what wasn't handed isn't among the first entries
+    not_handed_not : (y : E) → (table_picture M c).handed h.name y ≡ false → Contains (take h.handed (logged x.log)) y → ⊥
+    not_handed_not y z has = both_ways _ z (handed_is y ∙ (is_member-Decides ok.event_same_is (take h.handed (logged x.log)) y).1 has)
 
     module _ (e : E) (some : h.handed < length (logged x.log)) (next : get_or (logged x.log) h.handed e ≡ e) where
-      pub next_unhandled : (table_picture M c).handled h.name e ≡ false
-      next_unhandled = elim (cases_Bool ((table_picture M c).handled h.name e)) [
-        | inl b ↦ absurd (not_before M.event_same ok.event_same_is (logged x.log) h.handed e some next once ((is_member-Decides ok.event_same_is (take h.handed (logged x.log)) e).0 (sym (handled_is e) ∙ b)))
+      pub next_not_handed : (table_picture M c).handed h.name e ≡ false
+      next_not_handed = elim (cases_Bool ((table_picture M c).handed h.name e)) [
+        | inl b ↦ absurd (not_before M.event_same ok.event_same_is (logged x.log) h.handed e some next once ((is_member-Decides ok.event_same_is (take h.handed (logged x.log)) e).0 (sym (handed_is e) ∙ b)))
         | inr b ↦ b
       ]
 
@@ -85,11 +85,11 @@ module _ {S E R A L : Type 0} (M : Machine S E R A L) (ok : IsLawful M) where
       next_below = (order.all e).0 (h.handed, some, next)
 
       pub next_enabled : IsEnabled M (table_picture M c) (Hand h.name e)
-      next_enabled = record { variable = v; on = on_is; below = next_below; unhandled = next_unhandled }
+      next_enabled = record { variable = v; on = on_is; below = next_below; not_handed = next_not_handed }
 
       pub next_core : HandsOldestFirst M (xs ++ Hand h.name e ∷ [])
       next_core = core_hand M ok xs (table_picture M c) h.name v e k.reached on_is
-          (next_entry M ok ok.event_le_itself xs (table_picture M c) h.name v (logged x.log) h.handed e order some next unhandled_not) k.core
+          (next_entry M ok ok.event_le_itself xs (table_picture M c) h.name v (logged x.log) h.handed e order some next not_handed_not) k.core
 
     -- the first of the name is the handler itself
     pub held_is : held_as M.event_same hs.held h.name ≡ Some h
@@ -136,9 +136,9 @@ module _ {S E R A L : Type 0} (M : Machine S E R A L) (ok : IsLawful M) where
       (fun_ext (λ g.
       ap (λ l. post_in M.event_same l g) there ∙ sym (post_more M.event_same before after_it log h g) ∙ ap (λ l. post_in M.event_same l g) (sym now)))
       (fun_ext (λ g. fun_ext (λ y.
-      ap (λ l. (same_handler M.event_same g h.name && M.event_same y e) || handled_in M.event_same l g y) there
-      ∙ sym (handled_more M.event_same before after_it log h e g y some next)
-      ∙ ap (λ l. handled_in M.event_same l g y) (sym now)))) in
+      ap (λ l. (same_handler M.event_same g h.name && M.event_same y e) || handed_in M.event_same l g y) there
+      ∙ sym (handed_more M.event_same before after_it log h e g y some next)
+      ∙ ap (λ l. handed_in M.event_same l g y) (sym now)))) in
       let st : step M C (Hand h.name e) ≡ Running (table_picture M d0) = ap (λ o. after M C (hand_effect M h.name e o)) on.is ∙ ap Running is in
       let once_now : NoRepeats (names_at (seats c.variables hss)) = subst NoRepeats
       (ap (λ l. names_at l) there ∙ sym (names_more before after_it (record { log = log; held = one_more h }) (record { log = log; held = h }) refl) ∙ ap (λ l. names_at l) (sym now)) k.table.once in

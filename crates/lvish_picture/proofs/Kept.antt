@@ -22,7 +22,7 @@ use Rattle.lvish_variable.specs.Variable.{VariableView as Variable, logged}
 use Rattle.lvish_handlers.specs.Handlers.{HandlersView as Handlers}
 use Rattle.lvish_handlers.specs.declared.held.Held.{Held}
 use Rattle.lvish_picture.specs.Logs.{IsBefore, IsInOrder}
-use Rattle.lvish_picture.specs.Picture.{Table, seats, table_picture, post_in, handled_in, IsTable, IsPictured, seats_at}
+use Rattle.lvish_picture.specs.Picture.{Table, seats, table_picture, post_in, handed_in, IsTable, IsPictured, seats_at}
 use Rattle.lvish_picture.specs.Steps.{IsAsking, AreHeld}
 use Rattle.lvish_picture.specs.Laws.{IsTableStep, OneStepMore}
 use Rattle.lvish_picture.specs.Counts.{pool_of, BegunIsPictured}
@@ -71,12 +71,12 @@ module _ {S E R A L : Type 0} (M : Machine S E R A L) (ok : IsLawful M) where
 
   -- the entry after the first n, where these are the handed ones
   pub next_entry : ((e : E) → M.event_le e e ≡ true) → (xs : List (Label E)) (c : State S E L) (h : Handler E) (v : ℕ) (es : List E) (n : ℕ) (e : E) → IsInOrder M xs c v es
-      → n < length es → get_or es n e ≡ e → ((x : E) → c.handled h x ≡ false → Contains (take n es) x → ⊥) → IsNext M ok xs c h v e
-  next_entry le_refl xs c h v es n e old lt is handled = record {
+      → n < length es → get_or es n e ≡ e → ((x : E) → c.handed h x ≡ false → Contains (take n es) x → ⊥) → IsNext M ok xs c h v e
+  next_entry le_refl xs c h v es n e old lt is handed = record {
     first = λ x below un.
         let k = (old.all x).1 below in
         elim (cases_3 (k.0) n) [
-          | inl y ↦ absurd (handled x un (in_take es n (k.0) x y k.1 k.2))
+          | inl y ↦ absurd (handed x un (in_take es n (k.0) x y k.1 k.2))
           | inr (inl y) ↦
               let same : e ≡ x = sym is ∙ get_or_default es n e x lt ∙ ap (λ i. get_or es i x) (sym y) ∙ k.2 in
               (λ q r c1 w r1 b. subst (λ z. IsBelow M z (c1.content v)) (sym same) b, λ _. subst (λ z. M.event_le e z ≡ true) same (le_refl e))
@@ -86,8 +86,8 @@ module _ {S E R A L : Type 0} (M : Machine S E R A L) (ok : IsLawful M) where
         ];
   }
 
-pub same_state : {S E L : Type 0} (c d : State S E L) → c.content ≡ d.content → c.frozen ≡ d.frozen → c.tasks ≡ d.tasks → c.handlers ≡ d.handlers → c.handled ≡ d.handled → c ≡ d
-same_state c d a b t h k = λ i. record { content = a i; frozen = b i; tasks = t i; handlers = h i; handled = k i }
+pub same_state : {S E L : Type 0} (c d : State S E L) → c.content ≡ d.content → c.frozen ≡ d.frozen → c.tasks ≡ d.tasks → c.handlers ≡ d.handlers → c.handed ≡ d.handed → c ≡ d
+same_state c d a b t h k = λ i. record { content = a i; frozen = b i; tasks = t i; handlers = h i; handed = k i }
 
 module _ {S E R A L : Type 0} (M : Machine S E R A L) (ok : IsLawful M) where
   -- a log that grows by what is fresh
@@ -170,7 +170,7 @@ module _ {S E R A L : Type 0} (M : Machine S E R A L) (ok : IsLawful M) where
       let d : Table S E L = record { variables = vs; handlers = hss; tasks = ts } in
       let e : Table S E L = record { variables = vs; handlers = kss; tasks = ts } in
       let q : seats vs hss ≡ seats vs kss = sym (seats_held vs kss hss same) in
-      let is : table_picture M d ≡ table_picture M e = λ i. record { content = (table_picture M d).content; frozen = (table_picture M d).frozen; tasks = (table_picture M d).tasks; handlers = post_in M.event_same (q i); handled = handled_in M.event_same (q i) } in
+      let is : table_picture M d ≡ table_picture M e = λ i. record { content = (table_picture M d).content; frozen = (table_picture M d).frozen; tasks = (table_picture M d).tasks; handlers = post_in M.event_same (q i); handed = handed_in M.event_same (q i) } in
       let k : IsPictured M d (xs ++ l ∷ []) = s.kept in
       record {
         enabled = s.enabled;
@@ -220,7 +220,7 @@ module _ {S E R A L : Type 0} (M : Machine S E R A L) (ok : IsLawful M) where
       (fun_ext (all_default (λ (x : Variable S E). x.frozen) false c.variables (λ v x e. ap (λ (q : Variable S E). q.frozen) (b.variables v x e))))
       (fun_ext b.tasks)
       (fun_ext (λ h. ap (λ l. post_in M.event_same l h) empty))
-      (fun_ext (λ h. fun_ext (λ e. ap (λ l. handled_in M.event_same l h e) empty))) in (
+      (fun_ext (λ h. fun_ext (λ e. ap (λ l. handed_in M.event_same l h e) empty))) in (
         is,
         record {
           reached = ap Running (sym is);

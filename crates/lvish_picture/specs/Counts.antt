@@ -2,7 +2,7 @@
 use Rattle.std.specs.Prelude.{◌≡◌, ◌↔◌, ◌<◌, ◌≤◌, ◌+◌, ◌-◌, ℕ, Bool, false, List, [], Option, Some, None, All, length, nat_eq, if◌then◌else◌, option_and_then, option_map, slice_get, slice_index, slice_set}
 use Rattle.lvish_calculus.specs.declared.label.Label.{Label}
 use Rattle.lvish_calculus.specs.Machine.{Machine, IsOf}
-use Rattle.lvish_calculus.specs.Calculus.{Task, Live, Ended, State, IsLive, IsIn, IsQuiet, start}
+use Rattle.lvish_calculus.specs.Calculus.{Task, Live, Ended, State, IsLive, IsIn, IsQuiescent, start}
 use Rattle.lvish_names.specs.Names.{Name, handed, Handler, handler_of}
 use Rattle.lvish_calculus.specs.Handing.{IsAmong, NoRepeats}
 use Rattle.lvish_variable.specs.Variable.{VariableView as Variable}
@@ -71,7 +71,7 @@ module _ {S E R A L : Type 0} (M : Machine S E R A L) where
   abbrev pub FreezesByCounts : Type 0
   FreezesByCounts = (xs : List (Label E)) (c : Table S E L) (v : ℕ) (x : Variable S E) (hs : Handlers E) (pools : List ℕ) → IsPictured M c xs → CountsRunning M c
       → slice_get c.variables v ≡ Some x → slice_get c.handlers v ≡ Some hs → IsOf M pools v
-      → (All (λ h. h.handed ≡ length x.log) hs.held × All (λ p. slice_index hs.running p ≡ 0) pools) ↔ IsQuiet M (table_picture M c) v pools
+      → (All (λ h. h.handed ≡ length x.log) hs.held × All (λ p. slice_index hs.running p ≡ 0) pools) ↔ IsQuiescent M (table_picture M c) v pools
 
   -- the counts of the pools are 0 exactly where every task of these pools has ended
   abbrev pub EndedByCounts : Type 0

@@ -71,7 +71,7 @@ module _ {S E R A L : Type 0} (M : Machine S E R A L) where
   -- the cursors of v's handlers are at the log's end exactly where every handler on v was handed every event below v's state
   abbrev pub DrainedAtTheEnd : Type 0
   DrainedAtTheEnd = (xs : List (Label E)) (c : Table S E L) (v : ℕ) (x : Variable S E) (hs : Handlers E) → IsPictured M c xs → slice_get c.variables v ≡ Some x → slice_get c.handlers v ≡ Some hs
-      → All (λ h. h.handed ≡ length x.log) hs.held ↔ ((h : Handler E) (e : E) → IsOn M (table_picture M c) h v → IsBelow M e ((table_picture M c).content v) → (table_picture M c).handled h e ≡ true)
+      → All (λ h. h.handed ≡ length x.log) hs.held ↔ ((h : Handler E) (e : E) → IsOn M (table_picture M c) h v → IsBelow M e ((table_picture M c).content v) → (table_picture M c).handed h e ≡ true)
 
   -- no handler has the name of the next handler that a task adds
   abbrev pub NewHandlerIsNew : Type 0

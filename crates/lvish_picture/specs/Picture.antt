@@ -38,8 +38,8 @@ abbrev pub post_in : {E : Type 0} → (E → E → Bool) → List (HandlerAtLog 
 post_in eq ss h = option_map (λ s. record { pool = s.held.pool; procedure = s.held.procedure }) (find (λ s. same_handler eq h s.held.name) ss)
 
 -- e is among the first entries of the log of h's variable, as many as h was handed
-abbrev pub handled_in : {E : Type 0} → (E → E → Bool) → List (HandlerAtLog E) → Handler E → E → Bool
-handled_in eq ss h e = list_any (λ s. same_handler eq h s.held.name && is_member eq (take s.held.handed s.log) e) ss
+abbrev pub handed_in : {E : Type 0} → (E → E → Bool) → List (HandlerAtLog E) → Handler E → E → Bool
+handed_in eq ss h e = list_any (λ s. same_handler eq h s.held.name && is_member eq (take s.held.handed s.log) e) ss
 
 -- what runs under a name
 abbrev pub task_of : {E L : Type 0} → (E → E → Bool) → List (Name E × Task L) → Name E → Task L
@@ -54,7 +54,7 @@ module _ {S E R A L : Type 0} (M : Machine S E R A L) where
     frozen = λ v. unwrap_or (option_map (λ x. x.frozen) (slice_get c.variables v)) false;
     tasks = task_of M.event_same c.tasks;
     handlers = post_in M.event_same (seats c.variables c.handlers);
-    handled = handled_in M.event_same (seats c.variables c.handlers);
+    handed = handed_in M.event_same (seats c.variables c.handlers);
   }
 
   -- the variables and their handlers fit together

@@ -6,7 +6,7 @@ use Rattle.lvish_calculus.specs.declared.request.Request.{Request}
 use Rattle.lvish_calculus.specs.declared.request.Request.TheVariants.{Put, Fork, Add, Freeze, Fault}
 use Rattle.lvish_calculus.specs.declared.request.Reply.TheVariants.{Done, Content}
 use Rattle.lvish_calculus.specs.Machine.{Machine}
-use Rattle.lvish_calculus.specs.Calculus.{Task, Live, Changes, IsReady, IsQuiet, request_effect, start, with_task}
+use Rattle.lvish_calculus.specs.Calculus.{Task, Live, Changes, IsReady, IsQuiescent, request_effect, start, with_task}
 use Rattle.lvish_names.specs.Names.{Name, Handler, handed, is_deep}
 use Rattle.lvish_variable.specs.declared.put_fault.PutFault.TheVariants.{Conflict as PutConflict, Frozen as PutFrozen}
 use Rattle.lvish_variable.specs.Variable.{VariableView as Variable, IsPut, IsPutRefused}
@@ -54,7 +54,7 @@ module _ {S E R A L : Type 0} (M : Machine S E R A L) where
     pub variable : ℕ
     pub pools : List ℕ
     pub asking : IsAsking M c t local forks adds puts (Freeze variable pools)
-    pub quiet : IsQuiet M (table_picture M c) variable pools
+    pub quiet : IsQuiescent M (table_picture M c) variable pools
     pub old : Variable S E
     pub was : slice_get c.variables variable ≡ Some old
     pub variables : d.variables ≡ slice_set c.variables variable (record { state = old.state; frozen = true; log = old.log })

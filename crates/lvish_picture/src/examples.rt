@@ -19,8 +19,8 @@ pub fn halfway()
     ensures unfrozen { halfway_picture.frozen 0 ≡ false }
     ensures post { halfway_picture.handlers copier ≡ Some (record { pool = 0; procedure = 0 }) }
     // The log's first entry, though 1 is the lesser.
-    ensures was_handed { halfway_picture.handled copier 3 ≡ true }
-    ensures not_yet { halfway_picture.handled copier 1 ≡ false }
+    ensures was_handed { halfway_picture.handed copier 3 ≡ true }
+    ensures not_yet { halfway_picture.handed copier 1 ≡ false }
     ensures task { halfway_picture.tasks (handed main 1 3) ≡ Live (copying 3) 0 0 0 }
     ensures no_task { halfway_picture.tasks (handed main 1 1) ≡ Absent }
 {}

@@ -13,7 +13,7 @@ use Rattle.lvish_calculus.proofs.Steps.{Makes}
 use Rattle.lvish_calculus.proofs.Order.{below_le}
 use Rattle.lvish_calculus.proofs.Sound.{IsSound}
 use Rattle.lvish_calculus.proofs.Keeps.{sound_start, handlers_stay}
-use Rattle.lvish_calculus.proofs.Moves.{content_le, unhandled_stays}
+use Rattle.lvish_calculus.proofs.Moves.{content_le, not_handed_stays}
 use Rattle.lvish_calculus.proofs.Doomed.{cases_label}
 use Rattle.lvish_calculus.proofs.Runs.{way_keeps, reached}
 use Rattle.lvish_calculus.proofs.CoreRuns.{run_way, on_one}
@@ -24,9 +24,9 @@ use Rattle.lvish_report.proofs.Cuts.{cut_first, first_is, rest_is}
 use Rattle.lvish_report.proofs.NamesTold.{no_line, main_alone, forks_told, fork_is_no_hand, hands_told}
 
 module _ {S E R A L : Type 0} (M : Machine S E R A L) (ok : IsLawful M) where
-  -- a handled event is below the state of its handler's variable
+  -- a handed event is below the state of its handler's variable
   abbrev IsKnown : State S E L → Type 0
-  IsKnown c = (h : Handler E) (e : E) → c.handled h e ≡ true → (v : ℕ) × IsOn M c h v × IsBelow M e (c.content v)
+  IsKnown c = (h : Handler E) (e : E) → c.handed h e ≡ true → (v : ℕ) × IsOn M c h v × IsBelow M e (c.content v)
 
   known_after : (c : State S E L) (l : Label E) (ch : Change S E L) → Makes M c l ch → IsEnabled M c l → IsSound c → IsKnown c → IsKnown (changed M ch c)
   known_after c l ch m en s k h e z = elim (before (cases_label M ok l (Hand h e))) [
@@ -34,9 +34,9 @@ module _ {S E R A L : Type 0} (M : Machine S E R A L) (ok : IsLawful M) where
     | inr y ↦ let to : IsToHand M c h e = subst (λ x. IsEnabled M c x) y en in stays (to.variable, to.on, to.below)
   ]
     where
-      before : (l ≡ Hand h e) ⊎ (l ≡ Hand h e → ⊥) → (c.handled h e ≡ true) ⊎ (l ≡ Hand h e)
+      before : (l ≡ Hand h e) ⊎ (l ≡ Hand h e → ⊥) → (c.handed h e ≡ true) ⊎ (l ≡ Hand h e)
       before (inl y) = inr y
-      before (inr ne) = elim (cases_Bool (c.handled h e)) [ inl y ↦ inl y | inr y ↦ absurd (both_ways _ (unhandled_stays M ok c l ch m h e y ne) z) ]
+      before (inr ne) = elim (cases_Bool (c.handed h e)) [ inl y ↦ inl y | inr y ↦ absurd (both_ways _ (not_handed_stays M ok c l ch m h e y ne) z) ]
 
       stays : (v : ℕ) × IsOn M c h v × IsBelow M e (c.content v) → (v : ℕ) × IsOn M (changed M ch c) h v × IsBelow M e ((changed M ch c).content v)
       stays g = (g.0, record { post = g.1.post; is = handlers_stay M ok c l ch m en s h g.1.post g.1.is; of = g.1.of }, below_le M ok e _ _ (content_le M ok c l ch m en s g.0) g.2)

@@ -10,7 +10,7 @@ use std::alloc::{AllocError, Global};
 /// A procedure that runs: its next instruction and the values of its locals. Behind a `freeze` with
 /// `each`: the variable, the procedure that is called, and the events on which it isn't called yet, the
 /// next one last. And the event on which an `each` called this one.
-pub struct Frame {
+pub struct ToldFrame {
     pub procedure: usize,
     pub place: usize,
     pub values: Vec<i64>,
@@ -21,9 +21,9 @@ pub struct Frame {
 }
 
 // Written out, so that it is proved once, and not at each exit of a function that owns one.
-impl Drop for Frame {
+impl Drop for ToldFrame {
     fn drop(self) {
-        let Frame {
+        let ToldFrame {
             procedure: _,
             place: _,
             values: _,
@@ -57,7 +57,7 @@ fn landing(instructions: &[Instruction], place: usize) -> usize {
     place
 }
 
-impl Frame {
+impl ToldFrame {
     /// A procedure at its first instruction.
     pub fn begun(
         alloc: Global,
@@ -65,12 +65,12 @@ impl Frame {
         procedure: usize,
         arguments: Vec<i64>,
         on: Option<(usize, Event)>,
-    ) -> Result<Frame, AllocError> {
+    ) -> Result<ToldFrame, AllocError> {
         let mut values = arguments;
         if let Some(routine) = code.routines().get(procedure) {
             values.resize(routine.locals, 0)?;
         }
-        Ok(Frame {
+        Ok(ToldFrame {
             procedure,
             place: 0,
             values,
@@ -123,7 +123,7 @@ impl Frame {
     }
 
     /// A local statement within the frame, or the frame that a call goes into.
-    pub fn turn(&mut self, alloc: Global, code: &Code) -> Result<Option<Frame>, AllocError> {
+    pub fn turn(&mut self, alloc: Global, code: &Code) -> Result<Option<ToldFrame>, AllocError> {
         if let Some(event) = self.events.pop() {
             return self.call_on(alloc, code, event);
         }
@@ -140,7 +140,7 @@ impl Frame {
             Some(Instruction::Call(procedure, operands)) => {
                 self.next();
                 let arguments = values_of(alloc, self.values.as_slice(), operands.as_slice())?;
-                Ok(Some(Frame::begun(alloc, code, *procedure, arguments, None)?))
+                Ok(Some(ToldFrame::begun(alloc, code, *procedure, arguments, None)?))
             }
             Some(Instruction::SkipIfZero(operand, passed)) => {
                 let next = place.saturating_add(1);
@@ -167,12 +167,12 @@ impl Frame {
         alloc: Global,
         code: &Code,
         event: Event,
-    ) -> Result<Option<Frame>, AllocError> {
+    ) -> Result<Option<ToldFrame>, AllocError> {
         let mut arguments = Vec::new(alloc);
         arguments.push(event.key)?;
         arguments.push(event.number)?;
         let on = Some((self.variable, event));
-        Ok(Some(Frame::begun(alloc, code, self.each, arguments, on)?))
+        Ok(Some(ToldFrame::begun(alloc, code, self.each, arguments, on)?))
     }
 
     /// The line in which it stands: that of its next instruction, or behind a call of the call.
@@ -196,7 +196,7 @@ impl Frame {
 pub fn standing_in(
     alloc: Global,
     procedures: &[ToldProcedure<'_>],
-    frames: &[Frame],
+    frames: &[ToldFrame],
 ) -> Result<Standing, AllocError> {
     let mut standing = Standing {
         line: 0,
@@ -225,7 +225,7 @@ pub fn standing_in(
 }
 
 /// The line in which the innermost of these frames stands.
-pub fn line_in(procedures: &[ToldProcedure<'_>], frames: &[Frame]) -> usize {
+pub fn line_in(procedures: &[ToldProcedure<'_>], frames: &[ToldFrame]) -> usize {
     match frames.last() {
         Some(top) => top.line(procedures, false),
         None => 0,

@@ -1,7 +1,7 @@
 //! Where a task is, followed from request to request.
 
 use crate::act::Act;
-use crate::frame::Frame;
+use crate::frame::ToldFrame;
 use crate::values::{place_of, value_of, values_of, wanted_of};
 use lvish_code::{Action, Code, Instruction};
 use lvish_compound::{Event, Kind, Place};
@@ -12,7 +12,7 @@ const MOST_FRAMES: usize = 64;
 
 /// The frames of a task, the outermost first.
 pub struct Stand {
-    pub frames: Vec<Frame>,
+    pub frames: Vec<ToldFrame>,
 }
 
 // Written out, so that it is proved once, and not at each exit of a function that owns one.
@@ -31,7 +31,7 @@ impl Stand {
         arguments: Vec<i64>,
     ) -> Result<Stand, AllocError> {
         let mut frames = Vec::new(alloc);
-        frames.push(Frame::begun(alloc, code, procedure, arguments, None)?)?;
+        frames.push(ToldFrame::begun(alloc, code, procedure, arguments, None)?)?;
         Ok(Stand { frames })
     }
 

@@ -23,7 +23,7 @@ use std::sync::Wait;
 use std::thread::Threads;
 
 /// What the report tells of relations.
-fn told<L: Lattice>(report: Report<L, L::Event>) -> Result<Answer<L>, SolveFault>
+fn answer_of_report<L: Lattice>(report: Report<L, L::Event>) -> Result<Answer<L>, SolveFault>
     ensures told { IfOk result (λ a. IsAnswerOf report a) }
     ensures erring { (kind : ErrorKind) → result ≡ Err (Erring kind) → TellsError report kind }
 {
@@ -50,7 +50,7 @@ fn answer_of<R: Rules>(
 {
     computes_what_follows::<R>();
     deterministic::<R>();
-    told(report)
+    answer_of_report(report)
 }
 
 /// The lesser of the budget and [`MOST_PROGRAM_STEPS`].

@@ -18,17 +18,17 @@ use Rattle.lvish_core.specs.Changes.{local_of, moved_by, moved_in}
 use Rattle.lvish_trace.specs.declared.trace_entry.TraceEntry.{TraceEntry}
 use Rattle.lvish_board.specs.declared.work.Work.{Work}
 use Rattle.lvish_board.specs.declared.work.Work.TheVariants.{Stretch}
-use Rattle.lvish_board.specs.Place.{TaskPlace}
+use Rattle.lvish_board.specs.Stand.{TaskStand}
 use Rattle.lvish_trace.specs.Traced.{labels_of}
-use Rattle.lvish_board.specs.Standing.{Standing, tasks_of, IsCurrent, IsBoardSound, IsOpened}
+use Rattle.lvish_board.specs.Board.{Standing, tasks_of, IsCurrent, IsBoardSound, IsOpened}
 use Rattle.lvish_board.specs.Listed.{IsListed, Concerns, by_handing, HasNext, tickets}
 use Rattle.lvish_board.specs.Woken.{IsParkedBeside}
 use Rattle.lvish_run.specs.Agenda.{Open, Adds, IsTaskOf, IsBeside, IsEmpty}
 use Rattle.lvish_run.specs.Walk.{IsEntered}
 use Rattle.lvish_core.specs.laws.Lists.{among_map}
 use Rattle.lvish_board.proofs.Steps.{of_task, no_fault}
-use Rattle.lvish_run.proofs.Agendas.{place_in, task_of_one, task_from, ticket_listed, woken_listed, handler_listed}
-use Rattle.lvish_run.proofs.Placed.{place, stays_at, came_by, ticket_at}
+use Rattle.lvish_run.proofs.Agendas.{stand_in, task_of_one, task_from, ticket_listed, woken_listed, handler_listed}
+use Rattle.lvish_run.proofs.Placed.{stand, stays_at, came_by, ticket_at}
 use Rattle.lvish_run.proofs.Upcoming.{to_hand_before, has_next}
 use Rattle.std.proofs.lemmas.Bool.{cases_Bool, false≢true}
 use Rattle.lvish_calculus.proofs.Names.{same_name-true}
@@ -101,14 +101,14 @@ module _ {P S E R A L : Type 0} (M : Machine S E R A L) (program : P) (budget : 
     local_then : (t : Name E) (k : L) → local_of ((changed M ch c).tasks t) ≡ Some k → local_of (d.tasks t) ≡ Some k
     local_then t k e = subst (λ (x : State S E L). local_of (x.tasks t) ≡ Some k) change.2 e
 
-    stays : (p : TaskPlace E L) → IsCurrent M s.core p → (l ≡ Act p.task → ⊥) → IsCurrent M r.core p
+    stays : (p : TaskStand E L) → IsCurrent M s.core p → (l ≡ Act p.task → ⊥) → IsCurrent M r.core p
     stays p at other = local_then p.task p.from (stays_at M ok xs c reach l one.0 ch change.1 p.task p.from at other)
 
     moved : moved_in (effect M c l) ≡ moved_by ch
     moved = ap moved_in change.1
 
     -- a parked task didn't act
-    parked_waits : (p : TaskPlace E L) → IsAmong p s.parked → l ≡ Act p.task → ⊥
+    parked_waits : (p : TaskStand E L) → IsAmong p s.parked → l ≡ Act p.task → ⊥
     parked_waits p i e = (sound.blocked p i).blocked (subst (λ f. CanStep M (at_fault c f) (Act p.task)) (sym fine) (subst (λ m. IsEnabled M c m) e one.0), tt)
 
     module _ (comes : HandsWhatComes P M) (below : HandsBelowTheEnd M) (held : HandsTheHeld M) where
@@ -120,11 +120,11 @@ module _ {P S E R A L : Type 0} (M : Machine S E R A L) (program : P) (budget : 
           has_next M ok s.core xs sound.leads fine below held h z.0
           (to_hand_before M ok s.core l ch change.1 one.0 (reached M ok xs c reach) h apart z.0 (subst (λ (x : State S E L). IsEnabled M x (Hand h z.0)) (sym change.2) en))
 
-      module _ {Q J B W : Type 0} (cmp : E → E → Ordering) (ws : List (Work Q J S L R B W E)) (w : IsListed cmp M s l r ws) (a b : Open E L) (before : IsBeside M s (task_in l) (handler_in l) a) (adds : Adds ws a b) where
-        abbrev ts : List (TaskPlace E L)
+      module _ {Q B A1 W : Type 0} (cmp : E → E → Ordering) (ws : List (Work Q B S L R A1 W E)) (w : IsListed cmp M s l r ws) (a b : Open E L) (before : IsBeside M s (task_in l) (handler_in l) a) (adds : Adds ws a b) where
+        abbrev ts : List (TaskStand E L)
         ts = tickets l (moved_in (effect M c l))
 
-        current : (t : Name E) (p : TaskPlace E L) → b.at t ≡ Some p → (p.task ≡ t) × IsCurrent M r.core p × (None ≡ Some t → ⊥)
+        current : (t : Name E) (p : TaskStand E L) → b.at t ≡ Some p → (p.task ≡ t) × IsCurrent M r.core p × (None ≡ Some t → ⊥)
         current t p e = elim (adds.from t p e) [
           | inl was ↦
               let k = before.current t p was in
@@ -141,18 +141,18 @@ module _ {P S E R A L : Type 0} (M : Machine S E R A L) (program : P) (budget : 
 
         tasks : (t : Name E) (k : L) → local_of (d.tasks t) ≡ Some k → b.at t ≡ None → (IsAmong t (tasks_of r.parked) → ⊥) → None ≡ Some t
         tasks t k at none not_parked = absurd (elim (came_by M ok xs c reach l one.0 ch change.1 t k (subst (λ (x : State S E L). local_of (x.tasks t) ≡ Some k) (sym change.2) at)) [
-          | inl i ↦ gone.1 (place t k) (ticket_listed ws ts w.woken w.hands w.is (place t k) (subst (λ m. IsAmong (place t k) (tickets l m)) (sym moved) i)) refl
+          | inl i ↦ gone.1 (stand t k) (ticket_listed ws ts w.woken w.hands w.is (stand t k) (subst (λ m. IsAmong (stand t k) (tickets l m)) (sym moved) i)) refl
           | inr z ↦ z.0 (is_task_in l t (before.tasks t k z.1 gone.0 was_parked))
         ])
           where
-            gone : (a.at t ≡ None) × ((p : TaskPlace E L) → IsTaskOf ws p → p.task ≡ t → ⊥)
+            gone : (a.at t ≡ None) × ((p : TaskStand E L) → IsTaskOf ws p → p.task ≡ t → ⊥)
             gone = adds.kept t none
 
             was_parked : IsAmong t (tasks_of s.parked) → ⊥
             was_parked i =
                 let p = of_task t s.parked i in
                 let waits : CanTake M r.core (Act p.0.task) → ⊥ = λ can. gone.1 p.0 (woken_listed ws ts w.woken w.hands w.is p.0 ((w.woken_are p.0).1 (p.1, can))) p.2 in
-                not_parked (subst (λ u. IsAmong u (tasks_of r.parked)) p.2 (among_map (λ (x : TaskPlace E L). x.task) p.0 r.parked ((w.still p.0).1 (p.1, waits))))
+                not_parked (subst (λ u. IsAmong u (tasks_of r.parked)) p.2 (among_map (λ (x : TaskStand E L). x.task) p.0 r.parked ((w.still p.0).1 (p.1, waits))))
 
         hands : (h : Handler E) → HasNext M r.core h → b.has h ≡ false → None ≡ Some h
         hands h z none = absurd (
@@ -168,7 +168,7 @@ module _ {P S E R A L : Type 0} (M : Machine S E R A L) (program : P) (budget : 
 -- ---- without a step
 
 -- where a task can't go on and was parked, the agenda still has all that may be done
-module _ {P S E R A L : Type 0} (M : Machine S E R A L) (s r : Standing P S E L) (p : TaskPlace E L) (a : Open E L) (same : r.core ≡ s.core) (parks : IsParkedBeside s.parked p r.parked) where
+module _ {P S E R A L : Type 0} (M : Machine S E R A L) (s r : Standing P S E L) (p : TaskStand E L) (a : Open E L) (same : r.core ≡ s.core) (parks : IsParkedBeside s.parked p r.parked) where
   pub beside_parked : IsBeside M s (Some p.task) None a → IsBeside M r None None a
   beside_parked before = record {
     current = λ t q e.
@@ -182,26 +182,26 @@ module _ {P S E R A L : Type 0} (M : Machine S E R A L) (s r : Standing P S E L)
   }
     where
       beside : (t : Name E) → (IsAmong t (tasks_of r.parked) → ⊥) → p.task ≡ t → ⊥
-      beside t not_parked e = not_parked (subst (λ u. IsAmong u (tasks_of r.parked)) e (among_map (λ (x : TaskPlace E L). x.task) p r.parked ((parks.each p).1 (inl refl))))
+      beside t not_parked e = not_parked (subst (λ u. IsAmong u (tasks_of r.parked)) e (among_map (λ (x : TaskStand E L). x.task) p r.parked ((parks.each p).1 (inl refl))))
 
       was_parked : (t : Name E) → (IsAmong t (tasks_of r.parked) → ⊥) → IsAmong t (tasks_of s.parked) → ⊥
       was_parked t not_parked i =
           let q = of_task t s.parked i in
           let other : q.0.task ≡ p.task → ⊥ = λ e. beside t not_parked (sym e ∙ q.2) in
-          not_parked (subst (λ u. IsAmong u (tasks_of r.parked)) q.2 (among_map (λ (x : TaskPlace E L). x.task) q.0 r.parked ((parks.each q.0).1 (inr (q.1, other)))))
+          not_parked (subst (λ u. IsAmong u (tasks_of r.parked)) q.2 (among_map (λ (x : TaskStand E L). x.task) q.0 r.parked ((parks.each q.0).1 (inr (q.1, other)))))
 
 -- ---- before any step
 
-module _ {P' P J S L R A W E Ans : Type 0} (M : Machine S E R Ans L) (ok : IsLawful M) (program : P') (budget : ℕ) (s : Standing P' S E L) (sound : IsBoardSound M program budget s) (opened : IsOpened M program s) (comes : HandsWhatComes P' M)
-    (a b : Open E L) (empty : IsEmpty a) (w : Work P J S L R A W E) (is : w ≡ Stretch (record { task = main; from = M.start })) (adds : Adds (w ∷ []) a b) where
-  abbrev first : TaskPlace E L
+module _ {P' P B S L R A W E Ans : Type 0} (M : Machine S E R Ans L) (ok : IsLawful M) (program : P') (budget : ℕ) (s : Standing P' S E L) (sound : IsBoardSound M program budget s) (opened : IsOpened M program s) (comes : HandsWhatComes P' M)
+    (a b : Open E L) (empty : IsEmpty a) (w : Work P B S L R A W E) (is : w ≡ Stretch (record { task = main; from = M.start })) (adds : Adds (w ∷ []) a b) where
+  abbrev first : TaskStand E L
   first = record { task = main; from = M.start }
 
   at_start : state M s.core ≡ start M
   at_start = running_same (sym (at_state M s.core (no_fault M program budget s sound opened.over)) ∙ opened.core.at_start)
 
-  is_first : (p : TaskPlace E L) → IsTaskOf (w ∷ []) p → p ≡ first
-  is_first p i = let both : Some p ≡ Some first = sym (task_of_one w p i) ∙ ap place_in is in let same : p ≡ first = cc in same
+  is_first : (p : TaskStand E L) → IsTaskOf (w ∷ []) p → p ≡ first
+  is_first p i = let both : Some p ≡ Some first = sym (task_of_one w p i) ∙ ap stand_in is in let same : p ≡ first = cc in same
 
   main_listed : IsTaskOf (w ∷ []) first
   main_listed = inl (inl (sym is))
@@ -209,7 +209,7 @@ module _ {P' P J S L R A W E Ans : Type 0} (M : Machine S E R Ans L) (ok : IsLaw
   first_current : IsCurrent M s.core first
   first_current = subst (λ (c : State S E L). local_of (c.tasks main) ≡ Some M.start) (sym at_start) refl
 
-  opened_current : (t : Name E) (p : TaskPlace E L) → b.at t ≡ Some p → (p.task ≡ t) × IsCurrent M s.core p × (None ≡ Some t → ⊥)
+  opened_current : (t : Name E) (p : TaskStand E L) → b.at t ≡ Some p → (p.task ≡ t) × IsCurrent M s.core p × (None ≡ Some t → ⊥)
   opened_current t p e = elim (adds.from t p e) [
     | inl was ↦ absurd (none-some p (sym (empty.at t) ∙ was))
     | inr z ↦ (z.0, subst (λ q. IsCurrent M s.core q) (sym (is_first p z.1)) first_current, none-some t)

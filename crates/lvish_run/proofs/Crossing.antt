@@ -31,13 +31,13 @@ use Rattle.lvish_board.specs.contracts.asked.Asked as Asked
 use Rattle.lvish_board.specs.contracts.board.Board as Board
 use Rattle.lvish_board.specs.contracts.ticket.Ticket as Ticket
 use Rattle.lvish_board.specs.contracts.work.Work as Work
-use Rattle.lvish_board.specs.declared.named.Named as named
+use Rattle.lvish_board.specs.declared.board_brand.BoardBrand as brand
 use Rattle.lvish_deal.proofs.seat.Seat.TheSendSync as of_seat
-use Rattle.lvish_run.proofs.order.Order.TheSendSync as of_order
+use Rattle.lvish_run.proofs.setting.Setting.TheSendSync as of_setting
 use Rattle.lvish_run.proofs.pace.Pace.TheSendSync as of_pace
 use Rattle.lvish_run.specs.contracts.hall.Hall as Hall
 use Rattle.lvish_run.specs.contracts.hall.Sleepers as Sleepers
-use Rattle.lvish_run.specs.contracts.order.Order as Order
+use Rattle.lvish_run.specs.contracts.setting.Setting as Setting
 use Rattle.lvish_run.specs.contracts.queue.Queue as Queue
 use Rattle.lvish_run.specs.contracts.shift.Seated as Seated
 use Rattle.lvish_run.specs.contracts.staffed.Staffed as Staffed
@@ -66,45 +66,45 @@ bell_sync : IsSync (as_row Condvar.the_field)
 bell_sync = search (crosses, sendable) depth 24
 
 -- the ghosts of the events, of the states, of the program and of the run's name are those of any impl
-module _ (E : RattleType) (sE : IsSend E) (yE : IsSync E) (P J S L R A W : RattleType) (sJ : IsSend J) (sS : IsSend S) (sL : IsSend L) (sR : IsSend R)
+module _ (E : RattleType) (sE : IsSend E) (yE : IsSync E) (P B S L R A W : RattleType) (sB : IsSend B) (sS : IsSend S) (sL : IsSend L) (sR : IsSend R)
     (e1 : order.Ghosts E.Denot) (e2 : equal.Ghosts E.Denot) (e3 : same.Ghosts E.Denot) (e4 : partial.Ghosts E.Denot) (e5 : hash.Ghosts E.Denot)
     (p : program.Ghosts P.Denot S.Denot L.Denot R.Denot A.Denot W.Denot E.Denot)
     (s1 : lattice.Ghosts S.Denot E.Denot) (s2 : same.Ghosts S.Denot) (s3 : reads.Ghosts S.Denot R.Denot A.Denot W.Denot E.Denot)
     (w1 : order.Ghosts W.Denot) (w2 : same.Ghosts W.Denot) (w3 : partial.Ghosts W.Denot) (w4 : hash.Ghosts W.Denot) (l1 : same.Ghosts L.Denot)
-    (n : named.Ghosts J.Denot P.Denot S.Denot L.Denot R.Denot A.Denot W.Denot E.Denot) (o : origin.Ghosts J.Denot) where
-  ticket : IsSend (Ticket.the_row P J S L R A W E p s3 s1 s2 e1 e3 e4 e5 w1 w2 w3 w4 l1 n o)
-  ticket = ticket_send E sE yE P J S L R A W sJ sS sL sR e1 e2 e3 e4 e5 p s1 s2 s3 w1 w2 w3 w4 l1 n o
+    (n : brand.Ghosts B.Denot P.Denot S.Denot L.Denot R.Denot A.Denot W.Denot E.Denot) (o : origin.Ghosts B.Denot) where
+  ticket : IsSend (Ticket.the_row P B S L R A W E p s3 s1 s2 e1 e3 e4 e5 w1 w2 w3 w4 l1 n o)
+  ticket = ticket_send E sE yE P B S L R A W sB sS sL sR e1 e2 e3 e4 e5 p s1 s2 s3 w1 w2 w3 w4 l1 n o
 
-  asked : IsSend (Asked.the_row P J S L R A W E p s3 s1 s2 e1 e3 e4 e5 w1 w2 w3 w4 l1 n o)
-  asked = asked_send E sE yE P J S L R A W sJ sS sL sR e1 e2 e3 e4 e5 p s1 s2 s3 w1 w2 w3 w4 l1 n o
+  asked : IsSend (Asked.the_row P B S L R A W E p s3 s1 s2 e1 e3 e4 e5 w1 w2 w3 w4 l1 n o)
+  asked = asked_send E sE yE P B S L R A W sB sS sL sR e1 e2 e3 e4 e5 p s1 s2 s3 w1 w2 w3 w4 l1 n o
 
-  pub work_send : IsSend (Work.the_row P J S L R A W E p s3 s1 s2 e1 e3 e4 e5 w1 w2 w3 w4 l1 n o)
+  pub work_send : IsSend (Work.the_row P B S L R A W E p s3 s1 s2 e1 e3 e4 e5 w1 w2 w3 w4 l1 n o)
   work_send =
-      variants_send (Work.enum P J S L R A W E p s3 s1 s2 e1 e3 e4 e5 w1 w2 w3 w4 l1 n o) ((as_row_send (Ticket.the_field P J S L R A W E p s3 s1 s2 e1 e3 e4 e5 w1 w2 w3 w4 l1 n o) ticket, tt), ((as_row_send (Asked.the_field P J S L R A W E p s3 s1 s2 e1 e3 e4 e5 w1 w2 w3 w4 l1 n o) asked, tt), ((as_row_send (HandlerName.the_field E) (handler_send E sE yE), tt), tt)))
+      variants_send (Work.enum P B S L R A W E p s3 s1 s2 e1 e3 e4 e5 w1 w2 w3 w4 l1 n o) ((as_row_send (Ticket.the_field P B S L R A W E p s3 s1 s2 e1 e3 e4 e5 w1 w2 w3 w4 l1 n o) ticket, tt), ((as_row_send (Asked.the_field P B S L R A W E p s3 s1 s2 e1 e3 e4 e5 w1 w2 w3 w4 l1 n o) asked, tt), ((as_row_send (HandlerName.the_field E) (handler_send E sE yE), tt), tt)))
 
-  pub queue_send : IsSend (Queue.the_row P J S L R A W E p s3 s1 s2 e1 e3 e4 e5 w1 w2 w3 w4 l1 n o)
+  pub queue_send : IsSend (Queue.the_row P B S L R A W E p s3 s1 s2 e1 e3 e4 e5 w1 w2 w3 w4 l1 n o)
   queue_send =
-      let woken = as_row_send (Vec.the_field (Asked.the_row P J S L R A W E p s3 s1 s2 e1 e3 e4 e5 w1 w2 w3 w4 l1 n o) Global.the_row ghosts) (Vec-send _ asked) in
+      let woken = as_row_send (Vec.the_field (Asked.the_row P B S L R A W E p s3 s1 s2 e1 e3 e4 e5 w1 w2 w3 w4 l1 n o) Global.the_row ghosts) (Vec-send _ asked) in
       let hands = as_row_send (Vec.the_field (HandlerName.the_row E) Global.the_row ghosts) (Vec-send _ (handler_send E sE yE)) in
-      declared_send (Queue.the_type P J S L R A W E p s3 s1 s2 e1 e3 e4 e5 w1 w2 w3 w4 l1 n o) (woken, (search (ticket, crosses, sendable) depth 24, (hands, tt)))
+      declared_send (Queue.the_type P B S L R A W E p s3 s1 s2 e1 e3 e4 e5 w1 w2 w3 w4 l1 n o) (woken, (search (ticket, crosses, sendable) depth 24, (hands, tt)))
 
   -- a board whose workers are known by the name may go, and a crew's hall may be seen, where the board may go
-  module _ (sW : IsSend W) (f : staff.Ghosts J.Denot) where
-    staffed_send : (a : NamedLft) → IsSync P → IsSend (Staffed.the_row a P J S L R A W E p s3 s1 s2 e1 e2 e3 e4 e5 w1 w2 w3 w4 l1 n o f)
+  module _ (sW : IsSend W) (f : staff.Ghosts B.Denot) where
+    staffed_send : (a : NamedLft) → IsSync P → IsSend (Staffed.the_row a P B S L R A W E p s3 s1 s2 e1 e2 e3 e4 e5 w1 w2 w3 w4 l1 n o f)
     staffed_send a yP =
-        let board = as_row_send (Board.the_field a P J S L R A W E p s3 s1 s2 e1 e2 e3 e4 e5 w1 w2 w3 w4 l1 n o) (board_send E sE yE P J S L R A W sJ sS sL sR e1 e2 e3 e4 e5 p s1 s2 s3 w1 w2 w3 w4 l1 n o sW a yP) in
-        view_send (inside_staffed.the_row a P J S L R A W E p s3 s1 s2 e1 e2 e3 e4 e5 w1 w2 w3 w4 l1 n o f) _ _ _ _ (declared_send (inside_staffed.the_type a P J S L R A W E p s3 s1 s2 e1 e2 e3 e4 e5 w1 w2 w3 w4 l1 n o f) (board, tt))
+        let board = as_row_send (Board.the_field a P B S L R A W E p s3 s1 s2 e1 e2 e3 e4 e5 w1 w2 w3 w4 l1 n o) (board_send E sE yE P B S L R A W sB sS sL sR e1 e2 e3 e4 e5 p s1 s2 s3 w1 w2 w3 w4 l1 n o sW a yP) in
+        view_send (inside_staffed.the_row a P B S L R A W E p s3 s1 s2 e1 e2 e3 e4 e5 w1 w2 w3 w4 l1 n o f) _ _ _ _ (declared_send (inside_staffed.the_type a P B S L R A W E p s3 s1 s2 e1 e2 e3 e4 e5 w1 w2 w3 w4 l1 n o f) (board, tt))
 
-    pub hall_sync : (a : NamedLft) → IsSync P → IsSync (Hall.the_row a P J S L R A W E p s3 s1 s2 e1 e2 e3 e4 e5 w1 w2 w3 w4 l1 n o f)
+    pub hall_sync : (a : NamedLft) → IsSync P → IsSync (Hall.the_row a P B S L R A W E p s3 s1 s2 e1 e2 e3 e4 e5 w1 w2 w3 w4 l1 n o f)
     hall_sync a yP =
-        let board = of_padded.the_sync (Mutex.the_row (Staffed.the_row a P J S L R A W E p s3 s1 s2 e1 e2 e3 e4 e5 w1 w2 w3 w4 l1 n o f)) (mutex_sync _ (staffed_send a yP)) in
-        let rest = as_row_sync (Mutex.the_field (Vec.the_row (Work.the_row P J S L R A W E p s3 s1 s2 e1 e3 e4 e5 w1 w2 w3 w4 l1 n o) Global.the_row ghosts)) (mutex_sync _ (Vec-send _ work_send)) in
-        declared_sync (Hall.the_type a P J S L R A W E p s3 s1 s2 e1 e2 e3 e4 e5 w1 w2 w3 w4 l1 n o f) (board, (rest, (flag_sync, (count_sync, (count_sync, (sleepers_sync, (bell_sync, tt)))))))
+        let board = of_padded.the_sync (Mutex.the_row (Staffed.the_row a P B S L R A W E p s3 s1 s2 e1 e2 e3 e4 e5 w1 w2 w3 w4 l1 n o f)) (mutex_sync _ (staffed_send a yP)) in
+        let rest = as_row_sync (Mutex.the_field (Vec.the_row (Work.the_row P B S L R A W E p s3 s1 s2 e1 e3 e4 e5 w1 w2 w3 w4 l1 n o) Global.the_row ghosts)) (mutex_sync _ (Vec-send _ work_send)) in
+        declared_sync (Hall.the_type a P B S L R A W E p s3 s1 s2 e1 e2 e3 e4 e5 w1 w2 w3 w4 l1 n o f) (board, (rest, (flag_sync, (count_sync, (count_sync, (sleepers_sync, (bell_sync, tt)))))))
 
     -- a worker at its seat may go, where what all workers share may be seen
-    pub seated_send : (Rt G : RattleType) (t : gate.Ghosts G.Denot) → IsSync P → IsSync Rt → IsSync G → (a b c d : NamedLft) → IsSend (Seated.the_row a b c d P J Rt G S L R A W E p s3 s1 s2 e1 e3 e4 e5 w1 w2 w3 w4 l1 n o f t e2)
+    pub seated_send : (Rt G : RattleType) (t : gate.Ghosts G.Denot) → IsSync P → IsSync Rt → IsSync G → (a b c d : NamedLft) → IsSend (Seated.the_row a b c d P B Rt G S L R A W E p s3 s1 s2 e1 e3 e4 e5 w1 w2 w3 w4 l1 n o f t e2)
     seated_send Rt G t yP yRt yG a b c d =
-        let all : IsSync (Order.the_row b d P Rt G t) = search (of_order.the_sync, yP, yRt, yG) depth 6 in
-        let order = as_row_send (row_field (ShrRef a.mir a.lft (Order.the_row b d P Rt G t))) (shr_send a.mir a.lft (Order.the_row b d P Rt G t) all) in
-        let hall = as_row_send (row_field (ShrRef c.mir c.lft (Hall.the_row d P J S L R A W E p s3 s1 s2 e1 e2 e3 e4 e5 w1 w2 w3 w4 l1 n o f))) (shr_send c.mir c.lft (Hall.the_row d P J S L R A W E p s3 s1 s2 e1 e2 e3 e4 e5 w1 w2 w3 w4 l1 n o f) (hall_sync d yP)) in
-        declared_send (Seated.the_type a b c d P J Rt G S L R A W E p s3 s1 s2 e1 e3 e4 e5 w1 w2 w3 w4 l1 n o f t e2) (order, (hall, (of_pace.the_send, (of_seat.the_send _ work_send, (queue_send, tt)))))
+        let all : IsSync (Setting.the_row b d P Rt G t) = search (of_setting.the_sync, yP, yRt, yG) depth 6 in
+        let setting = as_row_send (row_field (ShrRef a.mir a.lft (Setting.the_row b d P Rt G t))) (shr_send a.mir a.lft (Setting.the_row b d P Rt G t) all) in
+        let hall = as_row_send (row_field (ShrRef c.mir c.lft (Hall.the_row d P B S L R A W E p s3 s1 s2 e1 e2 e3 e4 e5 w1 w2 w3 w4 l1 n o f))) (shr_send c.mir c.lft (Hall.the_row d P B S L R A W E p s3 s1 s2 e1 e2 e3 e4 e5 w1 w2 w3 w4 l1 n o f) (hall_sync d yP)) in
+        declared_send (Seated.the_type a b c d P B Rt G S L R A W E p s3 s1 s2 e1 e3 e4 e5 w1 w2 w3 w4 l1 n o f t e2) (setting, (hall, (of_pace.the_send, (of_seat.the_send _ work_send, (queue_send, tt)))))

@@ -15,8 +15,8 @@ use Rattle.lvish_core.specs.CoreLaws.{HandsWhatComes}
 use Rattle.lvish_core.specs.Labels.{label_cmp}
 use Rattle.lvish_core.specs.laws.Runs.{no_error_before}
 use Rattle.lvish_core.specs.Changes.{local_of}
-use Rattle.lvish_board.specs.Place.{TaskPlace}
-use Rattle.lvish_board.specs.Standing.{Standing, tasks_of, IsBlocked, IsBoardSound}
+use Rattle.lvish_board.specs.Stand.{TaskStand}
+use Rattle.lvish_board.specs.Board.{Standing, tasks_of, IsBlocked, IsBoardSound}
 use Rattle.lvish_board.specs.Listed.{HasNext}
 use Rattle.lvish_run.specs.Agenda.{Open, SetsOpenTask, HasHandler, IsTaskGone, IsHandlerGone, IsBeside}
 use Rattle.lvish_run.specs.Walk.{IsFirstEnabled, IsStuck}
@@ -35,7 +35,7 @@ live_at {S = S} {E = E} {L = L} M c t can = by ((state M c).tasks t) refl (subst
     by Absent e z = absurd z
     by Ended e z = absurd z
 
-module _ {P S E R A L : Type 0} (M : Machine S E R A L) (s : Standing P S E L) (a : Open E L) (blocked : (p : TaskPlace E L) → IsAmong p s.parked → IsBlocked M s.core p) (beside : IsBeside M s None None a) where
+module _ {P S E R A L : Type 0} (M : Machine S E R A L) (s : Standing P S E L) (a : Open E L) (blocked : (p : TaskStand E L) → IsAmong p s.parked → IsBlocked M s.core p) (beside : IsBeside M s None None a) where
   -- a task that can go on is open
   pub open_task : (t : Name E) → CanTake M s.core (Act t) → a.at t ≡ None → ⊥
   open_task t can none = none-some t (beside.tasks t l.0 l.1 none not_parked)
@@ -56,7 +56,7 @@ module _ {P S E R A L : Type 0} (M : Machine S E R A L) (s : Standing P S E L) (
 
   module _ (cmp : E → E → Ordering) where
     -- the first open task is the first that can go on, if it can
-    pub lowest_task : ((t u : Name E) → (name_cmp cmp t u ≡ Equal) ↔ (t ≡ u)) → (p : TaskPlace E L) (b : Open E L) → IsTaskGone cmp a p b → CanTake M s.core (Act p.task) → IsFirstEnabled cmp M s.core (Act p.task)
+    pub lowest_task : ((t u : Name E) → (name_cmp cmp t u ≡ Equal) ↔ (t ≡ u)) → (p : TaskStand E L) (b : Open E L) → IsTaskGone cmp a p b → CanTake M s.core (Act p.task) → IsFirstEnabled cmp M s.core (Act p.task)
     lowest_task exact p b gone can = record { can = can; before = before }
       where
         key : p.task ≡ gone.task
@@ -65,7 +65,7 @@ module _ {P S E R A L : Type 0} (M : Machine S E R A L) (s : Standing P S E L) (
         none_before : (u : Name E) → CanTake M s.core (Act u) → name_cmp cmp p.task u ≡ Greater → ⊥
         none_before u can_u e = by (a.at u) refl
           where
-            by : (o : Option (TaskPlace E L)) → a.at u ≡ o → ⊥
+            by : (o : Option (TaskStand E L)) → a.at u ≡ o → ⊥
             by None none = open_task u can_u none
             by (Some q) is = both_ways _ (gone.first u (ap (λ o. is_some o) is)) (ap is_gt (ap (λ t. name_cmp cmp t u) (sym key) ∙ e))
 
@@ -116,7 +116,7 @@ module _ {P S E R A L : Type 0} (M : Machine S E R A L) (program : P) (budget : 
 -- ---- the task or the handler that left the agenda has its turn
 
 module _ {P S E R A L : Type 0} (M : Machine S E R A L) (s : Standing P S E L) (cmp : E → E → Ordering) (a b : Open E L) (beside : IsBeside M s None None a) where
-  pub without_task : ((t u : Name E) → (name_cmp cmp t u ≡ Equal) ↔ (t ≡ u)) → (k : Name E) (p : TaskPlace E L) → a.at k ≡ Some p → SetsOpenTask cmp a k None b → IsBeside M s (Some p.task) None b
+  pub without_task : ((t u : Name E) → (name_cmp cmp t u ≡ Equal) ↔ (t ≡ u)) → (k : Name E) (p : TaskStand E L) → a.at k ≡ Some p → SetsOpenTask cmp a k None b → IsBeside M s (Some p.task) None b
   without_task exact k p was without = record {
     current = λ t q e. elim (at t) [
       | inl z ↦ absurd (none-some q (sym z.1 ∙ e))

@@ -12,7 +12,7 @@ mod Accounts
 mod Made
 mod Seats
 mod Leaving
-mod Told
+mod CountedBy
 mod Counted
 mod VariableKinds
 mod FreezesThere

@@ -6,10 +6,10 @@ use Rattle.lvish_calculus.specs.Machine.{Machine}
 use Rattle.lvish_calculus.specs.declared.label.Label.{Label}
 use Rattle.lvish_names.specs.Names.{Handler}
 use Rattle.lvish_calculus.specs.declared.label.Label.TheVariants.{Act, Hand}
-use Rattle.lvish_board.specs.declared.acted.Acted.{Acted}
+use Rattle.lvish_board.specs.declared.act_answer.ActAnswer.{ActAnswer}
 use Rattle.lvish_board.specs.Acts.{ComesOfAct, ComesOfHand, is_step}
-use Rattle.lvish_board.specs.Place.{TaskPlace}
-use Rattle.lvish_board.specs.Standing.{Standing}
+use Rattle.lvish_board.specs.Stand.{TaskStand}
+use Rattle.lvish_board.specs.Board.{Standing}
 use Rattle.lvish_trace.specs.declared.trace_entry.TraceEntry.{TraceEntry}
 use Rattle.lvish_run.specs.Crew.{MakesBy}
 
@@ -19,8 +19,8 @@ by_whether true worker old new l stays step = inr (l, step refl)
 by_whether false worker old new l stays step = inl (stays refl)
 
 -- what comes of an act and of a handing by a worker is a step of this worker, or none
-module _ {P' P J S L R A W E Ans : Type 0} (cmp : E → E → Ordering) (M : Machine S E R Ans L) (worker : ℕ) (old new : Standing P' S E L) (result : Acted P J S L R A W E) where
-  pub by_act : (Stands Can Full : Type 0) (asked : TaskPlace E L) → ComesOfAct cmp M Stands Can Full worker asked old new result → MakesBy worker old.trace new.trace
+module _ {P' P B S L R A W E Ans : Type 0} (cmp : E → E → Ordering) (M : Machine S E R Ans L) (worker : ℕ) (old new : Standing P' S E L) (result : ActAnswer P B S L R A W E) where
+  pub by_act : (Stands Can Full : Type 0) (asked : TaskStand E L) → ComesOfAct cmp M Stands Can Full worker asked old new result → MakesBy worker old.trace new.trace
   by_act Stands Can Full asked c = by_whether (is_step result) worker old.trace new.trace (Act asked.task) (λ e. (c.stays e).0) c.step
 
   pub by_hand : (Held Full : Type 0) (Next : E → Type 0) (handler : Handler E) → ComesOfHand cmp M Held Next Full worker handler old new result → MakesBy worker old.trace new.trace
@@ -30,10 +30,10 @@ module _ {P' P J S L R A W E Ans : Type 0} (cmp : E → E → Ordering) (M : Mac
       at true e = let s = c.step e in inr (Hand handler s.0, s.2)
       at false e = inl (c.stays e).0
 
--- what holds of each work that stands in a place holds, where there is some
-pub of_place : {X Q : Type 0} (o : Option X) → IsSome o → ((x : X) → o ≡ Some x → Q) → Q
-of_place None some each = absurd cc
-of_place (Some x) some each = each x refl
+-- what holds of each work that is in a slot holds, where there is some
+pub of_slot : {X Q : Type 0} (o : Option X) → IsSome o → ((x : X) → o ≡ Some x → Q) → Q
+of_slot None some each = absurd cc
+of_slot (Some x) some each = each x refl
 
 one_more : {E : Type 0} (n worker : ℕ) (l : Label E) → worker < n → (xs : List (TraceEntry E)) → AllByRecursion (λ e. e.worker < n) xs → AllByRecursion (λ e. e.worker < n) (xs ++ record { worker = worker; label = l } ∷ [])
 one_more n worker l less [] all = (less, tt)

@@ -15,28 +15,28 @@ use Rattle.lvish_calculus.proofs.Keeps.{tasks_after, made_absent}
 use Rattle.lvish_calculus.proofs.Moves.{task_stays}
 use Rattle.lvish_calculus.proofs.Runs.{reached}
 use Rattle.lvish_core.specs.Changes.{local_of, made_as, moved_by}
-use Rattle.lvish_board.specs.Place.{TaskPlace}
-use Rattle.lvish_board.specs.Listed.{tickets, own_place, made_place}
+use Rattle.lvish_board.specs.Stand.{TaskStand}
+use Rattle.lvish_board.specs.Listed.{tickets, own_stand, made_stand}
 use Rattle.lvish_core.specs.laws.Lists.{either_among, among_first, among_last}
 
-abbrev pub place : {E L : Type 0} → Name E → L → TaskPlace E L
-place t l = record { task = t; from = l }
+abbrev pub stand : {E L : Type 0} → Name E → L → TaskStand E L
+stand t l = record { task = t; from = l }
 
 -- whose ticket it is
-in_own : {E L : Type 0} (p : TaskPlace E L) (l : Label E) (o : Option L) → IsAmong p (own_place l o) → (l ≡ Act p.task) × (o ≡ Some p.from)
-in_own {E} {L} p (Act t) (Some k) (inl e) = (ap (λ (q : TaskPlace E L). Act q.task) (sym e), ap (λ (q : TaskPlace E L). Some q.from) (sym e))
+in_own : {E L : Type 0} (p : TaskStand E L) (l : Label E) (o : Option L) → IsAmong p (own_stand l o) → (l ≡ Act p.task) × (o ≡ Some p.from)
+in_own {E} {L} p (Act t) (Some k) (inl e) = (ap (λ (q : TaskStand E L). Act q.task) (sym e), ap (λ (q : TaskStand E L). Some q.from) (sym e))
 in_own p (Act t) (Some k) (inr z) = absurd z
 in_own p (Act t) None z = absurd z
 in_own p (Hand h e) (Some k) z = absurd z
 in_own p (Hand h e) None z = absurd z
 
-in_made : {E L : Type 0} (p : TaskPlace E L) (o : Option (Name E × Task L)) → IsAmong p (made_place (option_and_then (λ (x : Name E × Task L). made_as x.0 (local_of x.1)) o)) → (x : Name E × Task L) × (o ≡ Some x) × (x.0 ≡ p.task) × (local_of x.1 ≡ Some p.from)
+in_made : {E L : Type 0} (p : TaskStand E L) (o : Option (Name E × Task L)) → IsAmong p (made_stand (option_and_then (λ (x : Name E × Task L). made_as x.0 (local_of x.1)) o)) → (x : Name E × Task L) × (o ≡ Some x) × (x.0 ≡ p.task) × (local_of x.1 ≡ Some p.from)
 in_made p None z = absurd z
 in_made {E} {L} p (Some x) z = by (local_of x.1) refl z
   where
-    by : (o : Option L) → local_of x.1 ≡ o → IsAmong p (made_place (made_as x.0 o)) → (y : Name E × Task L) × (Some x ≡ Some y) × (y.0 ≡ p.task) × (local_of y.1 ≡ Some p.from)
+    by : (o : Option L) → local_of x.1 ≡ o → IsAmong p (made_stand (made_as x.0 o)) → (y : Name E × Task L) × (Some x ≡ Some y) × (y.0 ≡ p.task) × (local_of y.1 ≡ Some p.from)
     by None at k = absurd k
-    by (Some a) at (inl e) = (x, refl, ap (λ (q : TaskPlace E L). q.task) (sym e), at ∙ ap (λ (q : TaskPlace E L). Some q.from) (sym e))
+    by (Some a) at (inl e) = (x, refl, ap (λ (q : TaskStand E L). q.task) (sym e), at ∙ ap (λ (q : TaskStand E L). Some q.from) (sym e))
     by (Some a) at (inr k) = absurd k
 
 -- a task with a local state is live
@@ -86,20 +86,20 @@ module _ {S E R A L : Type 0} (M : Machine S E R A L) (ok : IsLawful M) (ls : Li
           let other : t ≡ x.0 → ⊥ = λ e. live≢absent (c.tasks x.0) is.local is.forks is.adds is.puts is.was (ap c.tasks (sym e) ∙ none) in
           ap (λ y. with_task M.event_same y (with_task M.event_same ch.made c.tasks) t) own ∙ with_task-other M.event_same ok.event_same_is x.0 x.1 (with_task M.event_same ch.made c.tasks) t other ∙ before
 
-  own_ticket : (t : Name E) (k : L) (w : Task L) → ch.own ≡ Some (t, w) → local_of w ≡ Some k → IsAmong (place t k) (tickets l (moved_by ch))
+  own_ticket : (t : Name E) (k : L) (w : Task L) → ch.own ≡ Some (t, w) → local_of w ≡ Some k → IsAmong (stand t k) (tickets l (moved_by ch))
   own_ticket t k w own at =
       let label : l ≡ Act t = (own_is M ok c l ch (view M ok c l ch does) t w own).label in
       let goes : (moved_by ch).own ≡ Some k = ap (option_and_then (λ (x : Name E × Task L). local_of x.1)) own ∙ at in
-      among_first (place t k) (own_place l (moved_by ch).own) (made_place (moved_by ch).made)
-      (subst (λ m. IsAmong (place t k) (own_place m (moved_by ch).own)) (sym label) (subst (λ o. IsAmong (place t k) (own_place (Act t) o)) (sym goes) (inl refl)))
+      among_first (stand t k) (own_stand l (moved_by ch).own) (made_stand (moved_by ch).made)
+      (subst (λ m. IsAmong (stand t k) (own_stand m (moved_by ch).own)) (sym label) (subst (λ o. IsAmong (stand t k) (own_stand (Act t) o)) (sym goes) (inl refl)))
 
-  made_ticket : (t : Name E) (k : L) (w : Task L) → ch.made ≡ Some (t, w) → local_of w ≡ Some k → IsAmong (place t k) (tickets l (moved_by ch))
+  made_ticket : (t : Name E) (k : L) (w : Task L) → ch.made ≡ Some (t, w) → local_of w ≡ Some k → IsAmong (stand t k) (tickets l (moved_by ch))
   made_ticket t k w made at =
       let starts : (moved_by ch).made ≡ Some (record { name = t; local = k }) = ap (option_and_then (λ (x : Name E × Task L). made_as x.0 (local_of x.1))) made ∙ ap (made_as t) at in
-      among_last (place t k) (own_place l (moved_by ch).own) (made_place (moved_by ch).made) (subst (λ o. IsAmong (place t k) (made_place o)) (sym starts) (inl refl))
+      among_last (stand t k) (own_stand l (moved_by ch).own) (made_stand (moved_by ch).made) (subst (λ o. IsAmong (stand t k) (made_stand o)) (sym starts) (inl refl))
 
   -- a task that hasn't ended has a ticket of the step, or stood there before it
-  pub came_by : (t : Name E) (k : L) → local_of (later t) ≡ Some k → IsAmong (place t k) (tickets l (moved_by ch)) ⊎ ((l ≡ Act t → ⊥) × (local_of (c.tasks t) ≡ Some k))
+  pub came_by : (t : Name E) (k : L) → local_of (later t) ≡ Some k → IsAmong (stand t k) (tickets l (moved_by ch)) ⊎ ((l ≡ Act t → ⊥) × (local_of (c.tasks t) ≡ Some k))
   came_by t k at = elim (tasks_after M ok c l ch (view M ok c l ch does) en (reached M ok ls c run) t) [
     | inl w ↦ inl (own_ticket t k w.0 w.1 (ap local_of (sym w.2) ∙ at))
     | inr (inl w) ↦ inl (made_ticket t k w.0 w.1 (ap local_of (sym w.2) ∙ at))
@@ -110,8 +110,8 @@ module _ {S E R A L : Type 0} (M : Machine S E R A L) (ok : IsLawful M) (ls : Li
   ]
 
   -- a ticket of the step is where its task is
-  pub ticket_at : (p : TaskPlace E L) → IsAmong p (tickets l (moved_by ch)) → local_of (later p.task) ≡ Some p.from
-  ticket_at p i = elim (either_among p (own_place l (moved_by ch).own) (made_place (moved_by ch).made) i) [
+  pub ticket_at : (p : TaskStand E L) → IsAmong p (tickets l (moved_by ch)) → local_of (later p.task) ≡ Some p.from
+  ticket_at p i = elim (either_among p (own_stand l (moved_by ch).own) (made_stand (moved_by ch).made) i) [
     | inl j ↦
         let z = in_own p l (moved_by ch).own j in
         option_and_then_some (λ (x : Name E × Task L). local_of x.1) ch.own p.from z.1 (λ x own at.

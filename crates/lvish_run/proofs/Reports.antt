@@ -17,14 +17,14 @@ use Rattle.lvish_core.specs.Labels.{AreLabels}
 use Rattle.lvish_core.specs.laws.Runs.{no_error_before}
 use Rattle.lvish_report.specs.declared.report.FinalState.{FinalState}
 use Rattle.lvish_trace.specs.declared.trace_entry.TraceEntry.{TraceEntry}
-use Rattle.lvish_trace.specs.declared.noted.Noted.{Noted}
-use Rattle.lvish_trace.specs.Noted.{IsNoted, entry_at, entries_of}
+use Rattle.lvish_trace.specs.declared.packed_step.PackedStep.{PackedStep}
+use Rattle.lvish_trace.specs.Packed.{IsPacked, entry_at, entries_of}
 use Rattle.lvish_report.specs.declared.report.Report.{Report}
 use Rattle.lvish_trace.specs.declared.outcome.Outcome.{Outcome}
 use Rattle.lvish_trace.specs.declared.outcome.Outcome.TheVariants.{Ended, Error as ErrorOutcome, Budget}
 use Rattle.lvish_run.specs.Honest.{AreFinalStates, Comes, IsOutcome, IsCountByWorker, IsHonest}
 use Rattle.lvish_trace.specs.Traced.{labels_of}
-use Rattle.lvish_board.specs.Standing.{Standing, OverIs, IsBoardSound}
+use Rattle.lvish_board.specs.Board.{Standing, OverIs, IsBoardSound}
 use Rattle.lvish_calculus.specs.Live.{HasLive}
 use Rattle.lvish_run.specs.Alike.{EndsAlikeIf, IsAlike, IsTold}
 use Rattle.lvish_run.specs.Least.{IsLeast, IsClosedEnd}
@@ -113,12 +113,12 @@ module _ {P S E R A L : Type 0} (cmp : E → E → Ordering) (machine : P → Ma
 -- ---- the report of a board
 
 -- noted steps are the trace that they are by the names of the tasks
-module _ {E : Type 0} (names theirs : List (Name E)) (noted : List Noted) (trace : List (TraceEntry E)) (same : names ≡ theirs) (is : trace ≡ entries_of theirs noted) where
+module _ {E : Type 0} (names theirs : List (Name E)) (noted : List PackedStep) (trace : List (TraceEntry E)) (same : names ≡ theirs) (is : trace ≡ entries_of theirs noted) where
   pub named_trace : entries_of names noted ≡ trace
   named_trace = ap (λ ns. entries_of ns noted) same ∙ sym is
 
-  pub named_all : AllByRecursion (IsNoted theirs) noted → AllByRecursion (IsNoted names) noted
-  named_all all = subst (λ ns. AllByRecursion (IsNoted ns) noted) (sym same) all
+  pub named_all : AllByRecursion (IsPacked theirs) noted → AllByRecursion (IsPacked names) noted
+  named_all all = subst (λ ns. AllByRecursion (IsPacked ns) noted) (sym same) all
 
   pub named_long : (steps : ℕ) → steps ≡ length noted → steps ≡ length (entries_of names noted)
   named_long steps long = long ∙ sym (length-map noted (entry_at names))

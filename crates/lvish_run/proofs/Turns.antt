@@ -13,8 +13,8 @@ use Rattle.lvish_board.specs.Acts.{entry_of}
 use Rattle.lvish_board.specs.Listed.{IsListed}
 use Rattle.lvish_board.specs.declared.work.Work.{Work}
 use Rattle.lvish_trace.specs.Traced.{labels_of}
-use Rattle.lvish_board.specs.Standing.{Standing, IsBoardSound, IsBlocked}
-use Rattle.lvish_board.specs.Place.{TaskPlace}
+use Rattle.lvish_board.specs.Board.{Standing, IsBoardSound, IsBlocked}
+use Rattle.lvish_board.specs.Stand.{TaskStand}
 use Rattle.lvish_run.specs.Agenda.{Agenda, open_in, NoTask, IsTaskGone, IsHandlerGone, IsBeside}
 use Rattle.lvish_run.specs.Walk.{IsStuck, IsDrawn, IsFirstEnabled, IsIdle, IsMade, IsActed, IsHandTurn, IsFirstHandler, IsTurn}
 use Rattle.lvish_run.proofs.Reports.{chosen_can}
@@ -22,7 +22,7 @@ use Rattle.lvish_board.proofs.Handing.{hand_open}
 use Rattle.lvish_run.proofs.Firsts.{lowest_task, lowest_handler, without_handler, drained}
 
 -- the event that a handing handed, by another name
-pub handing_made : {P' P J S L R A W E Ans : Type 0} {cmp : E → E → Ordering} {M : Machine S E R Ans L} {old new : Standing P' S E L} {h : Handler E} {e f : E} {ws : List (Work P J S L R A W E)} → e ≡ f
+pub handing_made : {P' P B S L R A W E Ans : Type 0} {cmp : E → E → Ordering} {M : Machine S E R Ans L} {old new : Standing P' S E L} {h : Handler E} {e f : E} {ws : List (Work P B S L R A W E)} → e ≡ f
     → new.trace ≡ old.trace ++ entry_of 0 (Hand h e) ∷ [] → IsListed cmp M old (Hand h e) new ws → IsMade cmp M old (Hand h f) new ws
 handing_made {cmp = cmp} {M = M} {old = old} {new = new} {h = h} {ws = ws} same entered listed = subst (λ x. IsMade cmp M old (Hand h x) new ws) same (record { entered = entered; listed = listed })
 
@@ -78,8 +78,8 @@ module _ {P S E R A L : Type 0} (cmp : E → E → Ordering) (M : Machine S E R 
   )
 
   -- the step of the first task that can go on
-  pub first_acted : ((t u : Name E) → (name_cmp cmp t u ≡ Equal) ↔ (t ≡ u)) → (s q r : Standing P S E L) → IsIdle s q → (a b : Agenda E L) → ((p : TaskPlace E L) → IsAmong p q.parked → IsBlocked M q.core p) → IsBeside M q None None (open_in cmp a)
-      → (p : TaskPlace E L) → IsTaskGone cmp (open_in cmp a) p (open_in cmp b) → IsActed M q p.task true r → IsTurn cmp M None s true r
+  pub first_acted : ((t u : Name E) → (name_cmp cmp t u ≡ Equal) ↔ (t ≡ u)) → (s q r : Standing P S E L) → IsIdle s q → (a b : Agenda E L) → ((p : TaskStand E L) → IsAmong p q.parked → IsBlocked M q.core p) → IsBeside M q None None (open_in cmp a)
+      → (p : TaskStand E L) → IsTaskGone cmp (open_in cmp a) p (open_in cmp b) → IsActed M q p.task true r → IsTurn cmp M None s true r
   first_acted exact s q r idle a b blocked beside p gone z = turn_after s q r idle true (Act p.task, lowest_task M q (open_in cmp a) blocked beside cmp exact p (open_in cmp b) gone z.0, z.1)
 
   -- ---- the first handler

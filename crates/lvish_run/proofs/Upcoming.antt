@@ -13,7 +13,7 @@ use Rattle.lvish_calculus.proofs.Names.{nat_eq-true}
 use Rattle.lvish_calculus.proofs.Order.{with_join-same, with_join-other}
 use Rattle.lvish_calculus.proofs.Steps.{Makes, puts, gets, forks, adds, freezes, pauses, ends, hands, view}
 use Rattle.lvish_calculus.proofs.Sound.{IsSound}
-use Rattle.lvish_calculus.proofs.Keeps.{handlers_after, handled_stays}
+use Rattle.lvish_calculus.proofs.Keeps.{handlers_after, handed_stays}
 use Rattle.lvish_variable.specs.Variable.{VariableView as Variable, entries, logged}
 use Rattle.lvish_handlers.specs.declared.held.Held.{Held}
 use Rattle.lvish_handlers.specs.Handlers.{HandlersView as Handlers, next_of}
@@ -89,9 +89,9 @@ module _ {S E R A L : Type 0} (M : Machine S E R A L) (ok : IsLawful M) where
       | inr z ↦ record { post = on.post; is = sym z ∙ on.is; of = on.of }
     ]
 
-    unhandled_before : (e : E) → (changed M ch c).handled h e ≡ false → c.handled h e ≡ false
-    unhandled_before e now = elim (cases_Bool (c.handled h e)) [
-      | inl was ↦ absurd (both_ways _ now (handled_stays M ok c l ch makes en sound h e was))
+    not_handed_before : (e : E) → (changed M ch c).handed h e ≡ false → c.handed h e ≡ false
+    not_handed_before e now = elim (cases_Bool (c.handed h e)) [
+      | inl was ↦ absurd (both_ways _ now (handed_stays M ok c l ch makes en sound h e was))
       | inr was ↦ was
     ]
 
@@ -99,7 +99,7 @@ module _ {S E R A L : Type 0} (M : Machine S E R A L) (ok : IsLawful M) where
     to_hand_before e z =
         let on = on_before z.variable z.on in
         elim (below_before c l ch makes z.variable e z.below) [
-          | inl below ↦ record { variable = z.variable; on = on; below = below; unhandled = unhandled_before e z.unhandled }
+          | inl below ↦ record { variable = z.variable; on = on; below = below; not_handed = not_handed_before e z.not_handed }
           | inr some ↦ absurd (apart (by_putting z.variable on (λ none. some (sym (ap (brings M c z.variable) does) ∙ none))))
         ]
 

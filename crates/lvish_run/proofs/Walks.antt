@@ -9,7 +9,7 @@ use Rattle.lvish_core.specs.Core.{CoreView, picture, IsRunTo}
 use Rattle.lvish_core.specs.CoreLaws.{TakesCoreRuns}
 use Rattle.lvish_trace.specs.declared.trace_entry.TraceEntry.{TraceEntry}
 use Rattle.lvish_trace.specs.Traced.{labels_of}
-use Rattle.lvish_board.specs.Standing.{Standing, IsBoardSound}
+use Rattle.lvish_board.specs.Board.{Standing, IsBoardSound}
 use Rattle.lvish_run.specs.Picked.{IsNamed, IsPicked}
 use Rattle.lvish_run.specs.Walk.{IsTaken, IsTurn, IsStuck, IsWalk, IsWalked}
 use Rattle.lvish_run.proofs.Reports.{over_stops}

@@ -14,18 +14,18 @@ use Rattle.lvish_core.specs.Core.{state}
 use Rattle.lvish_core.specs.Changes.{local_of}
 use Rattle.lvish_board.specs.declared.work.Work.{Work}
 use Rattle.lvish_board.specs.declared.work.Work.TheVariants.{Stretch, Act as ActOn, Hand as HandTo}
-use Rattle.lvish_board.specs.Place.{TaskPlace}
-use Rattle.lvish_board.specs.Standing.{Standing, tasks_of, IsCurrent}
+use Rattle.lvish_board.specs.Stand.{TaskStand}
+use Rattle.lvish_board.specs.Board.{Standing, tasks_of, IsCurrent}
 use Rattle.lvish_board.specs.Listed.{HasNext}
 
 -- what contracts see of an agenda: the open tasks under their names, and the open handlers
 pub record Agenda (E L : Type 0) : Type 0 where
-  pub tasks : List (Name E × TaskPlace E L)
+  pub tasks : List (Name E × TaskStand E L)
   pub handlers : List (Handler E)
 
 -- where each open task stands, whether a handler is open, and how many tasks and handlers are
 pub record Open (E L : Type 0) : Type 0 where
-  pub at : Name E → Option (TaskPlace E L)
+  pub at : Name E → Option (TaskStand E L)
   pub has : Handler E → Bool
   pub tasks : ℕ
   pub handlers : ℕ
@@ -40,20 +40,20 @@ open_in cmp a = record {
 }
 
 -- the same but at this task's name, where x is
-abbrev pub PutsAt : {E L : Type 0} → (E → E → Ordering) → List (Name E × TaskPlace E L) → Name E → Option (TaskPlace E L) → List (Name E × TaskPlace E L) → Type 0
+abbrev pub PutsAt : {E L : Type 0} → (E → E → Ordering) → List (Name E × TaskStand E L) → Name E → Option (TaskStand E L) → List (Name E × TaskStand E L) → Type 0
 PutsAt {E} cmp old t x new = (u : Name E) → lookup (is_at (name_cmp cmp u)) new ≡ cond (is_eq (name_cmp cmp t u)) x (lookup (is_at (name_cmp cmp u)) old)
 
 -- the name is below that of each of these tasks
-abbrev pub IsBelow : {E L : Type 0} → (E → E → Ordering) → Name E → List (Name E × TaskPlace E L) → Type 0
+abbrev pub IsBelow : {E L : Type 0} → (E → E → Ordering) → Name E → List (Name E × TaskStand E L) → Type 0
 IsBelow {E} cmp t es = (u : Name E) → IsSome (lookup (is_at (name_cmp cmp u)) es) → name_cmp cmp t u ≡ Less
 
 -- a task that stands before the others, under its name
-abbrev pub entry_of : {E L : Type 0} → Option (TaskPlace E L) → List (Name E × TaskPlace E L)
+abbrev pub entry_of : {E L : Type 0} → Option (TaskStand E L) → List (Name E × TaskStand E L)
 entry_of None = []
 entry_of (Some p) = (p.task, p) ∷ []
 
 -- a task that stands before the others is below them
-abbrev pub IsFirstOf : {E L : Type 0} → (E → E → Ordering) → Option (TaskPlace E L) → List (Name E × TaskPlace E L) → Type 0
+abbrev pub IsFirstOf : {E L : Type 0} → (E → E → Ordering) → Option (TaskStand E L) → List (Name E × TaskStand E L) → Type 0
 IsFirstOf cmp None es = Unit {0}
 IsFirstOf cmp (Some p) es = IsBelow cmp p.task es
 
@@ -63,7 +63,7 @@ pub record IsEmpty {E L : Type 0} (a : Open E L) : Type 0 where
   pub has : (h : Handler E) → a.has h ≡ false
 
 -- the same, with this at the task
-pub record SetsOpenTask {E L : Type 0} (cmp : E → E → Ordering) (old : Open E L) (t : Name E) (p : Option (TaskPlace E L)) (new : Open E L) : Type 0 where
+pub record SetsOpenTask {E L : Type 0} (cmp : E → E → Ordering) (old : Open E L) (t : Name E) (p : Option (TaskStand E L)) (new : Open E L) : Type 0 where
   pub at : (u : Name E) → new.at u ≡ cond (is_eq (name_cmp cmp t u)) p (old.at u)
   pub has : new.has ≡ old.has
 
@@ -81,7 +81,7 @@ abbrev pub NoHandler : {E L : Type 0} → Open E L → Type 0
 NoHandler {E} a = (h : Handler E) → a.has h ≡ false
 
 -- the first open task left the agenda
-pub record IsTaskGone {E L : Type 0} (cmp : E → E → Ordering) (old : Open E L) (p : TaskPlace E L) (new : Open E L) : Type 0 where
+pub record IsTaskGone {E L : Type 0} (cmp : E → E → Ordering) (old : Open E L) (p : TaskStand E L) (new : Open E L) : Type 0 where
   pub task : Name E
   pub was : old.at task ≡ Some p
   pub first : (u : Name E) → IsSome (old.at u) → is_gt (name_cmp cmp task u) ≡ false
@@ -95,24 +95,24 @@ pub record IsHandlerGone {E L : Type 0} (cmp : E → E → Ordering) (old : Open
   pub fewer : new.handlers + 1 ≡ old.handlers
 
 -- these tasks and handlers were opened
-pub record Opens {E L : Type 0} (ps : List (TaskPlace E L)) (hs : List (Handler E)) (old new : Open E L) : Type 0 where
-  pub from : (t : Name E) (p : TaskPlace E L) → new.at t ≡ Some p → (old.at t ≡ Some p) ⊎ ((p.task ≡ t) × IsAmong p ps)
-  pub kept : (t : Name E) → new.at t ≡ None → (old.at t ≡ None) × ((p : TaskPlace E L) → IsAmong p ps → p.task ≡ t → ⊥)
+pub record Opens {E L : Type 0} (ps : List (TaskStand E L)) (hs : List (Handler E)) (old new : Open E L) : Type 0 where
+  pub from : (t : Name E) (p : TaskStand E L) → new.at t ≡ Some p → (old.at t ≡ Some p) ⊎ ((p.task ≡ t) × IsAmong p ps)
+  pub kept : (t : Name E) → new.at t ≡ None → (old.at t ≡ None) × ((p : TaskStand E L) → IsAmong p ps → p.task ≡ t → ⊥)
   pub hands : (h : Handler E) → new.has h ≡ false → (old.has h ≡ false) × (IsAmong h hs → ⊥)
 
 -- the work is the task's
-abbrev pub IsTaskOf : {P J S L R A W E : Type 0} → List (Work P J S L R A W E) → TaskPlace E L → Type 0
+abbrev pub IsTaskOf : {P B S L R A W E : Type 0} → List (Work P B S L R A W E) → TaskStand E L → Type 0
 IsTaskOf ws p = IsAmong (Stretch p) ws ⊎ IsAmong (ActOn p) ws
 
 -- the work was added
-pub record Adds {P J S L R A W E : Type 0} (ws : List (Work P J S L R A W E)) (old new : Open E L) : Type 0 where
-  pub from : (t : Name E) (p : TaskPlace E L) → new.at t ≡ Some p → (old.at t ≡ Some p) ⊎ ((p.task ≡ t) × IsTaskOf ws p)
-  pub kept : (t : Name E) → new.at t ≡ None → (old.at t ≡ None) × ((p : TaskPlace E L) → IsTaskOf ws p → p.task ≡ t → ⊥)
+pub record Adds {P B S L R A W E : Type 0} (ws : List (Work P B S L R A W E)) (old new : Open E L) : Type 0 where
+  pub from : (t : Name E) (p : TaskStand E L) → new.at t ≡ Some p → (old.at t ≡ Some p) ⊎ ((p.task ≡ t) × IsTaskOf ws p)
+  pub kept : (t : Name E) → new.at t ≡ None → (old.at t ≡ None) × ((p : TaskStand E L) → IsTaskOf ws p → p.task ≡ t → ⊥)
   pub hands : (h : Handler E) → new.has h ≡ false → (old.has h ≡ false) × (IsAmong (HandTo h) ws → ⊥)
 
 -- each open task stands where the agenda has it; each task that hasn't ended is open or parked, and each handler for which something comes next is open, except for the task and the handler whose turn it is
 pub record IsBeside {P S E R A L : Type 0} (M : Machine S E R A L) (s : Standing P S E L) (task : Option (Name E)) (handler : Option (Handler E)) (a : Open E L) : Type 0 where
-  pub current : (t : Name E) (p : TaskPlace E L) → a.at t ≡ Some p → (p.task ≡ t) × IsCurrent M s.core p × (task ≡ Some t → ⊥)
+  pub current : (t : Name E) (p : TaskStand E L) → a.at t ≡ Some p → (p.task ≡ t) × IsCurrent M s.core p × (task ≡ Some t → ⊥)
   pub tasks : (t : Name E) (l : L) → local_of ((state M s.core).tasks t) ≡ Some l → a.at t ≡ None → (IsAmong t (tasks_of s.parked) → ⊥) → task ≡ Some t
   pub hands : (h : Handler E) → HasNext M s.core h → a.has h ≡ false → handler ≡ Some h
 

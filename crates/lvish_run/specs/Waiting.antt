@@ -2,7 +2,7 @@
 use Rattle.std.specs.Prelude.{◌≡◌, ◌++◌, ◌∷◌, List, [], Option, None, Some}
 use Rattle.lvish_board.specs.declared.work.Work.{Work}
 use Rattle.lvish_board.specs.declared.work.Work.TheVariants.{Stretch, Act as ActOn, Hand as HandTo}
-use Rattle.lvish_board.specs.declared.works.Works.{Works}
+use Rattle.lvish_board.specs.declared.step_work.StepWork.{StepWork}
 use Rattle.lvish_board.specs.Listed.{option_list}
 use Rattle.lvish_run.specs.declared.queue.Queue.{Queue}
 
@@ -11,13 +11,13 @@ abbrev pub IsWithout : {X : Type 0} → X → List X → List X → Type 0
 IsWithout {X} x old new = (before : List X) × (after : List X) × (old ≡ before ++ x ∷ after) × (new ≡ before ++ after)
 
 -- the work was added, after all of its kind
-abbrev pub IsAdded : {P J S L R A W E : Type 0} → Work P J S L R A W E → Queue P J S L R A W E → Queue P J S L R A W E → Type 0
+abbrev pub IsAdded : {P B S L R A W E : Type 0} → Work P B S L R A W E → Queue P B S L R A W E → Queue P B S L R A W E → Type 0
 IsAdded (Stretch t) old new = (new.tickets.items ≡ old.tickets.items ++ t ∷ []) × (new.woken.items ≡ old.woken.items) × (new.hands.items ≡ old.hands.items)
 IsAdded (ActOn a) old new = (new.woken.items ≡ old.woken.items ++ a ∷ []) × (new.tickets.items ≡ old.tickets.items) × (new.hands.items ≡ old.hands.items)
 IsAdded (HandTo h) old new = (new.hands.items ≡ old.hands.items ++ h ∷ []) × (new.woken.items ≡ old.woken.items) × (new.tickets.items ≡ old.tickets.items)
 
 -- the work was taken out, and nothing else; None where there is none
-abbrev pub IsTaken : {P J S L R A W E : Type 0} → Option (Work P J S L R A W E) → Queue P J S L R A W E → Queue P J S L R A W E → Type 0
+abbrev pub IsTaken : {P B S L R A W E : Type 0} → Option (Work P B S L R A W E) → Queue P B S L R A W E → Queue P B S L R A W E → Type 0
 IsTaken None old new = (old.woken.items ≡ []) × (old.tickets.items ≡ []) × (old.hands.items ≡ [])
 IsTaken (Some (Stretch t)) old new = IsWithout t old.tickets.items new.tickets.items × (new.woken.items ≡ old.woken.items) × (new.hands.items ≡ old.hands.items)
 IsTaken (Some (ActOn a)) old new = IsWithout a old.woken.items new.woken.items × (new.tickets.items ≡ old.tickets.items) × (new.hands.items ≡ old.hands.items)
@@ -29,10 +29,10 @@ IsPutOff None own old goes_on new = (goes_on ≡ own) × (new ≡ old)
 IsPutOff (Some made) own old goes_on new = (goes_on ≡ Some made) × (new ≡ old ++ option_list own)
 
 -- all that a step left waits in the queue, but for the task that goes on
-pub record IsLeft {P J S L R A W E : Type 0} (old : Queue P J S L R A W E) (works : Works P J S L R A W E) (new : Queue P J S L R A W E) (rest : Works P J S L R A W E) : Type 0 where
-  pub tasks : IsPutOff works.made works.own old.tickets.items rest.own new.tickets.items
-  pub woken : new.woken.items ≡ old.woken.items ++ works.woken.items
-  pub hands : new.hands.items ≡ old.hands.items ++ works.hands.items
+pub record IsLeft {P B S L R A W E : Type 0} (old : Queue P B S L R A W E) (step_work : StepWork P B S L R A W E) (new : Queue P B S L R A W E) (rest : StepWork P B S L R A W E) : Type 0 where
+  pub tasks : IsPutOff step_work.made step_work.own old.tickets.items rest.own new.tickets.items
+  pub woken : new.woken.items ≡ old.woken.items ++ step_work.woken.items
+  pub hands : new.hands.items ≡ old.hands.items ++ step_work.hands.items
   pub none_made : rest.made ≡ None
   pub none_woken : rest.woken.items ≡ []
   pub none_handed : rest.hands.items ≡ []

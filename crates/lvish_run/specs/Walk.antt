@@ -15,11 +15,11 @@ use Rattle.lvish_core.specs.Labels.{label_cmp, AreLabels}
 use Rattle.lvish_trace.specs.declared.trace_entry.TraceEntry.{TraceEntry}
 use Rattle.lvish_board.specs.Acts.{entry_of}
 use Rattle.lvish_board.specs.declared.work.Work.{Work}
-use Rattle.lvish_board.specs.declared.works.Works.{Works}
-use Rattle.lvish_board.specs.Listed.{IsListed, works_of}
-use Rattle.lvish_board.specs.Place.{TaskPlace}
+use Rattle.lvish_board.specs.declared.step_work.StepWork.{StepWork}
+use Rattle.lvish_board.specs.Listed.{IsListed, work_of}
+use Rattle.lvish_board.specs.Stand.{TaskStand}
 use Rattle.lvish_trace.specs.Traced.{labels_of}
-use Rattle.lvish_board.specs.Standing.{Standing}
+use Rattle.lvish_board.specs.Board.{Standing}
 use Rattle.lvish_board.specs.Woken.{IsParkedBeside}
 use Rattle.lvish_report.specs.declared.report.FinalState.{FinalState}
 use Rattle.lvish_trace.specs.declared.outcome.Outcome.{Outcome}
@@ -58,23 +58,23 @@ pub record IsIdle {P S E L : Type 0} (old new : Standing P S E L) : Type 0 where
   pub core : new.core ≡ old.core
 
 -- a step with this label was made, which left this work
-pub record IsMade {P' P J S L R A W E Ans : Type 0} (cmp : E → E → Ordering) (M : Machine S E R Ans L) (old : Standing P' S E L) (l : Label E) (new : Standing P' S E L) (ws : List (Work P J S L R A W E)) : Type 0 where
+pub record IsMade {P' P B S L R A W E Ans : Type 0} (cmp : E → E → Ordering) (M : Machine S E R Ans L) (old : Standing P' S E L) (l : Label E) (new : Standing P' S E L) (ws : List (Work P B S L R A W E)) : Type 0 where
   pub entered : IsEntered old l new
   pub listed : IsListed cmp M old l new ws
 
 -- the task's step wasn't made: the board is over, or the task is blocked and was parked
-pub record IsPassed {P S E R A L : Type 0} (M : Machine S E R A L) (old : Standing P S E L) (p : TaskPlace E L) (new : Standing P S E L) : Type 0 where
+pub record IsPassed {P S E R A L : Type 0} (M : Machine S E R A L) (old : Standing P S E L) (p : TaskStand E L) (new : Standing P S E L) : Type 0 where
   pub idle : IsIdle old new
   pub why : IsSome new.over ⊎ ((CanTake M old.core (Act p.task) → ⊥) × IsParkedBeside old.parked p new.parked)
 
 -- what a task's request led to: the work that its step left
-abbrev pub IsTried : {P' P J S L R A W E Ans : Type 0} → (E → E → Ordering) → Machine S E R Ans L → Standing P' S E L → TaskPlace E L → Option (Works P J S L R A W E) → Standing P' S E L → Type 0
-IsTried cmp M old p (Some ws) new = IsMade cmp M old (Act p.task) new (works_of ws)
+abbrev pub IsTried : {P' P B S L R A W E Ans : Type 0} → (E → E → Ordering) → Machine S E R Ans L → Standing P' S E L → TaskStand E L → Option (StepWork P B S L R A W E) → Standing P' S E L → Type 0
+IsTried cmp M old p (Some ws) new = IsMade cmp M old (Act p.task) new (work_of ws)
 IsTried cmp M old p None new = IsPassed M old p new
 
 -- what a handler for which something comes next led to: the work that its handing left, or none, because the board is over
-abbrev pub IsTriedHand : {P' P J S L R A W E Ans : Type 0} → (E → E → Ordering) → Machine S E R Ans L → Standing P' S E L → Handler E → Option (Works P J S L R A W E) → Standing P' S E L → Type 0
-IsTriedHand {E = E} cmp M old h (Some ws) new = (e : E) → IsNext M.event_same old.core.table h e → IsMade cmp M old (Hand h e) new (works_of ws)
+abbrev pub IsTriedHand : {P' P B S L R A W E Ans : Type 0} → (E → E → Ordering) → Machine S E R Ans L → Standing P' S E L → Handler E → Option (StepWork P B S L R A W E) → Standing P' S E L → Type 0
+IsTriedHand {E = E} cmp M old h (Some ws) new = (e : E) → IsNext M.event_same old.core.table h e → IsMade cmp M old (Hand h e) new (work_of ws)
 IsTriedHand cmp M old h None new = IsIdle old new × IsSome new.over
 
 -- whether the task's step was made: where it wasn't, the board is over, or the task is blocked

@@ -1,10 +1,10 @@
 ghost use Rattle.std.specs.Prelude.{◌≡◌, ◌++◌, ◌∷◌, [], IfOk, OnOk};
 ghost use Rattle.std.specs.List.{AllByRecursion};
 ghost use Rattle.lvish_core.specs.Tasks.{task_names};
-ghost use Rattle.lvish_trace.specs.Noted.{IsNoted, entries_of};
+ghost use Rattle.lvish_trace.specs.Packed.{IsPacked, entries_of};
 ghost use Rattle.lvish_run.specs.Walk.{IsHow, IsAccount, AreStatesOf, final_state};
 
-use lvish_board::{Noted, Outcome, Trace};
+use lvish_board::{Outcome, PackedStep, Trace};
 use lvish_calculus::{Meaning, Program};
 use lvish_core::{Core, RunError};
 use lvish_lattice::{Lattice, Plain};
@@ -42,8 +42,8 @@ impl<S: Drop, E: Drop> Drop for Account<S, E> {
 
 impl<S, E> Account<S, E> {
     /// The report of these steps of its tasks.
-    pub fn report(self, steps: u64, noted: Vec<Noted>, by_worker: Counts) -> Report<S, E>
-        requires { AllByRecursion (IsNoted self.names.items) noted.items }
+    pub fn report(self, steps: u64, noted: Vec<PackedStep>, by_worker: Counts) -> Report<S, E>
+        requires { AllByRecursion (IsPacked self.names.items) noted.items }
         ensures { result ≡ record { outcome = self.outcome; states = self.states; steps = steps; blocked = self.blocked; trace = entries_of self.names.items noted.items; by_worker = by_worker; freezes = self.freezes } }
     {
         let Account {

@@ -7,7 +7,7 @@ ghost use Rattle.lvish_names.specs.NameOrder.{name_cmp};
 ghost use Rattle.lvish_run.specs.Agenda.{open_in, IsEmpty, SetsOpenTask, HasHandler, NoTask, NoHandler, IsTaskGone, IsHandlerGone, PutsAt, IsBelow};
 
 use crate::boxed_asked::BoxedAsked;
-use lvish_board::{Asked, Named};
+use lvish_board::{Asked, BoardBrand};
 use lvish_calculus::Program;
 use lvish_lattice::Lattice;
 use lvish_names::{HandlerName, TaskName};
@@ -17,16 +17,16 @@ use std::collections::{BTreeMap, BTreeSet};
 use std::marker::Model;
 
 /// The open tasks, each with what it asks for, and the open handlers, both by name.
-pub(crate) struct Agenda<P: Program, J: Named<P>> {
+pub(crate) struct Agenda<P: Program, B: BoardBrand<P>> {
     // the first open task, where it doesn't stand among the others: a task that goes on is mostly the
     // first again, and is then taken from here with no tree changed
-    first: Option<Asked<P, J>>,
-    others: BTreeMap<TaskName<<P::Lat as Lattice>::Event>, BoxedAsked<P, J>>,
+    first: Option<Asked<P, B>>,
+    others: BTreeMap<TaskName<<P::Lat as Lattice>::Event>, BoxedAsked<P, B>>,
     handlers: BTreeSet<HandlerName<<P::Lat as Lattice>::Event>>,
 }
 
 // Written out, so that it is proved once, and not at each exit of a function that owns one.
-impl<P: Program, J: Named<P>> Drop for Agenda<P, J> {
+impl<P: Program, B: BoardBrand<P>> Drop for Agenda<P, B> {
     fn drop(self) {
         let Agenda {
             first: _,
@@ -36,7 +36,7 @@ impl<P: Program, J: Named<P>> Drop for Agenda<P, J> {
     }
 }
 
-impl<P: Program, J: Named<P>> Model for Agenda<P, J> {
+impl<P: Program, B: BoardBrand<P>> Model for Agenda<P, B> {
     ghost use Rattle.std.specs.Prelude.{◌++◌};
     ghost use Rattle.lvish_run.specs.Agenda.{Agenda, entry_of, IsFirstOf};
 
@@ -48,9 +48,9 @@ impl<P: Program, J: Named<P>> Model for Agenda<P, J> {
 }
 
 /// Whether the name is below that of each of these tasks.
-fn is_below<P: Program, J: Named<P>>(
+fn is_below<P: Program, B: BoardBrand<P>>(
     name: &TaskName<<P::Lat as Lattice>::Event>,
-    others: &BTreeMap<TaskName<<P::Lat as Lattice>::Event>, BoxedAsked<P, J>>,
+    others: &BTreeMap<TaskName<<P::Lat as Lattice>::Event>, BoxedAsked<P, B>>,
 ) -> bool
     ensures { result ≡ true → IsBelow P.Lat.Event.cmp name.now others.now.entries }
 {
@@ -65,10 +65,10 @@ fn is_below<P: Program, J: Named<P>>(
 }
 
 /// Puts the task among the others, in place of any of its name.
-fn keep<P: Program, J: Named<P>>(
+fn keep<P: Program, B: BoardBrand<P>>(
     alloc: Global,
-    others: &mut BTreeMap<TaskName<<P::Lat as Lattice>::Event>, BoxedAsked<P, J>>,
-    asked: Asked<P, J>,
+    others: &mut BTreeMap<TaskName<<P::Lat as Lattice>::Event>, BoxedAsked<P, B>>,
+    asked: Asked<P, B>,
 ) -> Result<(), AllocError>
     ensures ok { IfOk result (λ _. PutsAt P.Lat.Event.cmp others.old.entries asked.task (Some asked) others.new.entries) }
     ensures err { IfErr result (λ _. IsUnchanged others.old others.new) }
@@ -81,10 +81,10 @@ fn keep<P: Program, J: Named<P>>(
 }
 
 /// Takes the task of this name out of the others.
-fn taken<P: Program, J: Named<P>>(
-    others: &mut BTreeMap<TaskName<<P::Lat as Lattice>::Event>, BoxedAsked<P, J>>,
+fn taken<P: Program, B: BoardBrand<P>>(
+    others: &mut BTreeMap<TaskName<<P::Lat as Lattice>::Event>, BoxedAsked<P, B>>,
     name: &TaskName<<P::Lat as Lattice>::Event>,
-) -> Option<Asked<P, J>>
+) -> Option<Asked<P, B>>
     ensures was { result ≡ lookup (is_at (name_cmp P.Lat.Event.cmp name.now)) others.old.entries }
     ensures without { PutsAt P.Lat.Event.cmp others.old.entries name.now None others.new.entries }
 {
@@ -94,9 +94,9 @@ fn taken<P: Program, J: Named<P>>(
     }
 }
 
-impl<P: Program, J: Named<P>> Agenda<P, J> {
+impl<P: Program, B: BoardBrand<P>> Agenda<P, B> {
     /// Nothing is open.
-    pub(crate) fn new(alloc: Global) -> Agenda<P, J>
+    pub(crate) fn new(alloc: Global) -> Agenda<P, B>
         ensures { IsEmpty (open_in P.Lat.Event.cmp result) }
     {
         Agenda {
@@ -107,7 +107,7 @@ impl<P: Program, J: Named<P>> Agenda<P, J> {
     }
 
     /// Takes the first open task out.
-    pub(crate) fn pop_task(&mut self) -> Option<Asked<P, J>>
+    pub(crate) fn pop_task(&mut self) -> Option<Asked<P, B>>
         ensures { MatchOption result (NoTask (open_in P.Lat.Event.cmp self.old) × (self.new ≡ self.old)) (λ p. IsTaskGone P.Lat.Event.cmp (open_in P.Lat.Event.cmp self.old) p (open_in P.Lat.Event.cmp self.new)) }
     {
         if self.first.is_some() {
@@ -123,7 +123,7 @@ impl<P: Program, J: Named<P>> Agenda<P, J> {
     pub(crate) fn take_task(
         &mut self,
         name: &TaskName<<P::Lat as Lattice>::Event>,
-    ) -> Option<Asked<P, J>>
+    ) -> Option<Asked<P, B>>
         ensures was { result ≡ (open_in P.Lat.Event.cmp self.old).at name.now }
         ensures without { SetsOpenTask P.Lat.Event.cmp (open_in P.Lat.Event.cmp self.old) name.now None (open_in P.Lat.Event.cmp self.new) }
     {
@@ -146,7 +146,7 @@ impl<P: Program, J: Named<P>> Agenda<P, J> {
     }
 
     /// Opens the task, in place of any of its name.
-    pub(crate) fn open_task(&mut self, alloc: Global, asked: Asked<P, J>) -> Result<(), AllocError>
+    pub(crate) fn open_task(&mut self, alloc: Global, asked: Asked<P, B>) -> Result<(), AllocError>
         ensures { IfOk result (λ _. SetsOpenTask P.Lat.Event.cmp (open_in P.Lat.Event.cmp self.old) asked.task (Some asked) (open_in P.Lat.Event.cmp self.new)) }
     {
         match &self.first {

@@ -5,7 +5,7 @@ ghost use Rattle.std.specs.List.{AllByRecursion};
 ghost use Rattle.lvish_calculus.specs.Handing.{IsWellHanded};
 ghost use Rattle.lvish_run.specs.Honest.{IsCountByWorker, IsHonest};
 ghost use Rattle.lvish_trace.specs.Traced.{labels_of};
-ghost use Rattle.lvish_board.specs.Standing.{OverIs};
+ghost use Rattle.lvish_board.specs.Board.{OverIs};
 ghost use Rattle.lvish_run.specs.Alike.{IsAlike, IsTold};
 ghost use Rattle.lvish_run.specs.Least.{IsLeast, IsClosedEnd};
 
@@ -13,7 +13,7 @@ use crate::account::account_of;
 use crate::count_by_worker::count_by_worker;
 use crate::fault::RunFault;
 use crate::laws::honest_contents;
-use lvish_board::{Board, Named, Outcome};
+use lvish_board::{Board, BoardBrand, Outcome};
 use lvish_calculus::laws::{handing_kept, same_end};
 use lvish_calculus::{Meaning, Program};
 use lvish_lattice::{Lattice, Plain};
@@ -40,15 +40,15 @@ fn copy_of<E: Plain>(outcome: &Outcome<E>) -> Result<Outcome<E>, AllocError>
 }
 
 /// The report of a board whose steps came out like this, by as many workers as there are counts.
-pub(crate) fn told<P: Program, J: Named<P>>(
+pub(crate) fn report_over<P: Program, B: BoardBrand<P>>(
     alloc: Global,
-    board: Board<'_, P, J>,
+    board: Board<'_, P, B>,
     outcome: Outcome<<P::Lat as Lattice>::Event>,
     by_worker: Counts,
 ) -> Result<Report<P::Lat, <P::Lat as Lattice>::Event>, AllocError>
-    requires over { OverIs (⟦<P as Meaning>⟧.machine J.program) J.budget board (Some outcome) }
+    requires over { OverIs (⟦<P as Meaning>⟧.machine B.program) B.budget board (Some outcome) }
     requires counts { IsCountByWorker (length by_worker) board.trace by_worker }
-    ensures told { IfOk result (λ r. IsTold (⟦<P as Meaning>⟧.machine J.program) (P.functions J.program).variables (length by_worker) J.budget r) }
+    ensures told { IfOk result (λ r. IsTold (⟦<P as Meaning>⟧.machine B.program) (P.functions B.program).variables (length by_worker) B.budget r) }
     ensures trace { IfOk result (λ r. r.trace ≡ board.entry.trace) }
 {
     handing_kept::<P>();
@@ -65,37 +65,37 @@ pub(crate) fn told<P: Program, J: Named<P>>(
 ///
 /// `Memory` where a growth was refused; `Mixed` where the board isn't over, or has steps of other
 /// workers.
-pub fn report_of<P: Program, J: Named<P>>(
+pub fn report_of<P: Program, B: BoardBrand<P>>(
     alloc: Global,
-    board: Board<'_, P, J>,
+    board: Board<'_, P, B>,
     workers: usize,
 ) -> Result<Report<P::Lat, <P::Lat as Lattice>::Event>, RunFault>
-    ensures honest { IfOk result (λ r. IsHonest (⟦<P as Meaning>⟧.machine J.program) (P.functions J.program).variables workers J.budget r) }
+    ensures honest { IfOk result (λ r. IsHonest (⟦<P as Meaning>⟧.machine B.program) (P.functions B.program).variables workers B.budget r) }
     // What handlers are handed in it.
-    ensures handed { IfOk result (λ r. IsWellHanded (⟦<P as Meaning>⟧.machine J.program) (labels_of r.trace)) }
+    ensures handed { IfOk result (λ r. IsWellHanded (⟦<P as Meaning>⟧.machine B.program) (labels_of r.trace)) }
     // What it says of all other runs that end without an error.
-    ensures alike { IfOk result (λ r. IsAlike (⟦<P as Meaning>⟧.machine J.program) (P.functions J.program).variables r) }
+    ensures alike { IfOk result (λ r. IsAlike (⟦<P as Meaning>⟧.machine B.program) (P.functions B.program).variables r) }
     // Its contents are at or below those of each model with what its run froze.
-    ensures least { IfOk result (λ r. IsLeast (⟦<P as Meaning>⟧.machine J.program) r) }
+    ensures least { IfOk result (λ r. IsLeast (⟦<P as Meaning>⟧.machine B.program) r) }
     // At an end that no task leaves at a freeze of a frozen variable they are closed.
-    ensures closed { IfOk result (λ r. IsClosedEnd (⟦<P as Meaning>⟧.machine J.program) r) }
+    ensures closed { IfOk result (λ r. IsClosedEnd (⟦<P as Meaning>⟧.machine B.program) r) }
     // The board isn't over, or has steps of other workers.
     ensures mixed { result ≡ Err RunFault.Mixed → (board.entry.over ≡ None) ⊎ (AllByRecursion (λ e. e.worker < workers) board.entry.trace → ⊥) }
     ensures not_stopped { result ≢ Err RunFault.Stopped }
     ensures all_there { result ≢ Err RunFault.NoThread }
 {
     let (outcome, by_worker) = looked_at(alloc, &board, workers)?;
-    Ok(told(alloc, board, outcome, by_worker)?)
+    Ok(report_over(alloc, board, outcome, by_worker)?)
 }
 
 /// How the board is over, and how many steps each of this many workers made. It borrows the board, so
 /// that no way out drops one.
-fn looked_at<P: Program, J: Named<P>>(
+fn looked_at<P: Program, B: BoardBrand<P>>(
     alloc: Global,
-    board: &Board<'_, P, J>,
+    board: &Board<'_, P, B>,
     workers: usize,
 ) -> Result<(Outcome<<P::Lat as Lattice>::Event>, Counts), RunFault>
-    ensures over { IfOk result (λ r. OverIs (⟦<P as Meaning>⟧.machine J.program) J.budget board.now (Some r.0)) }
+    ensures over { IfOk result (λ r. OverIs (⟦<P as Meaning>⟧.machine B.program) B.budget board.now (Some r.0)) }
     ensures workers { IfOk result (λ r. length r.1 ≡ workers) }
     ensures counts { IfOk result (λ r. IsCountByWorker (length r.1) board.now.trace r.1) }
     ensures mixed { result ≡ Err RunFault.Mixed → (board.now.over ≡ None) ⊎ (AllByRecursion (λ e. e.worker < workers) board.now.trace → ⊥) }

@@ -3,12 +3,12 @@ ghost use Rattle.std.specs.List.{AllByRecursion};
 ghost use Rattle.lvish_run.specs.Crew.{AreCounts};
 
 use crate::fault::RunFault;
-use lvish_board::Noted;
+use lvish_board::PackedStep;
 use lvish_report::Counts;
 use std::alloc::Global;
 
 /// How many of the noted steps the worker made.
-fn made_by(noted: &[Noted], worker: usize) -> u64
+fn made_by(noted: &[PackedStep], worker: usize) -> u64
     ensures { result ≡ count_by (λ n. n.worker == worker) noted.now }
 {
     noted
@@ -18,7 +18,11 @@ fn made_by(noted: &[Noted], worker: usize) -> u64
 }
 
 /// How many of the noted steps each worker made; `Mixed` where some were made by others.
-pub fn count_by_worker(alloc: Global, noted: &[Noted], workers: usize) -> Result<Counts, RunFault>
+pub fn count_by_worker(
+    alloc: Global,
+    noted: &[PackedStep],
+    workers: usize,
+) -> Result<Counts, RunFault>
     ensures counts { IfOk result (λ counts. AreCounts workers noted.now counts) }
     ensures mixed { result ≡ Err RunFault.Mixed → AllByRecursion (λ n. n.worker < workers) noted.now → ⊥ }
     ensures not_stopped { result ≢ Err RunFault.Stopped }

@@ -2,10 +2,10 @@
 
 ghost use Rattle.std.specs.Prelude.{◌≡◌, ◌≢◌, Ok, true};
 ghost use Rattle.lvish_run.specs.Crew.{MayLeave};
-ghost use Rattle.lvish_run.specs.declared.why.Why.TheVariants.{Stopped};
+ghost use Rattle.lvish_run.specs.declared.leave.Leave.TheVariants.{Stopped};
 
+use crate::leave::Leave;
 use crate::shift::Shift;
-use crate::why::Why;
 use std::alloc::{AllocError, Global};
 use std::marker::PhantomData;
 use std::sync::Wait;
@@ -18,7 +18,7 @@ pub struct Patience<S: Shift> {
     of: PhantomData<S>,
 }
 
-impl<S: Shift> Promise<Why> for Patience<S> {
+impl<S: Shift> Promise<Leave> for Patience<S> {
     ghost use Rattle.lvish_run.specs.Crew.{MayLeave};
 
     ghost kept_by = { λ p r. MayLeave S.patient r };
@@ -26,12 +26,12 @@ impl<S: Shift> Promise<Why> for Patience<S> {
 
 /// Runs one worker on this thread, and the others on threads of their own, and joins them. Answers why they
 /// left; where they say different things, what hinders the run most.
-pub fn together<S: Shift + Send, R: Threads + Wait + Sync>(
+pub fn run_workers<S: Shift + Send, R: Threads + Wait + Sync>(
     rt: &R,
     alloc: Global,
     mine: S,
     others: Vec<S>,
-) -> Result<Why, AllocError>
+) -> Result<Leave, AllocError>
     ensures patient { S.patient ≡ true → result ≢ Ok Stopped }
 {
     let mut others = others;
@@ -39,18 +39,18 @@ pub fn together<S: Shift + Send, R: Threads + Wait + Sync>(
     thread::scope(
         thread::scope_env(),
         rt,
-        |scope| -> Result<Why, AllocError>
+        |scope| -> Result<Leave, AllocError>
             ensures patient { S.patient ≡ true → result ≢ Ok Stopped }
         {
-            let mut worst = Why::Over;
+            let mut worst = Leave::Over;
             while let Some(shift) = others.pop() {
-                let theirs = move || -> Why
+                let theirs = move || -> Leave
                     ensures { MayLeave S.patient result }
                 { shift.work() };
                 match scope.spawn_with(Patience::<S> { of: PhantomData }, theirs) {
                     Ok(handle) => handles.push(handle)?,
                     Err(_refused) => {
-                        worst = Why::Missing;
+                        worst = Leave::Missing;
                         mine.close();
                     }
                 }
@@ -64,9 +64,9 @@ pub fn together<S: Shift + Send, R: Threads + Wait + Sync>(
 /// Joins the threads. Answers what hinders the run most, of this and what they give back.
 fn worst_of<R: Threads, S: Shift>(
     rt: &R,
-    handles: Vec<PromisedHandle<Why, Patience<S>>>,
-    mut worst: Why,
-) -> Why
+    handles: Vec<PromisedHandle<Leave, Patience<S>>>,
+    mut worst: Leave,
+) -> Leave
     requires { S.patient ≡ true → worst ≢ Stopped }
     ensures { S.patient ≡ true → result ≢ Stopped }
 {

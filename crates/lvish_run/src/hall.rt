@@ -4,7 +4,7 @@ use crate::naming::Staff;
 use crate::seek::find;
 use crate::staffed::Staffed;
 use crossbeam_utils::{Backoff, CachePadded};
-use lvish_board::{Named, Work};
+use lvish_board::{BoardBrand, Work};
 use lvish_calculus::Program;
 use lvish_deal::Seat;
 use std::alloc::Global;
@@ -30,11 +30,11 @@ struct Sleepers {
 /// for work once more when nobody else can be told of any. So no piece stays where it is while its worker
 /// sleeps: who sleeps has none, and who has some is awake.
 #[derive(Drop)]
-pub struct Hall<'p, P: Program, J: Named<P> + Staff> {
+pub struct Hall<'p, P: Program, B: BoardBrand<P> + Staff> {
     // (on cache lines of its own, since each step writes in it, and the others read the rest at each turn)
-    board: CachePadded<Mutex<Staffed<'p, P, J>>>,
+    board: CachePadded<Mutex<Staffed<'p, P, B>>>,
     // the work that workers have left behind
-    pub rest: Mutex<Vec<Work<P, J>>>,
+    pub rest: Mutex<Vec<Work<P, B>>>,
     // whether one has left
     left: AtomicBool,
     // how many workers ask, and how many pieces there are for sleepers, as the others see it
@@ -44,9 +44,9 @@ pub struct Hall<'p, P: Program, J: Named<P> + Staff> {
     bell: Condvar,
 }
 
-impl<'p, P: Program, J: Named<P> + Staff> Hall<'p, P, J> {
+impl<'p, P: Program, B: BoardBrand<P> + Staff> Hall<'p, P, B> {
     /// What a crew shares that begins with this board.
-    pub fn new(alloc: Global, board: Staffed<'p, P, J>) -> Hall<'p, P, J> {
+    pub fn new(alloc: Global, board: Staffed<'p, P, B>) -> Hall<'p, P, B> {
         Hall {
             board: CachePadded::new(Mutex::new(board)),
             rest: Mutex::new(Vec::new(alloc)),
@@ -62,7 +62,7 @@ impl<'p, P: Program, J: Named<P> + Staff> Hall<'p, P, J> {
     }
 
     /// The board, and the work that workers have left behind.
-    pub fn into_parts(self) -> (Staffed<'p, P, J>, Vec<Work<P, J>>) {
+    pub fn into_parts(self) -> (Staffed<'p, P, B>, Vec<Work<P, B>>) {
         let Hall {
             board,
             rest,
@@ -76,7 +76,7 @@ impl<'p, P: Program, J: Named<P> + Staff> Hall<'p, P, J> {
     }
 
     /// Takes the board. Where another has it, that is for one step, so a worker mostly spins until then.
-    pub fn take<R: Wait>(&self, rt: &R) -> MutexGuard<'_, Staffed<'p, P, J>> {
+    pub fn take<R: Wait>(&self, rt: &R) -> MutexGuard<'_, Staffed<'p, P, B>> {
         if let Some(board) = self.board.try_lock() {
             return board;
         }

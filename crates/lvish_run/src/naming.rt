@@ -1,7 +1,7 @@
 //! Names for boards and their work, in types. Each run picks its own.
 
 use crate::runnable::Runnable;
-use lvish_board::Named;
+use lvish_board::BoardBrand;
 use lvish_history::Origin;
 use std::marker::{Brand, PhantomData};
 
@@ -45,7 +45,7 @@ impl<N: Origin> Origin for Of<N> {
     ghost book = { N.book };
 }
 
-impl<P: Runnable, N: Naming<P>> Named<P> for Of<N> {
+impl<P: Runnable, N: Naming<P>> BoardBrand<P> for Of<N> {
     ghost use Rattle.std.specs.Option.{unwrap_or};
 
     ghost program = { unwrap_or N.program P.blank };

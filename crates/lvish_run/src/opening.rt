@@ -1,24 +1,24 @@
 //! What work opens in an agenda.
 
 ghost use Rattle.std.specs.Prelude.{◌≡◌, ◌∷◌, [], IfOk, Some};
-ghost use Rattle.lvish_board.specs.Listed.{works_of, option_list};
+ghost use Rattle.lvish_board.specs.Listed.{work_of, option_list};
 ghost use Rattle.lvish_run.specs.Agenda.{open_in, SetsOpenTask, Opens, Adds};
 
 use crate::agenda::Agenda;
-use lvish_board::{Asked, Named, Ticket, Work, Works, stretch};
+use lvish_board::{Asked, BoardBrand, StepWork, Ticket, Work, stretch};
 use lvish_calculus::Program;
 use lvish_lattice::Lattice;
 use lvish_names::HandlerName;
 use std::alloc::{AllocError, Global};
 
 /// Opens the ticket's task, once its local statements are run.
-fn open_ticket<P: Program, J: Named<P>>(
+fn open_ticket<P: Program, B: BoardBrand<P>>(
     alloc: Global,
     program: &P,
-    agenda: &mut Agenda<P, J>,
-    ticket: Ticket<P, J>,
+    agenda: &mut Agenda<P, B>,
+    ticket: Ticket<P, B>,
 ) -> Result<(), AllocError>
-    requires program { program.now ≡ J.program }
+    requires program { program.now ≡ B.program }
     ensures { IfOk result (λ _. SetsOpenTask P.Lat.Event.cmp (open_in P.Lat.Event.cmp agenda.old) ticket.task (Some ticket) (open_in P.Lat.Event.cmp agenda.new)) }
 {
     match stretch(alloc, program, ticket) {
@@ -28,13 +28,13 @@ fn open_ticket<P: Program, J: Named<P>>(
 }
 
 /// Opens what one piece of work is for. A task's local statements are run.
-pub(crate) fn open_one<P: Program, J: Named<P>>(
+pub(crate) fn open_one<P: Program, B: BoardBrand<P>>(
     alloc: Global,
     program: &P,
-    agenda: &mut Agenda<P, J>,
-    work: Work<P, J>,
+    agenda: &mut Agenda<P, B>,
+    work: Work<P, B>,
 ) -> Result<(), AllocError>
-    requires program { program.now ≡ J.program }
+    requires program { program.now ≡ B.program }
     ensures { IfOk result (λ _. Adds (work ∷ []) (open_in P.Lat.Event.cmp agenda.old) (open_in P.Lat.Event.cmp agenda.new)) }
 {
     match work {
@@ -45,13 +45,13 @@ pub(crate) fn open_one<P: Program, J: Named<P>>(
 }
 
 /// Opens the ticket's task, if there is a ticket.
-fn open_some<P: Program, J: Named<P>>(
+fn open_some<P: Program, B: BoardBrand<P>>(
     alloc: Global,
     program: &P,
-    agenda: &mut Agenda<P, J>,
-    ticket: Option<Ticket<P, J>>,
+    agenda: &mut Agenda<P, B>,
+    ticket: Option<Ticket<P, B>>,
 ) -> Result<(), AllocError>
-    requires program { program.now ≡ J.program }
+    requires program { program.now ≡ B.program }
     ensures { IfOk result (λ _. Opens (option_list ticket) [] (open_in P.Lat.Event.cmp agenda.old) (open_in P.Lat.Event.cmp agenda.new)) }
 {
     match ticket {
@@ -61,10 +61,10 @@ fn open_some<P: Program, J: Named<P>>(
 }
 
 /// Opens the tasks that a step woke.
-fn open_woken<P: Program, J: Named<P>>(
+fn open_woken<P: Program, B: BoardBrand<P>>(
     alloc: Global,
-    agenda: &mut Agenda<P, J>,
-    woken: Vec<Asked<P, J>>,
+    agenda: &mut Agenda<P, B>,
+    woken: Vec<Asked<P, B>>,
 ) -> Result<(), AllocError>
     ensures { IfOk result (λ _. Opens woken.items [] (open_in P.Lat.Event.cmp agenda.old) (open_in P.Lat.Event.cmp agenda.new)) }
 {
@@ -75,8 +75,8 @@ fn open_woken<P: Program, J: Named<P>>(
 }
 
 /// Opens these handlers.
-fn open_hands<P: Program, J: Named<P>>(
-    agenda: &mut Agenda<P, J>,
+fn open_hands<P: Program, B: BoardBrand<P>>(
+    agenda: &mut Agenda<P, B>,
     hands: Vec<HandlerName<<P::Lat as Lattice>::Event>>,
 ) -> Result<(), AllocError>
     ensures { IfOk result (λ _. Opens [] hands.items (open_in P.Lat.Event.cmp agenda.old) (open_in P.Lat.Event.cmp agenda.new)) }
@@ -88,23 +88,23 @@ fn open_hands<P: Program, J: Named<P>>(
 }
 
 /// Opens what the work of a step is for.
-pub(crate) fn open_all<P: Program, J: Named<P>>(
+pub(crate) fn open_all<P: Program, B: BoardBrand<P>>(
     alloc: Global,
     program: &P,
-    agenda: &mut Agenda<P, J>,
-    works: Works<P, J>,
+    agenda: &mut Agenda<P, B>,
+    step_work: StepWork<P, B>,
 ) -> Result<(), AllocError>
-    requires program { program.now ≡ J.program }
-    ensures { IfOk result (λ _. Adds (works_of works) (open_in P.Lat.Event.cmp agenda.old) (open_in P.Lat.Event.cmp agenda.new)) }
+    requires program { program.now ≡ B.program }
+    ensures { IfOk result (λ _. Adds (work_of step_work) (open_in P.Lat.Event.cmp agenda.old) (open_in P.Lat.Event.cmp agenda.new)) }
 {
-    let Works {
+    let StepWork {
         step: _,
         own,
         spare: _,
         made,
         woken,
         hands,
-    } = works;
+    } = step_work;
     open_some(alloc, program, agenda, own)?;
     open_some(alloc, program, agenda, made)?;
     open_woken(alloc, agenda, woken)?;

@@ -8,15 +8,15 @@ ghost use Rattle.std.specs.Prelude.{IfSome, true};
 ghost use Rattle.lvish_run.specs.Crew.{MayLeave};
 
 use crate::gate::Gate;
+use crate::leave::Leave;
 use crate::naming::Staff;
 use crate::pace::Pace;
 use crate::queue::Queue;
 use crate::rank::Rank;
 use crate::runnable::Runnable;
 use crate::staffed::Staffed;
-use crate::why::Why;
 use crate::worker::Worker;
-use lvish_board::{Asked, Named, Ticket, Work};
+use lvish_board::{Asked, BoardBrand, Ticket, Work};
 use lvish_calculus::Program;
 use lvish_lattice::Lattice;
 use lvish_names::HandlerName;
@@ -25,17 +25,17 @@ use std::sync::Wait;
 
 /// The place of a lone worker: the board is its own.
 #[derive(Drop)]
-pub struct OwnSite<'p, 'g, P: Program, J: Named<P> + Staff, G: Gate> {
-    pub board: Staffed<'p, P, J>,
+pub struct OwnSite<'p, 'g, P: Program, B: BoardBrand<P> + Staff, G: Gate> {
+    pub board: Staffed<'p, P, B>,
     pub gate: &'g G,
     pub pace: Pace,
-    pub rank: Rank<J>,
-    pub worker: Worker<'p, P, J>,
+    pub rank: Rank<B>,
+    pub worker: Worker<'p, P, B>,
 }
 
-impl<'p, 'g, P: Runnable, J: Named<P> + Staff, G: Gate> OwnSite<'p, 'g, P, J, G> {
+impl<'p, 'g, P: Runnable, B: BoardBrand<P> + Staff, G: Gate> OwnSite<'p, 'g, P, B, G> {
     /// Works turn after turn, until one says why the worker leaves.
-    pub fn work<R: Wait>(&mut self, rt: &R) -> Why
+    pub fn work<R: Wait>(&mut self, rt: &R) -> Leave
         ensures { MayLeave true result }
     {
         for _ in rt.forever() {
@@ -49,11 +49,11 @@ impl<'p, 'g, P: Runnable, J: Named<P> + Staff, G: Gate> OwnSite<'p, 'g, P, J, G>
     /// One turn: why the worker leaves, if it does. All work is its own, so it never asks its gate whether to wait for
     /// more.
     #[inline(always)]
-    fn turn(&mut self) -> Option<Why>
+    fn turn(&mut self) -> Option<Leave>
         ensures { IfSome result (MayLeave true) }
     {
         if self.leaves() {
-            return Some(Why::Others);
+            return Some(Leave::Others);
         }
         match self.worker.take_up() {
             Some(Work::Stretch(ticket)) => self.run_on(ticket),
@@ -74,50 +74,50 @@ impl<'p, 'g, P: Runnable, J: Named<P> + Staff, G: Gate> OwnSite<'p, 'g, P, J, G>
 
     /// Runs a task's local statements, and takes what it then asks for to the board.
     #[inline(always)]
-    fn run_on(&mut self, ticket: Ticket<P, J>) -> Option<Why>
+    fn run_on(&mut self, ticket: Ticket<P, B>) -> Option<Leave>
         ensures { IfSome result (MayLeave true) }
     {
         self.gate.enter(self.rank.number(), ticket.task());
         match self.worker.stretch(ticket) {
             Ok(asked) => self.act(asked),
-            Err(_refused) => Some(Why::Memory),
+            Err(_refused) => Some(Leave::Memory),
         }
     }
 
     /// Takes what a woken task asks for to the board once more.
-    fn act_again(&mut self, mut asked: Asked<P, J>) -> Option<Why>
+    fn act_again(&mut self, mut asked: Asked<P, B>) -> Option<Leave>
         ensures { IfSome result (MayLeave true) }
     {
         match self.worker.prepare(&mut asked) {
             Ok(()) => self.act(asked),
-            Err(_refused) => Some(Why::Memory),
+            Err(_refused) => Some(Leave::Memory),
         }
     }
 
     /// Takes what a task asks for to the board.
     #[inline(always)]
-    fn act(&mut self, asked: Asked<P, J>) -> Option<Why>
+    fn act(&mut self, asked: Asked<P, B>) -> Option<Leave>
         ensures { IfSome result (MayLeave true) }
     {
         self.pace.count(self.worker.statements(&asked));
-        let mut place = Some(asked);
+        let mut slot = Some(asked);
         let worker = &mut self.worker;
         let came = self
             .board
-            .act(worker.alloc, &self.rank, &mut place, &mut worker.works);
-        worker.keep(place);
+            .act(worker.alloc, &self.rank, &mut slot, &mut worker.step_work);
+        worker.keep(slot);
         worker.go_by(came)
     }
 
     /// Takes a handler to the board.
     #[inline(always)]
-    fn hand(&mut self, handler: HandlerName<<P::Lat as Lattice>::Event>) -> Option<Why>
+    fn hand(&mut self, handler: HandlerName<<P::Lat as Lattice>::Event>) -> Option<Leave>
         ensures { IfSome result (MayLeave true) }
     {
         let worker = &mut self.worker;
         let came = self
             .board
-            .hand(worker.alloc, &self.rank, handler, &mut worker.works);
+            .hand(worker.alloc, &self.rank, handler, &mut worker.step_work);
         worker.go_by(came)
     }
 
@@ -126,7 +126,7 @@ impl<'p, 'g, P: Runnable, J: Named<P> + Staff, G: Gate> OwnSite<'p, 'g, P, J, G>
     /// # Errors
     ///
     /// Where there is no room for it.
-    pub fn into_parts(self) -> Result<(Staffed<'p, P, J>, Queue<P, J>), AllocError> {
+    pub fn into_parts(self) -> Result<(Staffed<'p, P, B>, Queue<P, B>), AllocError> {
         let OwnSite {
             board,
             gate: _,

@@ -2,7 +2,7 @@
 
 ghost use Rattle.std.specs.Prelude.{◌≡◌, ◌++◌, ◌∷◌, ◌==◌, [], OnOk, true};
 
-use lvish_board::{Asked, Named, Ticket, Work, Works};
+use lvish_board::{Asked, BoardBrand, StepWork, Ticket, Work};
 use lvish_calculus::Program;
 use lvish_lattice::Lattice;
 use lvish_names::HandlerName;
@@ -11,14 +11,14 @@ use std::collections::VecDeque;
 
 /// The work that waits for one worker, which takes up what came last: the tasks that its steps woke, then
 /// the other tasks, then the handlers.
-pub struct Queue<P: Program, J: Named<P>> {
-    woken: Vec<Asked<P, J>>,
-    tickets: VecDeque<Ticket<P, J>>,
+pub struct Queue<P: Program, B: BoardBrand<P>> {
+    woken: Vec<Asked<P, B>>,
+    tickets: VecDeque<Ticket<P, B>>,
     hands: Vec<HandlerName<<P::Lat as Lattice>::Event>>,
 }
 
 // Written out, so that it is proved once, and not at each exit of a function that owns one.
-impl<P: Program, J: Named<P>> Drop for Queue<P, J> {
+impl<P: Program, B: BoardBrand<P>> Drop for Queue<P, B> {
     fn drop(self) {
         let Queue {
             woken: _,
@@ -28,12 +28,12 @@ impl<P: Program, J: Named<P>> Drop for Queue<P, J> {
     }
 }
 
-impl<P: Program, J: Named<P>> Queue<P, J> {
+impl<P: Program, B: BoardBrand<P>> Queue<P, B> {
     ghost use Rattle.std.specs.Prelude.{Option};
     ghost use Rattle.lvish_run.specs.Waiting.{IsAdded, IsLeft, IsPutOff, IsTaken};
 
     /// No work.
-    pub fn new(alloc: Global) -> Queue<P, J> {
+    pub fn new(alloc: Global) -> Queue<P, B> {
         Queue {
             woken: Vec::new(alloc),
             tickets: VecDeque::new(alloc),
@@ -51,7 +51,7 @@ impl<P: Program, J: Named<P>> Queue<P, J> {
     /// # Errors
     ///
     /// Where there is no room for it.
-    pub fn push(&mut self, work: Work<P, J>) -> Result<(), AllocError>
+    pub fn push(&mut self, work: Work<P, B>) -> Result<(), AllocError>
         ensures { OnOk result (IsAdded work self.old self.new) }
     {
         match work {
@@ -63,7 +63,7 @@ impl<P: Program, J: Named<P>> Queue<P, J> {
 
     /// Takes out the work that came last.
     #[inline(always)]
-    pub fn pop(&mut self) -> Option<Work<P, J>>
+    pub fn pop(&mut self) -> Option<Work<P, B>>
         ensures { IsTaken result self.old self.new }
     {
         if let Some(asked) = self.woken.pop() {
@@ -77,7 +77,7 @@ impl<P: Program, J: Named<P>> Queue<P, J> {
     }
 
     /// Takes out the task that came first, else other work, for another worker.
-    pub fn pop_oldest(&mut self) -> Option<Work<P, J>>
+    pub fn pop_oldest(&mut self) -> Option<Work<P, B>>
         ensures { IsTaken result self.old self.new }
     {
         match self.tickets.pop_front() {
@@ -93,13 +93,13 @@ impl<P: Program, J: Named<P>> Queue<P, J> {
     ///
     /// Where there is no room for it.
     #[inline(never)]
-    pub fn leave(&mut self, works: &mut Works<P, J>) -> Result<(), AllocError>
-        ensures { OnOk result (IsLeft self.old works.old self.new works.new) }
+    pub fn leave(&mut self, step_work: &mut StepWork<P, B>) -> Result<(), AllocError>
+        ensures { OnOk result (IsLeft self.old step_work.old self.new step_work.new) }
     {
-        self.woken.append(&mut works.woken)?;
-        self.hands.append(&mut works.hands)?;
-        if let Some(made) = works.made.take() {
-            if let Some(own) = works.own.replace(made) {
+        self.woken.append(&mut step_work.woken)?;
+        self.hands.append(&mut step_work.hands)?;
+        if let Some(made) = step_work.made.take() {
+            if let Some(own) = step_work.own.replace(made) {
                 self.tickets.push_back(own)?;
             }
         }
@@ -109,6 +109,6 @@ impl<P: Program, J: Named<P>> Queue<P, J> {
 
 /// Whether a step left more than the next ticket of its task.
 #[inline(always)]
-pub fn leaves_more<P: Program, J: Named<P>>(works: &Works<P, J>) -> bool {
-    works.made.is_some() || !works.woken.is_empty() || !works.hands.is_empty()
+pub fn leaves_more<P: Program, B: BoardBrand<P>>(step_work: &StepWork<P, B>) -> bool {
+    step_work.made.is_some() || !step_work.woken.is_empty() || !step_work.hands.is_empty()
 }

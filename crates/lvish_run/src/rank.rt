@@ -7,16 +7,16 @@ use std::marker::PhantomData;
 
 /// The number of a worker of the run, from 0.
 #[derive(Drop)]
-pub struct Rank<J: Staff> {
+pub struct Rank<B: Staff> {
     number: usize,
-    of: PhantomData<J>,
-    ghost ours: { number < J.workers },
+    of: PhantomData<B>,
+    ghost ours: { number < B.workers },
 }
 
-impl<J: Staff> Rank<J> {
+impl<B: Staff> Rank<B> {
     /// The worker of this number.
-    pub fn new(number: usize) -> Rank<J>
-        requires { number < J.workers }
+    pub fn new(number: usize) -> Rank<B>
+        requires { number < B.workers }
         ensures { result.number ≡ number }
     {
         Rank {
@@ -29,7 +29,7 @@ impl<J: Staff> Rank<J> {
     #[inline(always)]
     pub fn number(&self) -> usize
         ensures number { result ≡ self.now.number }
-        ensures ours { result < J.workers }
+        ensures ours { result < B.workers }
     {
         self.number
     }

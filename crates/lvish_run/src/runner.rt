@@ -5,7 +5,7 @@ ghost use Rattle.std.specs.Option.{unwrap_or};
 ghost use Rattle.lvish_calculus.specs.Calculus.{Running, start};
 ghost use Rattle.lvish_calculus.specs.Handing.{IsWellHanded};
 ghost use Rattle.lvish_trace.specs.Traced.{labels_of};
-ghost use Rattle.lvish_board.specs.Standing.{IsOpened};
+ghost use Rattle.lvish_board.specs.Board.{IsOpened};
 ghost use Rattle.lvish_run.specs.Agenda.{open_in, NoTask, IsBeside, IsFor};
 ghost use Rattle.lvish_run.specs.Honest.{IsHonest};
 ghost use Rattle.lvish_run.specs.Picked.{IsPicked};
@@ -15,14 +15,14 @@ ghost use Rattle.lvish_run.specs.Walk.{IsStuck, IsDrawn, IsFirstHandler, IsTurn,
 
 use crate::account::outcome_of;
 use crate::agenda::Agenda;
-use crate::closing::told;
+use crate::closing::report_over;
 use crate::limits::MOST_PROGRAM_STEPS;
 use crate::naming::{Naming, Of};
 use crate::opening::open_one;
 use crate::picks::pick_at;
 use crate::runnable::Runnable;
 use crate::turn::{act, hand, is_sound};
-use lvish_board::{Board, Named, Place};
+use lvish_board::{Board, BoardBrand, Stand};
 use lvish_calculus::laws::lawful;
 use lvish_calculus::{Label, Meaning, Program};
 use lvish_core::laws::{hands_one_event, takes_core_runs, takes_something};
@@ -45,12 +45,12 @@ fn choose<E: Drop>(mut labels: Vec<Label<E>>, pick: u64) -> Option<Label<E>>
 }
 
 /// The label that the pick names, `None` where nothing is enabled.
-fn named<P: Program, J: Named<P>>(
+fn named<P: Program, B: BoardBrand<P>>(
     alloc: Global,
-    board: &Board<'_, P, J>,
+    board: &Board<'_, P, B>,
     pick: u64,
 ) -> Result<Option<Label<<P::Lat as Lattice>::Event>>, AllocError>
-    ensures { IfOk result (λ o. MatchOption o (IsStuck (⟦<P as Meaning>⟧.machine J.program) board.now.core) (λ l. IsDrawn P.Lat.Event.cmp (⟦<P as Meaning>⟧.machine J.program) board.now.core pick l)) }
+    ensures { IfOk result (λ o. MatchOption o (IsStuck (⟦<P as Meaning>⟧.machine B.program) board.now.core) (λ l. IsDrawn P.Lat.Event.cmp (⟦<P as Meaning>⟧.machine B.program) board.now.core pick l)) }
 {
     is_sound(board);
     let labels = board.core().labels(alloc)?;
@@ -58,18 +58,18 @@ fn named<P: Program, J: Named<P>>(
 }
 
 /// Makes the step of the label that the pick names. Answers whether there was one.
-fn take_named<P: Program, J: Named<P>>(
+fn take_named<P: Program, B: BoardBrand<P>>(
     alloc: Global,
     program: &P,
-    board: &mut Board<'_, P, J>,
-    agenda: &mut Agenda<P, J>,
+    board: &mut Board<'_, P, B>,
+    agenda: &mut Agenda<P, B>,
     pick: u64,
 ) -> Result<bool, AllocError>
-    requires program { program.now ≡ J.program }
+    requires program { program.now ≡ B.program }
     requires running { board.old.over ≡ None }
-    requires agenda { IsBeside (⟦<P as Meaning>⟧.machine J.program) board.old None None (open_in P.Lat.Event.cmp agenda.old) }
-    ensures turn { IfOk result (λ made. IsTurn P.Lat.Event.cmp (⟦<P as Meaning>⟧.machine J.program) (Some pick) board.old made board.new) }
-    ensures agenda { IfOk result (λ made. made ≡ true → IsFor P.Lat.Event.cmp (⟦<P as Meaning>⟧.machine J.program) board.new agenda.new) }
+    requires agenda { IsBeside (⟦<P as Meaning>⟧.machine B.program) board.old None None (open_in P.Lat.Event.cmp agenda.old) }
+    ensures turn { IfOk result (λ made. IsTurn P.Lat.Event.cmp (⟦<P as Meaning>⟧.machine B.program) (Some pick) board.old made board.new) }
+    ensures agenda { IfOk result (λ made. made ≡ true → IsFor P.Lat.Event.cmp (⟦<P as Meaning>⟧.machine B.program) board.new agenda.new) }
 {
     is_sound(board);
     match named(alloc, board, pick)? {
@@ -87,17 +87,17 @@ fn take_named<P: Program, J: Named<P>>(
 /// Makes the first step that can be made. Answers whether there was one.
 ///
 /// Open tasks that are blocked are parked on the way, and are open again once a step wakes them.
-fn take_first<P: Program, J: Named<P>>(
+fn take_first<P: Program, B: BoardBrand<P>>(
     alloc: Global,
     program: &P,
-    board: &mut Board<'_, P, J>,
-    agenda: &mut Agenda<P, J>,
+    board: &mut Board<'_, P, B>,
+    agenda: &mut Agenda<P, B>,
 ) -> Result<bool, AllocError>
-    requires program { program.now ≡ J.program }
+    requires program { program.now ≡ B.program }
     requires running { board.old.over ≡ None }
-    requires agenda { IsBeside (⟦<P as Meaning>⟧.machine J.program) board.old None None (open_in P.Lat.Event.cmp agenda.old) }
-    ensures turn { IfOk result (λ made. IsTurn P.Lat.Event.cmp (⟦<P as Meaning>⟧.machine J.program) None board.old made board.new) }
-    ensures agenda { IfOk result (λ made. made ≡ true → IsFor P.Lat.Event.cmp (⟦<P as Meaning>⟧.machine J.program) board.new agenda.new) }
+    requires agenda { IsBeside (⟦<P as Meaning>⟧.machine B.program) board.old None None (open_in P.Lat.Event.cmp agenda.old) }
+    ensures turn { IfOk result (λ made. IsTurn P.Lat.Event.cmp (⟦<P as Meaning>⟧.machine B.program) None board.old made board.new) }
+    ensures agenda { IfOk result (λ made. made ≡ true → IsFor P.Lat.Event.cmp (⟦<P as Meaning>⟧.machine B.program) board.new agenda.new) }
 {
     is_sound(board);
     while let Some(asked) = agenda.pop_task() {
@@ -112,18 +112,18 @@ fn take_first<P: Program, J: Named<P>>(
 }
 
 /// Makes the first handing, where no task is open. Answers whether there was one.
-fn take_first_handing<P: Program, J: Named<P>>(
+fn take_first_handing<P: Program, B: BoardBrand<P>>(
     alloc: Global,
     program: &P,
-    board: &mut Board<'_, P, J>,
-    agenda: &mut Agenda<P, J>,
+    board: &mut Board<'_, P, B>,
+    agenda: &mut Agenda<P, B>,
 ) -> Result<bool, AllocError>
-    requires program { program.now ≡ J.program }
+    requires program { program.now ≡ B.program }
     requires running { board.old.over ≡ None }
-    requires agenda { IsBeside (⟦<P as Meaning>⟧.machine J.program) board.old None None (open_in P.Lat.Event.cmp agenda.old) }
+    requires agenda { IsBeside (⟦<P as Meaning>⟧.machine B.program) board.old None None (open_in P.Lat.Event.cmp agenda.old) }
     requires no_task { NoTask (open_in P.Lat.Event.cmp agenda.old) }
-    ensures turn { IfOk result (λ made. IsTurn P.Lat.Event.cmp (⟦<P as Meaning>⟧.machine J.program) None board.old made board.new) }
-    ensures agenda { IfOk result (λ made. made ≡ true → IsFor P.Lat.Event.cmp (⟦<P as Meaning>⟧.machine J.program) board.new agenda.new) }
+    ensures turn { IfOk result (λ made. IsTurn P.Lat.Event.cmp (⟦<P as Meaning>⟧.machine B.program) None board.old made board.new) }
+    ensures agenda { IfOk result (λ made. made ≡ true → IsFor P.Lat.Event.cmp (⟦<P as Meaning>⟧.machine B.program) board.new agenda.new) }
 {
     match first_handler(board, agenda) {
         Some(handler) => hand(alloc, program, board, agenda, handler),
@@ -132,14 +132,14 @@ fn take_first_handing<P: Program, J: Named<P>>(
 }
 
 /// The first handler with something left for it, where no task is open; `None` where there is none.
-fn first_handler<P: Program, J: Named<P>>(
-    board: &Board<'_, P, J>,
-    agenda: &mut Agenda<P, J>,
+fn first_handler<P: Program, B: BoardBrand<P>>(
+    board: &Board<'_, P, B>,
+    agenda: &mut Agenda<P, B>,
 ) -> Option<HandlerName<<P::Lat as Lattice>::Event>>
     requires running { board.now.over ≡ None }
-    requires agenda { IsBeside (⟦<P as Meaning>⟧.machine J.program) board.now None None (open_in P.Lat.Event.cmp agenda.old) }
+    requires agenda { IsBeside (⟦<P as Meaning>⟧.machine B.program) board.now None None (open_in P.Lat.Event.cmp agenda.old) }
     requires no_task { NoTask (open_in P.Lat.Event.cmp agenda.old) }
-    ensures { MatchOption result (IsStuck (⟦<P as Meaning>⟧.machine J.program) board.now.core) (λ h. IsFirstHandler P.Lat.Event.cmp (⟦<P as Meaning>⟧.machine J.program) board.now h agenda.new) }
+    ensures { MatchOption result (IsStuck (⟦<P as Meaning>⟧.machine B.program) board.now.core) (λ h. IsFirstHandler P.Lat.Event.cmp (⟦<P as Meaning>⟧.machine B.program) board.now h agenda.new) }
 {
     hands_one_event::<P>();
     is_sound(board);
@@ -153,17 +153,17 @@ fn first_handler<P: Program, J: Named<P>>(
 
 /// Makes the step that the pick names, or the first where there is none. Answers whether there was
 /// one.
-fn turn<P: Program, J: Named<P>>(
+fn turn<P: Program, B: BoardBrand<P>>(
     alloc: Global,
     program: &P,
-    board: &mut Board<'_, P, J>,
-    agenda: &mut Agenda<P, J>,
+    board: &mut Board<'_, P, B>,
+    agenda: &mut Agenda<P, B>,
     pick: Option<u64>,
 ) -> Result<bool, AllocError>
-    requires program { program.now ≡ J.program }
-    requires agenda { IsFor P.Lat.Event.cmp (⟦<P as Meaning>⟧.machine J.program) board.old agenda.old }
-    ensures turn { IfOk result (λ made. IsTurn P.Lat.Event.cmp (⟦<P as Meaning>⟧.machine J.program) pick board.old made board.new) }
-    ensures agenda { IfOk result (λ made. made ≡ true → IsFor P.Lat.Event.cmp (⟦<P as Meaning>⟧.machine J.program) board.new agenda.new) }
+    requires program { program.now ≡ B.program }
+    requires agenda { IsFor P.Lat.Event.cmp (⟦<P as Meaning>⟧.machine B.program) board.old agenda.old }
+    ensures turn { IfOk result (λ made. IsTurn P.Lat.Event.cmp (⟦<P as Meaning>⟧.machine B.program) pick board.old made board.new) }
+    ensures agenda { IfOk result (λ made. made ≡ true → IsFor P.Lat.Event.cmp (⟦<P as Meaning>⟧.machine B.program) board.new agenda.new) }
 {
     if board.over().is_some() {
         return Ok(false);
@@ -175,19 +175,19 @@ fn turn<P: Program, J: Named<P>>(
 }
 
 /// Makes steps from the start until none can be made or the budget is used up.
-fn walk<P: Program, J: Named<P>>(
+fn walk<P: Program, B: BoardBrand<P>>(
     alloc: Global,
     program: &P,
-    board: &mut Board<'_, P, J>,
-    agenda: &mut Agenda<P, J>,
+    board: &mut Board<'_, P, B>,
+    agenda: &mut Agenda<P, B>,
     picks: &[u64],
     budget: u64,
 ) -> Result<(), AllocError>
-    requires program { program.now ≡ J.program }
-    requires budget { budget ≡ J.budget }
-    requires board { IsOpened (⟦<P as Meaning>⟧.machine J.program) J.program board.old }
-    requires agenda { IsFor P.Lat.Event.cmp (⟦<P as Meaning>⟧.machine J.program) board.old agenda.old }
-    ensures { IfOk result (λ _. IsWalked P.Lat.Event.cmp (⟦<P as Meaning>⟧.machine J.program) J.program picks.now J.budget board.new.core board.new.trace) }
+    requires program { program.now ≡ B.program }
+    requires budget { budget ≡ B.budget }
+    requires board { IsOpened (⟦<P as Meaning>⟧.machine B.program) B.program board.old }
+    requires agenda { IsFor P.Lat.Event.cmp (⟦<P as Meaning>⟧.machine B.program) board.old agenda.old }
+    ensures { IfOk result (λ _. IsWalked P.Lat.Event.cmp (⟦<P as Meaning>⟧.machine B.program) B.program picks.now B.budget board.new.core board.new.trace) }
 {
     takes_core_runs::<P>();
     is_sound(board);
@@ -202,18 +202,18 @@ fn walk<P: Program, J: Named<P>>(
 }
 
 /// A board at the start of a run, and the agenda beside it.
-fn opened<'p, P: Program, J: Named<P>>(
+fn opened<'p, P: Program, B: BoardBrand<P>>(
     alloc: Global,
     program: &'p P,
     budget: u64,
-    history: Opened<Place<P>>,
-) -> Result<(Board<'p, P, J>, Agenda<P, J>), AllocError>
-    requires program { program.now ≡ J.program }
-    requires budget { budget ≡ J.budget }
+    history: Opened<Stand<P>>,
+) -> Result<(Board<'p, P, B>, Agenda<P, B>), AllocError>
+    requires program { program.now ≡ B.program }
+    requires budget { budget ≡ B.budget }
     requires small { budget ≤ MOST_PROGRAM_STEPS }
-    requires history { history.seen.book ≡ J.book }
-    ensures board { IfOk result (λ r. IsOpened (⟦<P as Meaning>⟧.machine J.program) J.program r.0) }
-    ensures agenda { IfOk result (λ r. IsFor P.Lat.Event.cmp (⟦<P as Meaning>⟧.machine J.program) r.0 r.1) }
+    requires history { history.seen.book ≡ B.book }
+    ensures board { IfOk result (λ r. IsOpened (⟦<P as Meaning>⟧.machine B.program) B.program r.0) }
+    ensures agenda { IfOk result (λ r. IsFor P.Lat.Event.cmp (⟦<P as Meaning>⟧.machine B.program) r.0 r.1) }
 {
     lawful::<P>();
     hands_one_event::<P>();
@@ -227,20 +227,20 @@ fn opened<'p, P: Program, J: Named<P>>(
 }
 
 /// A board after the steps that can be made from the start within the budget.
-fn walked<'p, P: Program, J: Named<P>>(
+fn walked<'p, P: Program, B: BoardBrand<P>>(
     alloc: Global,
     program: &'p P,
     picks: &[u64],
     budget: u64,
-    history: Opened<Place<P>>,
-) -> Result<Board<'p, P, J>, AllocError>
-    requires program { program.now ≡ J.program }
-    requires budget { budget ≡ J.budget }
+    history: Opened<Stand<P>>,
+) -> Result<Board<'p, P, B>, AllocError>
+    requires program { program.now ≡ B.program }
+    requires budget { budget ≡ B.budget }
     requires small { budget ≤ MOST_PROGRAM_STEPS }
-    requires history { history.seen.book ≡ J.book }
-    ensures { IfOk result (λ b. IsWalked P.Lat.Event.cmp (⟦<P as Meaning>⟧.machine J.program) J.program picks.now J.budget b.core b.trace) }
+    requires history { history.seen.book ≡ B.book }
+    ensures { IfOk result (λ b. IsWalked P.Lat.Event.cmp (⟦<P as Meaning>⟧.machine B.program) B.program picks.now B.budget b.core b.trace) }
 {
-    let (mut board, mut agenda) = opened::<P, J>(alloc, program, budget, history)?;
+    let (mut board, mut agenda) = opened::<P, B>(alloc, program, budget, history)?;
     walk(alloc, program, &mut board, &mut agenda, picks, budget)?;
     Ok(board)
 }
@@ -278,7 +278,7 @@ fn run_named<P: Runnable, N: Naming<P>>(
     program: &P,
     picks: &[u64],
     budget: u64,
-    history: Opened<Place<P>>,
+    history: Opened<Stand<P>>,
 ) -> Result<Report<P::Lat, <P::Lat as Lattice>::Event>, AllocError>
     requires program { program.now ≡ unwrap_or N.program P.blank }
     requires budget { budget ≡ N.budget }
@@ -298,5 +298,5 @@ fn run_named<P: Runnable, N: Naming<P>>(
     let steps = core.steps();
     let mut by_worker = Vec::new(alloc);
     by_worker.push(steps)?;
-    told(alloc, board, outcome, Counts::from(by_worker))
+    report_over(alloc, board, outcome, Counts::from(by_worker))
 }

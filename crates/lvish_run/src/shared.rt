@@ -9,15 +9,15 @@ ghost use Rattle.lvish_run.specs.Crew.{MayLeave};
 
 use crate::gate::Gate;
 use crate::hall::Hall;
+use crate::leave::Leave;
 use crate::naming::Staff;
 use crate::pace::Pace;
 use crate::queue::Queue;
 use crate::rank::Rank;
 use crate::runnable::Runnable;
 use crate::seek::find;
-use crate::why::Why;
 use crate::worker::Worker;
-use lvish_board::{Asked, Named, Ticket, Work};
+use lvish_board::{Asked, BoardBrand, Ticket, Work};
 use lvish_calculus::Program;
 use lvish_deal::Seat;
 use lvish_lattice::Lattice;
@@ -27,29 +27,29 @@ use std::sync::Wait;
 
 /// The place of one worker of a crew.
 #[derive(Drop)]
-pub struct SharedSite<'r, 'h, 'p, P: Program, J: Named<P> + Staff, R: Wait, G: Gate> {
+pub struct SharedSite<'r, 'h, 'p, P: Program, B: BoardBrand<P> + Staff, R: Wait, G: Gate> {
     pub rt: &'r R,
-    pub hall: &'h Hall<'p, P, J>,
+    pub hall: &'h Hall<'p, P, B>,
     pub gate: &'r G,
-    pub seat: Seat<Work<P, J>>,
+    pub seat: Seat<Work<P, B>>,
     pub pace: Pace,
     // what it found when it was about to sleep
-    pub found: Option<Work<P, J>>,
-    pub rank: Rank<J>,
-    pub worker: Worker<'p, P, J>,
+    pub found: Option<Work<P, B>>,
+    pub rank: Rank<B>,
+    pub worker: Worker<'p, P, B>,
 }
 
-impl<'r, 'h, 'p, P: Runnable, J: Named<P> + Staff, R: Wait, G: Gate> SharedSite<
+impl<'r, 'h, 'p, P: Runnable, B: BoardBrand<P> + Staff, R: Wait, G: Gate> SharedSite<
     'r,
     'h,
     'p,
     P,
-    J,
+    B,
     R,
     G,
 > {
     /// Works turn after turn, until one says why the worker leaves.
-    pub fn work(&mut self) -> Why
+    pub fn work(&mut self) -> Leave
         ensures { MayLeave G.patient result }
     {
         for _ in self.rt.forever() {
@@ -62,11 +62,11 @@ impl<'r, 'h, 'p, P: Runnable, J: Named<P> + Staff, R: Wait, G: Gate> SharedSite<
 
     /// One turn: why the worker leaves, if it does.
     #[inline(always)]
-    fn turn(&mut self) -> Option<Why>
+    fn turn(&mut self) -> Option<Leave>
         ensures { IfSome result (MayLeave G.patient) }
     {
         if self.leaves() {
-            return Some(Why::Others);
+            return Some(Leave::Others);
         }
         match self.take_up() {
             Some(Work::Stretch(ticket)) => self.run_on(ticket),
@@ -90,7 +90,7 @@ impl<'r, 'h, 'p, P: Runnable, J: Named<P> + Staff, R: Wait, G: Gate> SharedSite<
 
     /// Takes up its own work, else what it found or finds on the deques.
     #[inline(always)]
-    fn take_up(&mut self) -> Option<Work<P, J>> {
+    fn take_up(&mut self) -> Option<Work<P, B>> {
         match self.worker.take_up() {
             Some(work) => Some(work),
             None => self.take_found(),
@@ -98,7 +98,7 @@ impl<'r, 'h, 'p, P: Runnable, J: Named<P> + Staff, R: Wait, G: Gate> SharedSite<
     }
 
     /// Takes up what it found when it was about to sleep, else what it finds on the deques.
-    fn take_found(&mut self) -> Option<Work<P, J>> {
+    fn take_found(&mut self) -> Option<Work<P, B>> {
         match self.found.take() {
             Some(work) => Some(work),
             None => find(&mut self.seat),
@@ -106,11 +106,11 @@ impl<'r, 'h, 'p, P: Runnable, J: Named<P> + Staff, R: Wait, G: Gate> SharedSite<
     }
 
     /// A turn without work: it is stopped, or sleeps until there is some.
-    fn idle(&mut self) -> Option<Why>
+    fn idle(&mut self) -> Option<Leave>
         ensures { IfSome result (MayLeave G.patient) }
     {
         if !self.gate.idle(self.rank.number()) {
-            return Some(Why::Stopped);
+            return Some(Leave::Stopped);
         }
         self.found = self.hall.sleep(self.rt, &mut self.seat);
         None
@@ -118,16 +118,16 @@ impl<'r, 'h, 'p, P: Runnable, J: Named<P> + Staff, R: Wait, G: Gate> SharedSite<
 
     /// Runs a task's local statements, and takes what it then asks for to the board.
     #[inline(always)]
-    fn run_on(&mut self, ticket: Ticket<P, J>) -> Option<Why>
+    fn run_on(&mut self, ticket: Ticket<P, B>) -> Option<Leave>
         ensures { IfSome result (MayLeave true) }
     {
         if self.share_as_asked().is_err() {
-            return Some(Why::Memory);
+            return Some(Leave::Memory);
         }
         self.gate.enter(self.rank.number(), ticket.task());
         match self.worker.stretch(ticket) {
             Ok(asked) => self.act(asked),
-            Err(_refused) => Some(Why::Memory),
+            Err(_refused) => Some(Leave::Memory),
         }
     }
 
@@ -182,39 +182,39 @@ impl<'r, 'h, 'p, P: Runnable, J: Named<P> + Staff, R: Wait, G: Gate> SharedSite<
     }
 
     /// Takes what a woken task asks for to the board once more.
-    fn act_again(&mut self, mut asked: Asked<P, J>) -> Option<Why>
+    fn act_again(&mut self, mut asked: Asked<P, B>) -> Option<Leave>
         ensures { IfSome result (MayLeave true) }
     {
         match self.worker.prepare(&mut asked) {
             Ok(()) => self.act(asked),
-            Err(_refused) => Some(Why::Memory),
+            Err(_refused) => Some(Leave::Memory),
         }
     }
 
     /// Takes what a task asks for to the board.
     #[inline(always)]
-    fn act(&mut self, asked: Asked<P, J>) -> Option<Why>
+    fn act(&mut self, asked: Asked<P, B>) -> Option<Leave>
         ensures { IfSome result (MayLeave true) }
     {
         self.pace.count(self.worker.statements(&asked));
-        let mut place = Some(asked);
+        let mut slot = Some(asked);
         let worker = &mut self.worker;
         let mut board = self.hall.take(self.rt);
-        let came = board.act(worker.alloc, &self.rank, &mut place, &mut worker.works);
+        let came = board.act(worker.alloc, &self.rank, &mut slot, &mut worker.step_work);
         drop(board);
         // (what is left of the task is dropped or kept when the board is free again)
-        worker.keep(place);
+        worker.keep(slot);
         worker.go_by(came)
     }
 
     /// Takes a handler to the board.
     #[inline(always)]
-    fn hand(&mut self, handler: HandlerName<<P::Lat as Lattice>::Event>) -> Option<Why>
+    fn hand(&mut self, handler: HandlerName<<P::Lat as Lattice>::Event>) -> Option<Leave>
         ensures { IfSome result (MayLeave true) }
     {
         let worker = &mut self.worker;
         let mut board = self.hall.take(self.rt);
-        let came = board.hand(worker.alloc, &self.rank, handler, &mut worker.works);
+        let came = board.hand(worker.alloc, &self.rank, handler, &mut worker.step_work);
         drop(board);
         worker.go_by(came)
     }
@@ -245,11 +245,11 @@ impl<'r, 'h, 'p, P: Runnable, J: Named<P> + Staff, R: Wait, G: Gate> SharedSite<
 }
 
 /// Leaves all that is on its own deque and in the queue in this list.
-fn leave_all<P: Program, J: Named<P>, R: Wait>(
+fn leave_all<P: Program, B: BoardBrand<P>, R: Wait>(
     rt: &R,
-    seat: &mut Seat<Work<P, J>>,
-    queue: &mut Queue<P, J>,
-    rest: &mut Vec<Work<P, J>>,
+    seat: &mut Seat<Work<P, B>>,
+    queue: &mut Queue<P, B>,
+    rest: &mut Vec<Work<P, B>>,
 ) -> Result<(), AllocError> {
     for _ in rt.forever() {
         let work = match seat.pop() {

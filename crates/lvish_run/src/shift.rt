@@ -1,21 +1,21 @@
 //! What a worker of a crew does on its thread.
 
 ghost use Rattle.std.specs.Prelude.{◌≡◌, ◌≢◌, ◌<◌, ◌≤◌, All, Ok, length, true};
-ghost use Rattle.lvish_run.specs.declared.why.Why.TheVariants.{Stopped};
+ghost use Rattle.lvish_run.specs.declared.leave.Leave.TheVariants.{Stopped};
 
-use crate::crew::together;
+use crate::crew::run_workers;
 use crate::gate::Gate;
 use crate::hall::Hall;
+use crate::leave::Leave;
 use crate::naming::Staff;
-use crate::order::Order;
 use crate::pace::Pace;
 use crate::queue::Queue;
 use crate::rank::Rank;
 use crate::runnable::{Runnable, Shareable};
+use crate::setting::Setting;
 use crate::shared::SharedSite;
-use crate::why::Why;
 use crate::worker::Worker;
-use lvish_board::{Named, Work};
+use lvish_board::{BoardBrand, Work};
 use lvish_calculus::Program;
 use lvish_deal::Seat;
 use std::alloc::AllocError;
@@ -33,7 +33,7 @@ pub trait Shift: Drop {
     ghost patient: { Bool };
 
     /// Works until the worker leaves: why it does.
-    fn work(self) -> Why
+    fn work(self) -> Leave
         ensures { MayLeave patient result };
 
     /// Sends all workers of the crew away.
@@ -42,48 +42,48 @@ pub trait Shift: Drop {
 
 /// A worker at its seat, with the work that waits for it.
 #[derive(Drop)]
-pub struct Seated<'o, 'r, 'h, 'p, P: Program, J: Named<P> + Staff, R, G: Gate> {
-    pub order: &'o Order<'r, 'p, P, R, G>,
-    pub hall: &'h Hall<'p, P, J>,
+pub struct Seated<'o, 'r, 'h, 'p, P: Program, B: BoardBrand<P> + Staff, R, G: Gate> {
+    pub setting: &'o Setting<'r, 'p, P, R, G>,
+    pub hall: &'h Hall<'p, P, B>,
     pub pace: Pace,
-    pub seat: Seat<Work<P, J>>,
-    pub queue: Queue<P, J>,
-    ghost program: { order.now.program.now ≡ J.program },
-    ghost ours: { length seat.deal ≤ J.workers },
+    pub seat: Seat<Work<P, B>>,
+    pub queue: Queue<P, B>,
+    ghost program: { setting.now.program.now ≡ B.program },
+    ghost ours: { length seat.deal ≤ B.workers },
 }
 
-impl<'o, 'r, 'h, 'p, P: Runnable, J: Named<P> + Staff, R: Wait, G: Gate> Shift
-    for Seated<'o, 'r, 'h, 'p, P, J, R, G> {
+impl<'o, 'r, 'h, 'p, P: Runnable, B: BoardBrand<P> + Staff, R: Wait, G: Gate> Shift
+    for Seated<'o, 'r, 'h, 'p, P, B, R, G> {
     ghost patient = { G.patient };
 
-    fn work(self) -> Why {
+    fn work(self) -> Leave {
         let Seated {
-            order,
+            setting,
             hall,
             pace,
             seat,
             queue,
         } = self;
         let mut site = SharedSite {
-            rt: order.rt,
+            rt: setting.rt,
             hall,
-            gate: order.gate,
+            gate: setting.gate,
             rank: Rank::new(seat.number()),
             seat,
             pace,
             found: None,
-            worker: Worker::new(order.alloc, order.program, queue),
+            worker: Worker::new(setting.alloc, setting.program, queue),
         };
         let why = site.work();
-        hall.close(order.rt);
+        hall.close(setting.rt);
         match site.leave_behind() {
             Ok(()) => why,
-            Err(_refused) => Why::Memory,
+            Err(_refused) => Leave::Memory,
         }
     }
 
     fn close(&self) {
-        self.hall.close(self.order.rt);
+        self.hall.close(self.setting.rt);
     }
 }
 
@@ -96,43 +96,43 @@ impl<'o, 'r, 'h, 'p, P: Runnable, J: Named<P> + Staff, R: Wait, G: Gate> Shift
 pub fn work_together<
     'p,
     P: Shareable,
-    J: Named<P> + Staff + Send + Sync,
+    B: BoardBrand<P> + Staff + Send + Sync,
     R: Threads + Wait + Sync,
     G: Gate + Sync,
 >(
-    order: &Order<'_, 'p, P, R, G>,
+    setting: &Setting<'_, 'p, P, R, G>,
     pace: Pace,
-    hall: &Hall<'p, P, J>,
-    seats: Vec<Seat<Work<P, J>>>,
-    queue: Queue<P, J>,
-) -> Result<Why, AllocError>
-    requires program { order.now.program.now ≡ J.program }
+    hall: &Hall<'p, P, B>,
+    seats: Vec<Seat<Work<P, B>>>,
+    queue: Queue<P, B>,
+) -> Result<Leave, AllocError>
+    requires program { setting.now.program.now ≡ B.program }
     requires some { 0 < length seats.items }
-    requires ours { All (λ s. length s.deal ≤ J.workers) seats.items }
+    requires ours { All (λ s. length s.deal ≤ B.workers) seats.items }
     ensures patient { G.patient ≡ true → result ≢ Ok Stopped }
 {
-    let (mine, others) = parted::<Work<P, J>, J>(seats);
+    let (mine, others) = parted::<Work<P, B>, B>(seats);
     let first = Seated {
-        order,
+        setting,
         hall,
         pace,
         seat: mine,
         queue,
     };
-    together(
-        order.rt,
-        order.alloc,
+    run_workers(
+        setting.rt,
+        setting.alloc,
         first,
-        take_seats(order, pace, hall, others)?,
+        take_seats(setting, pace, hall, others)?,
     )
 }
 
 /// The first seat, and the others.
-fn parted<T, J: Staff>(seats: Vec<Seat<T>>) -> (Seat<T>, Vec<Seat<T>>)
+fn parted<T, B: Staff>(seats: Vec<Seat<T>>) -> (Seat<T>, Vec<Seat<T>>)
     requires some { 0 < length seats.items }
-    requires ours { All (λ s. length s.deal ≤ J.workers) seats.items }
-    ensures first { length result.0.deal ≤ J.workers }
-    ensures rest { All (λ s. length s.deal ≤ J.workers) result.1.items }
+    requires ours { All (λ s. length s.deal ≤ B.workers) seats.items }
+    ensures first { length result.0.deal ≤ B.workers }
+    ensures rest { All (λ s. length s.deal ≤ B.workers) result.1.items }
 {
     let mut others = seats;
     let first = others.remove(0);
@@ -140,23 +140,23 @@ fn parted<T, J: Staff>(seats: Vec<Seat<T>>) -> (Seat<T>, Vec<Seat<T>>)
 }
 
 /// Workers at these seats, for whom no work waits.
-fn take_seats<'o, 'r, 'h, 'p, P: Program, J: Named<P> + Staff, R, G: Gate>(
-    order: &'o Order<'r, 'p, P, R, G>,
+fn take_seats<'o, 'r, 'h, 'p, P: Program, B: BoardBrand<P> + Staff, R, G: Gate>(
+    setting: &'o Setting<'r, 'p, P, R, G>,
     pace: Pace,
-    hall: &'h Hall<'p, P, J>,
-    mut seats: Vec<Seat<Work<P, J>>>,
-) -> Result<Vec<Seated<'o, 'r, 'h, 'p, P, J, R, G>>, AllocError>
-    requires program { order.now.program.now ≡ J.program }
-    requires ours { All (λ s. length s.deal ≤ J.workers) seats.items }
+    hall: &'h Hall<'p, P, B>,
+    mut seats: Vec<Seat<Work<P, B>>>,
+) -> Result<Vec<Seated<'o, 'r, 'h, 'p, P, B, R, G>>, AllocError>
+    requires program { setting.now.program.now ≡ B.program }
+    requires ours { All (λ s. length s.deal ≤ B.workers) seats.items }
 {
-    let mut workers = Vec::with_capacity(order.alloc, seats.len())?;
+    let mut workers = Vec::with_capacity(setting.alloc, seats.len())?;
     while let Some(seat) = seats.pop() {
         workers.push(Seated {
-            order,
+            setting,
             hall,
             pace,
             seat,
-            queue: Queue::new(order.alloc),
+            queue: Queue::new(setting.alloc),
         })?;
     }
     Ok(workers)

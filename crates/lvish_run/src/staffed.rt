@@ -6,7 +6,7 @@ use crate::closing::report_of;
 use crate::fault::RunFault;
 use crate::naming::Staff;
 use crate::rank::Rank;
-use lvish_board::{Asked, Board, Came, Named, Works};
+use lvish_board::{ActKind, Asked, Board, BoardBrand, StepWork};
 use lvish_calculus::{Meaning, Program};
 use lvish_lattice::Lattice;
 use lvish_names::HandlerName;
@@ -15,37 +15,37 @@ use std::alloc::Global;
 use std::marker::Model;
 
 /// A board at which the workers of a run work, and nobody else.
-pub struct Staffed<'p, P: Program, J: Named<P> + Staff> {
-    board: Board<'p, P, J>,
+pub struct Staffed<'p, P: Program, B: BoardBrand<P> + Staff> {
+    board: Board<'p, P, B>,
 }
 
 // Written out, so that it is proved once, and not at each exit of a function that owns one.
-impl<'p, P: Program, J: Named<P> + Staff> Drop for Staffed<'p, P, J> {
+impl<'p, P: Program, B: BoardBrand<P> + Staff> Drop for Staffed<'p, P, B> {
     fn drop(self) {
         let Staffed { board: _ } = self;
     }
 }
 
-impl<'p, P: Program, J: Named<P> + Staff> Model for Staffed<'p, P, J> {
+impl<'p, P: Program, B: BoardBrand<P> + Staff> Model for Staffed<'p, P, B> {
     ghost use Rattle.std.specs.Prelude.{◌<◌};
     ghost use Rattle.std.specs.List.{AllByRecursion};
-    ghost use Rattle.lvish_board.specs.Standing.{Standing};
+    ghost use Rattle.lvish_board.specs.Board.{Standing};
 
     ghost Value = { Standing P P.Lat P.Lat.Event P.Local };
 
     ghost view = { λ s. s.board };
 
     // Its steps are all of these workers.
-    ghost invariant = { λ s. AllByRecursion (λ e. e.worker < J.workers) s.board.trace };
+    ghost invariant = { λ s. AllByRecursion (λ e. e.worker < B.workers) s.board.trace };
 }
 
-impl<'p, P: Program, J: Named<P> + Staff> Staffed<'p, P, J> {
+impl<'p, P: Program, B: BoardBrand<P> + Staff> Staffed<'p, P, B> {
     ghost use Rattle.std.specs.Prelude.{[]};
     ghost use Rattle.lvish_run.specs.Alike.{IsTold};
     ghost use Rattle.lvish_run.specs.Crew.{MakesBy};
 
     /// A board at which nobody has worked.
-    pub fn new(board: Board<'p, P, J>) -> Staffed<'p, P, J>
+    pub fn new(board: Board<'p, P, B>) -> Staffed<'p, P, B>
         requires { board.trace ≡ [] }
         ensures { result ≡ board.entry }
     {
@@ -65,16 +65,16 @@ impl<'p, P: Program, J: Named<P> + Staff> Staffed<'p, P, J> {
     pub fn act(
         &mut self,
         alloc: Global,
-        worker: &Rank<J>,
-        asked: &mut Option<Asked<P, J>>,
-        works: &mut Works<P, J>,
-    ) -> Came
+        worker: &Rank<B>,
+        asked: &mut Option<Asked<P, B>>,
+        step_work: &mut StepWork<P, B>,
+    ) -> ActKind
         requires there { IsSome asked.old }
         // A step that it makes is the worker's.
         ensures { MakesBy worker.now.number self.old.trace self.new.trace }
     {
         let number = worker.number();
-        let came = self.board.act_into(alloc, number, asked, works);
+        let came = self.board.act_into(alloc, number, asked, step_work);
         self.or_over(came)
     }
 
@@ -83,23 +83,23 @@ impl<'p, P: Program, J: Named<P> + Staff> Staffed<'p, P, J> {
     pub fn hand(
         &mut self,
         alloc: Global,
-        worker: &Rank<J>,
+        worker: &Rank<B>,
         handler: HandlerName<<P::Lat as Lattice>::Event>,
-        works: &mut Works<P, J>,
-    ) -> Came
+        step_work: &mut StepWork<P, B>,
+    ) -> ActKind
         // A handing that it makes is the worker's.
         ensures { MakesBy worker.now.number self.old.trace self.new.trace }
     {
-        let mut place = Some(handler);
+        let mut slot = Some(handler);
         let number = worker.number();
-        let came = self.board.hand_into(alloc, number, &mut place, works);
+        let came = self.board.hand_into(alloc, number, &mut slot, step_work);
         self.or_over(came)
     }
 
     /// What came of work, or that the board is over.
     #[inline(always)]
-    fn or_over(&self, came: Came) -> Came {
-        if self.is_over() { Came::Over } else { came }
+    fn or_over(&self, came: ActKind) -> ActKind {
+        if self.is_over() { ActKind::Over } else { came }
     }
 
     /// The report of a board that is over, by all its workers.
@@ -113,8 +113,8 @@ impl<'p, P: Program, J: Named<P> + Staff> Staffed<'p, P, J> {
         workers: usize,
     ) -> Result<Report<P::Lat, <P::Lat as Lattice>::Event>, RunFault>
         requires over { IsSome self.over }
-        requires all { workers ≡ J.workers }
-        ensures told { IfOk result (λ r. IsTold (⟦<P as Meaning>⟧.machine J.program) (P.functions J.program).variables workers J.budget r) }
+        requires all { workers ≡ B.workers }
+        ensures told { IfOk result (λ r. IsTold (⟦<P as Meaning>⟧.machine B.program) (P.functions B.program).variables workers B.budget r) }
         ensures whole { result ≢ Err RunFault.Mixed }
         ensures not_stopped { result ≢ Err RunFault.Stopped }
         ensures all_there { result ≢ Err RunFault.NoThread }

@@ -13,17 +13,17 @@ use crate::gate::Gate;
 use crate::hall::Hall;
 use crate::limits::{MOST_PROGRAM_STEPS, MOST_STEPS, MOST_WORKERS};
 use crate::naming::{Naming, Of, Staff};
-use crate::order::Order;
 use crate::own::OwnSite;
 use crate::pace::{GRAIN, LEAST_GRAIN, Pace};
 use crate::queue::Queue;
 use crate::rank::Rank;
 use crate::runnable::{Runnable, Shareable};
 use crate::scripts::RunMeaning;
+use crate::setting::Setting;
 use crate::shift::work_together;
 use crate::staffed::Staffed;
 use crate::worker::Worker;
-use lvish_board::{Board, Named, Place};
+use lvish_board::{Board, BoardBrand, Stand};
 use lvish_calculus::{Meaning, Program};
 use lvish_compound::{Any, Event};
 use lvish_deal::deal;
@@ -117,7 +117,7 @@ fn run_named<
     workers: usize,
     budget: u64,
     gate: &G,
-    history: Opened<Place<P>>,
+    history: Opened<Stand<P>>,
 ) -> Result<Report<P::Lat, <P::Lat as Lattice>::Event>, RunFault>
     requires some { 0 < workers }
     requires few { workers ≤ MOST_WORKERS }
@@ -136,14 +136,14 @@ fn run_named<
     };
     let mut queue = Queue::new(alloc);
     queue.push(first)?;
-    let order = Order {
+    let setting = Setting {
         rt,
         alloc,
         program,
         gate,
         workers,
     };
-    let board = work_off(&order, Staffed::new(board), queue)?;
+    let board = work_off(&setting, Staffed::new(board), queue)?;
     board.report(alloc, workers)
 }
 
@@ -151,28 +151,28 @@ fn run_named<
 fn work_off<
     'p,
     P: Shareable,
-    J: Named<P> + Staff + Send + Sync,
+    B: BoardBrand<P> + Staff + Send + Sync,
     R: Threads + Wait + Sync,
     G: Gate + Sync,
 >(
-    order: &Order<'_, 'p, P, R, G>,
-    board: Staffed<'p, P, J>,
-    queue: Queue<P, J>,
-) -> Result<Staffed<'p, P, J>, RunFault>
-    requires program { order.now.program.now ≡ J.program }
-    requires all { order.now.workers ≡ J.workers }
+    setting: &Setting<'_, 'p, P, R, G>,
+    board: Staffed<'p, P, B>,
+    queue: Queue<P, B>,
+) -> Result<Staffed<'p, P, B>, RunFault>
+    requires program { setting.now.program.now ≡ B.program }
+    requires all { setting.now.workers ≡ B.workers }
     ensures patient { G.patient ≡ true → result ≢ Err RunFault.Stopped }
-    ensures alone { order.now.workers ≡ 1 → (result ≢ Err RunFault.NoThread) × (result ≢ Err RunFault.Stopped) }
+    ensures alone { setting.now.workers ≡ 1 → (result ≢ Err RunFault.NoThread) × (result ≢ Err RunFault.Stopped) }
     ensures whole { result ≢ Err RunFault.Mixed }
     ensures over { IfOk result (λ b. IsSome b.over) }
 {
-    let (mut board, mut queue) = begin(order, board, queue)?;
+    let (mut board, mut queue) = begin(setting, board, queue)?;
     let mut changes = 0u32;
-    for _ in order.rt.forever() {
+    for _ in setting.rt.forever() {
         if board.is_over() {
             return Ok(board);
         }
-        (board, queue) = by_turns(order, changes, board, queue)?;
+        (board, queue) = by_turns(setting, changes, board, queue)?;
         changes = changes.saturating_add(2);
     }
     unreachable!()
@@ -182,22 +182,22 @@ fn work_off<
 fn begin<
     'p,
     P: Shareable,
-    J: Named<P> + Staff + Send + Sync,
+    B: BoardBrand<P> + Staff + Send + Sync,
     R: Threads + Wait + Sync,
     G: Gate + Sync,
 >(
-    order: &Order<'_, 'p, P, R, G>,
-    board: Staffed<'p, P, J>,
-    queue: Queue<P, J>,
-) -> Result<(Staffed<'p, P, J>, Queue<P, J>), RunFault>
-    requires program { order.now.program.now ≡ J.program }
-    requires all { order.now.workers ≡ J.workers }
+    setting: &Setting<'_, 'p, P, R, G>,
+    board: Staffed<'p, P, B>,
+    queue: Queue<P, B>,
+) -> Result<(Staffed<'p, P, B>, Queue<P, B>), RunFault>
+    requires program { setting.now.program.now ≡ B.program }
+    requires all { setting.now.workers ≡ B.workers }
     ensures patient { G.patient ≡ true → result ≢ Err RunFault.Stopped }
-    ensures alone { order.now.workers ≡ 1 → (result ≢ Err RunFault.NoThread) × (result ≢ Err RunFault.Stopped) }
+    ensures alone { setting.now.workers ≡ 1 → (result ≢ Err RunFault.NoThread) × (result ≢ Err RunFault.Stopped) }
     ensures whole { result ≢ Err RunFault.Mixed }
 {
-    if order.workers > 1 && order.gate.holds() {
-        crew(order, Pace::steady(), board, queue)
+    if setting.workers > 1 && setting.gate.holds() {
+        crew(setting, Pace::steady(), board, queue)
     } else {
         Ok((board, queue))
     }
@@ -208,53 +208,53 @@ fn begin<
 fn by_turns<
     'p,
     P: Shareable,
-    J: Named<P> + Staff + Send + Sync,
+    B: BoardBrand<P> + Staff + Send + Sync,
     R: Threads + Wait + Sync,
     G: Gate + Sync,
 >(
-    order: &Order<'_, 'p, P, R, G>,
+    setting: &Setting<'_, 'p, P, R, G>,
     changes: u32,
-    board: Staffed<'p, P, J>,
-    queue: Queue<P, J>,
-) -> Result<(Staffed<'p, P, J>, Queue<P, J>), RunFault>
-    requires program { order.now.program.now ≡ J.program }
-    requires all { order.now.workers ≡ J.workers }
+    board: Staffed<'p, P, B>,
+    queue: Queue<P, B>,
+) -> Result<(Staffed<'p, P, B>, Queue<P, B>), RunFault>
+    requires program { setting.now.program.now ≡ B.program }
+    requires all { setting.now.workers ≡ B.workers }
     ensures patient { G.patient ≡ true → result ≢ Err RunFault.Stopped }
-    ensures alone { order.now.workers ≡ 1 → (result ≢ Err RunFault.NoThread) × (result ≢ Err RunFault.Stopped) }
+    ensures alone { setting.now.workers ≡ 1 → (result ≢ Err RunFault.NoThread) × (result ≢ Err RunFault.Stopped) }
     ensures whole { result ≢ Err RunFault.Mixed }
 {
-    if order.workers == 1 {
-        return alone(order, Pace::steady(), board, queue);
+    if setting.workers == 1 {
+        return alone(setting, Pace::steady(), board, queue);
     }
-    let (board, queue) = alone(order, Pace::after(changes, GRAIN), board, queue)?;
+    let (board, queue) = alone(setting, Pace::after(changes, GRAIN), board, queue)?;
     if board.is_over() {
         Ok((board, queue))
     } else {
-        crew(order, Pace::after(changes, LEAST_GRAIN), board, queue)
+        crew(setting, Pace::after(changes, LEAST_GRAIN), board, queue)
     }
 }
 
 /// Works alone until the board is over or a crew pays: the board, and the work that is left.
-fn alone<'p, P: Runnable, J: Named<P> + Staff, R: Wait, G: Gate>(
-    order: &Order<'_, 'p, P, R, G>,
+fn alone<'p, P: Runnable, B: BoardBrand<P> + Staff, R: Wait, G: Gate>(
+    setting: &Setting<'_, 'p, P, R, G>,
     pace: Pace,
-    board: Staffed<'p, P, J>,
-    queue: Queue<P, J>,
-) -> Result<(Staffed<'p, P, J>, Queue<P, J>), RunFault>
-    requires program { order.now.program.now ≡ J.program }
-    requires all { order.now.workers ≡ J.workers }
+    board: Staffed<'p, P, B>,
+    queue: Queue<P, B>,
+) -> Result<(Staffed<'p, P, B>, Queue<P, B>), RunFault>
+    requires program { setting.now.program.now ≡ B.program }
+    requires all { setting.now.workers ≡ B.workers }
     ensures not_stopped { result ≢ Err RunFault.Stopped }
     ensures whole { result ≢ Err RunFault.Mixed }
     ensures all_there { result ≢ Err RunFault.NoThread }
 {
     let mut site = OwnSite {
         board,
-        gate: order.gate,
+        gate: setting.gate,
         pace,
         rank: Rank::new(0),
-        worker: Worker::new(order.alloc, order.program, queue),
+        worker: Worker::new(setting.alloc, setting.program, queue),
     };
-    if let Some(fault) = site.work(order.rt).fault() {
+    if let Some(fault) = site.work(setting.rt).fault() {
         return Err(fault);
     }
     Ok(site.into_parts()?)
@@ -265,27 +265,27 @@ fn alone<'p, P: Runnable, J: Named<P> + Staff, R: Wait, G: Gate>(
 fn crew<
     'p,
     P: Shareable,
-    J: Named<P> + Staff + Send + Sync,
+    B: BoardBrand<P> + Staff + Send + Sync,
     R: Threads + Wait + Sync,
     G: Gate + Sync,
 >(
-    order: &Order<'_, 'p, P, R, G>,
+    setting: &Setting<'_, 'p, P, R, G>,
     pace: Pace,
-    board: Staffed<'p, P, J>,
-    queue: Queue<P, J>,
-) -> Result<(Staffed<'p, P, J>, Queue<P, J>), RunFault>
-    requires program { order.now.program.now ≡ J.program }
-    requires all { order.now.workers ≡ J.workers }
+    board: Staffed<'p, P, B>,
+    queue: Queue<P, B>,
+) -> Result<(Staffed<'p, P, B>, Queue<P, B>), RunFault>
+    requires program { setting.now.program.now ≡ B.program }
+    requires all { setting.now.workers ≡ B.workers }
     ensures patient { G.patient ≡ true → result ≢ Err RunFault.Stopped }
     ensures whole { result ≢ Err RunFault.Mixed }
 {
-    let seats = deal(order.alloc, order.workers)?;
-    let hall = Hall::new(order.alloc, board);
-    if let Some(fault) = work_together(order, pace, &hall, seats, queue)?.fault() {
+    let seats = deal(setting.alloc, setting.workers)?;
+    let hall = Hall::new(setting.alloc, board);
+    if let Some(fault) = work_together(setting, pace, &hall, seats, queue)?.fault() {
         return Err(fault);
     }
     let (board, rest) = hall.into_parts();
-    let mut queue = Queue::new(order.alloc);
+    let mut queue = Queue::new(setting.alloc);
     for work in rest {
         queue.push(work)?;
     }

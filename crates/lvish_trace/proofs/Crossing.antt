@@ -4,10 +4,10 @@ use denote.RattleType.{RattleType}
 use Rattle.std.specs.contracts.option.Option as Option
 use Rattle.lvish_names.proofs.Crossing.{name_send}
 use Rattle.lvish_names.specs.contracts.task_name.TaskName as TaskName
-use Rattle.lvish_trace.specs.contracts.noted.Noted as Noted
+use Rattle.lvish_trace.specs.contracts.packed_step.PackedStep as PackedStep
 use Rattle.lvish_trace.specs.contracts.outcome.Outcome as Outcome
 
-pub noted_send : IsSend Noted.the_row
+pub noted_send : IsSend PackedStep.the_row
 noted_send = search sendable depth 24
 
 -- how a run is over, if it is

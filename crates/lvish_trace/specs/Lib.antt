@@ -1,3 +1,3 @@
-pub mod NotedView
-pub mod Noted
+pub mod PackedView
+pub mod Packed
 pub mod Traced

@@ -2,10 +2,10 @@
 
 ghost use Rattle.std.specs.Prelude.{◌≡◌, ◌≤◌, IfOk, MatchOption, length, option_copied, slice_get};
 ghost use Rattle.std.specs.List.{AllByRecursion};
-ghost use Rattle.lvish_trace.specs.Noted.{IsNoted, entries_of};
+ghost use Rattle.lvish_trace.specs.Packed.{IsPacked, entries_of};
 ghost use Rattle.lvish_trace.specs.Traced.{IsTraced};
 
-use crate::noted::{Noted, Step};
+use crate::packed_step::{PackedStep, Step};
 use crate::trace_entry::{TraceEntry, entry_by};
 use lvish_lattice::Plain;
 use lvish_names::TaskName;
@@ -18,7 +18,7 @@ use std::marker::Model;
 /// It keeps the logs of the run's variables too, so that their names need not be given back one by one
 /// before the run's report can be read.
 pub struct Trace<E> {
-    noted: Vec<Noted>,
+    noted: Vec<PackedStep>,
     names: Vec<TaskName<E>>,
     logs: Vec<Vec<Entry<E>>>,
 }
@@ -47,19 +47,23 @@ impl<E> Model for Trace<E> {
     ghost use Rattle.std.specs.Prelude.{List};
     ghost use Rattle.std.specs.List.{AllByRecursion};
     ghost use Rattle.lvish_trace.specs.declared.trace_entry.TraceEntry.{TraceEntry};
-    ghost use Rattle.lvish_trace.specs.Noted.{IsNoted, entries_of};
+    ghost use Rattle.lvish_trace.specs.Packed.{IsPacked, entries_of};
 
     ghost Value = { List (TraceEntry E) };
 
     ghost view = { λ t. entries_of t.names.items t.noted.items };
 
-    ghost invariant = { λ t. AllByRecursion (IsNoted t.names.items) t.noted.items };
+    ghost invariant = { λ t. AllByRecursion (IsPacked t.names.items) t.noted.items };
 }
 
 impl<E> Trace<E> {
     /// The trace of these steps, whose tasks have these names, in a run that left these logs.
-    pub fn new(noted: Vec<Noted>, names: Vec<TaskName<E>>, logs: Vec<Vec<Entry<E>>>) -> Trace<E>
-        requires { AllByRecursion (IsNoted names.items) noted.items }
+    pub fn new(
+        noted: Vec<PackedStep>,
+        names: Vec<TaskName<E>>,
+        logs: Vec<Vec<Entry<E>>>,
+    ) -> Trace<E>
+        requires { AllByRecursion (IsPacked names.items) noted.items }
         ensures { result ≡ entries_of names.items noted.items }
     {
         Trace { noted, names, logs }

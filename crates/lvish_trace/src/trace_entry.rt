@@ -1,8 +1,8 @@
 ghost use Rattle.std.specs.Prelude.{◌≡◌, IfOk, option_copied, unwrap_or};
 ghost use Rattle.lvish_names.specs.Names.{main};
-ghost use Rattle.lvish_trace.specs.Noted.{handing_of, label_by};
+ghost use Rattle.lvish_trace.specs.Packed.{handing_of, label_by};
 
-use crate::noted::{Noted, Step};
+use crate::packed_step::{PackedStep, Step};
 use lvish_calculus::Label;
 use lvish_lattice::Plain;
 use lvish_names::{NamePart, TaskName};
@@ -30,7 +30,7 @@ impl<E: Drop> Drop for TraceEntry<E> {
 ///
 /// Where more names share it than can be counted.
 pub fn entry_by<E: Plain>(
-    noted: Noted,
+    noted: PackedStep,
     name: Option<&TaskName<E>>,
 ) -> Result<TraceEntry<E>, AllocError>
     ensures { IfOk result (λ e. e ≡ record { worker = noted.worker; label = label_by (unwrap_or (option_copied name.entry) main) noted.step }) }
@@ -44,7 +44,7 @@ pub fn entry_by<E: Plain>(
 /// # Errors
 ///
 /// Where more names share it than can be counted.
-fn named_entry<E: Plain>(noted: Noted, name: &TaskName<E>) -> Result<TraceEntry<E>, AllocError>
+fn named_entry<E: Plain>(noted: PackedStep, name: &TaskName<E>) -> Result<TraceEntry<E>, AllocError>
     ensures { IfOk result (λ e. e ≡ record { worker = noted.worker; label = label_by name.now noted.step }) }
 {
     let label = match noted.step() {

@@ -8,23 +8,23 @@ ghost use Rattle.lvish_board.specs.declared.work.Work.TheVariants.{Act as ActOn}
 ghost use Rattle.lvish_board.specs.Left.{IsStepOf, most_added};
 
 use super::Board;
-use super::settle::settle;
+use super::note_end::note_end;
+use crate::act_kind::ActKind;
 use crate::asked::Asked;
-use crate::came::Came;
+use crate::board_brand::BoardBrand;
 use crate::list::{leave, left_by};
-use crate::named::Named;
 use crate::newest::Newest;
 use crate::room::Room;
-use crate::works::Works;
+use crate::step_work::StepWork;
 use lvish_calculus::laws::lawful;
 use lvish_calculus::{ErrorKind, Meaning, Program};
-use lvish_core::laws::{passes_at_its_spot, tasks_after, waiting_tasks};
+use lvish_core::laws::{blocked_tasks, tasks_after, wakes_at_its_spot};
 use lvish_core::{Core, CoreMeaning, Moved, StepFault, Stepped, TaskNumbers};
 use lvish_lattice::Lattice;
-use lvish_trace::{Noted, Outcome, Step};
+use lvish_trace::{Outcome, PackedStep, Step};
 use std::alloc::Global;
 
-impl<'p, P: Program, J: Named<P>> Board<'p, P, J> {
+impl<'p, P: Program, B: BoardBrand<P>> Board<'p, P, B> {
     /// Makes the step of a task that stands where it asks, if it can go on. Where it isn't made, nothing
     /// has changed: a blocked task is still to be parked.
     #[inline(always)]
@@ -33,20 +33,20 @@ impl<'p, P: Program, J: Named<P>> Board<'p, P, J> {
         alloc: Global,
         worker: usize,
         numbers: TaskNumbers,
-        asked: &mut Asked<P, J>,
-        works: &mut Works<P, J>,
-    ) -> Came
+        asked: &mut Asked<P, B>,
+        step_work: &mut StepWork<P, B>,
+    ) -> ActKind
         requires running { self.old.over ≡ None }
-        requires room { length self.old.trace < J.budget }
+        requires room { length self.old.trace < B.budget }
         requires live { ⟦<P as CoreMeaning>⟧.is_live self.old.core asked.old.task asked.old.from numbers }
-        ensures comes { (result ≡ Came.Parked → ⊥) → ComesOfAct P.Lat.Event.cmp (⟦<P as Meaning>⟧.machine J.program) (⟦<P as CoreMeaning>⟧.local_in self.old.core asked.old.task ≡ Some asked.old.from) (⟦<P as CoreMeaning>⟧.can_take self.old.core (Act asked.old.task)) (length self.old.trace ≡ J.budget) worker asked.old self.old self.new (with_work result (ActOn asked.old) works.new) }
-        ensures blocked { result ≡ Came.Parked → (⟦<P as CoreMeaning>⟧.can_take self.old.core (Act asked.old.task) → ⊥) × (self.new ≡ self.old) × (asked.new ≡ asked.old) }
-        ensures kept { result ≡ Came.Memory → self.new ≡ self.old }
-        ensures back { result ≡ Came.Memory → asked.new ≡ asked.old }
+        ensures comes { (result ≡ ActKind.Parked → ⊥) → ComesOfAct P.Lat.Event.cmp (⟦<P as Meaning>⟧.machine B.program) (⟦<P as CoreMeaning>⟧.local_in self.old.core asked.old.task ≡ Some asked.old.from) (⟦<P as CoreMeaning>⟧.can_take self.old.core (Act asked.old.task)) (length self.old.trace ≡ B.budget) worker asked.old self.old self.new (with_work result (ActOn asked.old) step_work.new) }
+        ensures blocked { result ≡ ActKind.Parked → (⟦<P as CoreMeaning>⟧.can_take self.old.core (Act asked.old.task) → ⊥) × (self.new ≡ self.old) × (asked.new ≡ asked.old) }
+        ensures kept { result ≡ ActKind.Memory → self.new ≡ self.old }
+        ensures back { result ≡ ActKind.Memory → asked.new ≡ asked.old }
     {
         lawful::<P>();
-        waiting_tasks::<P>();
-        passes_at_its_spot::<P>();
+        blocked_tasks::<P>();
+        wakes_at_its_spot::<P>();
         tasks_after::<P>();
         let step = Step::Act(numbers.index);
         let parked = self.parked.len();
@@ -63,8 +63,8 @@ impl<'p, P: Program, J: Named<P>> Board<'p, P, J> {
             asked,
         ) {
             Ok(made) => made,
-            Err(StepFault::NotEnabled) => return Came::Parked,
-            Err(_) => return Came::Memory,
+            Err(StepFault::NotEnabled) => return ActKind::Parked,
+            Err(_) => return ActKind::Memory,
         };
         self.core.each_task_once();
         match stepped {
@@ -72,8 +72,8 @@ impl<'p, P: Program, J: Named<P>> Board<'p, P, J> {
                 drop(moved);
                 self.newest.clear(numbers.index);
                 self.over = Some(error_outcome(&self.core, kind, asked));
-                works.empty(step);
-                Came::Gone
+                step_work.empty(step);
+                ActKind::Gone
             }
             Stepped::Done => {
                 let left = left_by(step, asked, next, &mut self.newest, moved);
@@ -84,9 +84,9 @@ impl<'p, P: Program, J: Named<P>> Board<'p, P, J> {
                     left,
                     &mut self.room,
                     logged,
-                    works,
+                    step_work,
                 );
-                settle(&self.core, &self.parked, &mut self.over);
+                note_end(&self.core, &self.parked, &mut self.over);
                 next_or_gone(goes_on)
             }
         }
@@ -95,11 +95,15 @@ impl<'p, P: Program, J: Named<P>> Board<'p, P, J> {
 
 /// What came of a step, by whether its task goes on.
 #[inline(always)]
-fn next_or_gone(goes_on: bool) -> Came
-    ensures next { goes_on ≡ true → result ≡ Came.Next }
-    ensures gone { goes_on ≡ false → result ≡ Came.Gone }
+fn next_or_gone(goes_on: bool) -> ActKind
+    ensures next { goes_on ≡ true → result ≡ ActKind.Next }
+    ensures gone { goes_on ≡ false → result ≡ ActKind.Gone }
 {
-    if goes_on { Came::Next } else { Came::Gone }
+    if goes_on {
+        ActKind::Next
+    } else {
+        ActKind::Gone
+    }
 }
 
 /// Makes the task's step and writes it down, with room for the work that it leaves. It answers the
@@ -108,30 +112,30 @@ fn next_or_gone(goes_on: bool) -> Came
 /// # Errors
 ///
 /// Where there is no room for it; core and trace are as they were.
-fn step_with_room<P: Program, J: Named<P>>(
+fn step_with_room<P: Program, B: BoardBrand<P>>(
     alloc: Global,
     core: &mut Core<'_, P>,
-    newest: &mut Newest<P, J>,
-    trace: &mut Vec<Noted>,
-    room: &mut Room<P, J>,
+    newest: &mut Newest<P, B>,
+    trace: &mut Vec<PackedStep>,
+    room: &mut Room<P, B>,
     parked: usize,
     worker: usize,
     numbers: TaskNumbers,
-    asked: &mut Asked<P, J>,
+    asked: &mut Asked<P, B>,
 ) -> Result<(usize, Stepped, Moved<<P::Lat as Lattice>::Event, P::Local>), StepFault>
-    requires program { core.old.program ≡ J.program }
+    requires program { core.old.program ≡ B.program }
     requires live { ⟦<P as CoreMeaning>⟧.is_live core.old asked.old.task asked.old.from numbers }
-    ensures made { IfOk result (λ s. IsStepOf P.Lat.Event.cmp (⟦<P as Meaning>⟧.machine J.program) core.old asked.old core.new s.0 room.new.concerned.items s.1 s.2) }
+    ensures made { IfOk result (λ s. IsStepOf P.Lat.Event.cmp (⟦<P as Meaning>⟧.machine B.program) core.old asked.old core.new s.0 room.new.concerned.items s.1 s.2) }
     ensures written { IfOk result (λ _. trace.new.items ≡ trace.old.items ++ record { worker = worker; step = ActStep numbers.index } ∷ []) }
     ensures empty { IfOk result (λ _. (room.new.woken.items ≡ []) × (room.new.hands.items ≡ [])) }
     ensures woken_room { IfOk result (λ _. parked ≤ vec_capacity room.new.woken) }
-    ensures concerned_room { IfOk result (λ _. length room.new.concerned.items + most_added ((P.functions J.program).request asked.old.from) ≤ vec_capacity room.new.concerned) }
-    ensures hands_room { IfOk result (λ _. length room.new.concerned.items + most_added ((P.functions J.program).request asked.old.from) ≤ vec_capacity room.new.hands) }
+    ensures concerned_room { IfOk result (λ _. length room.new.concerned.items + most_added ((P.functions B.program).request asked.old.from) ≤ vec_capacity room.new.concerned) }
+    ensures hands_room { IfOk result (λ _. length room.new.concerned.items + most_added ((P.functions B.program).request asked.old.from) ≤ vec_capacity room.new.hands) }
     ensures kept { IfErr result (λ e. ⟦<P as CoreMeaning>⟧.is_refused core.old (Act asked.old.task) e × (core.new ≡ core.old) × (trace.new.items ≡ trace.old.items)) }
     ensures newest { newest.new ≡ newest.old }
     ensures same { asked.new ≡ asked.old }
 {
-    let noted = Noted::new(worker, Step::Act(numbers.index))?;
+    let noted = PackedStep::new(worker, Step::Act(numbers.index))?;
     let logged = room.reserve_for(core, parked, asked)?;
     trace.reserve(1)?;
     newest.reserve()?;
@@ -146,15 +150,15 @@ fn step_with_room<P: Program, J: Named<P>>(
 /// # Errors
 ///
 /// Where there is no room for it; nothing has changed.
-fn step<P: Program, J: Named<P>>(
+fn step<P: Program, B: BoardBrand<P>>(
     alloc: Global,
     core: &mut Core<'_, P>,
-    trace: &mut Vec<Noted>,
-    noted: Noted,
+    trace: &mut Vec<PackedStep>,
+    noted: PackedStep,
     numbers: TaskNumbers,
-    asked: &mut Asked<P, J>,
+    asked: &mut Asked<P, B>,
 ) -> Result<(Stepped, Moved<<P::Lat as Lattice>::Event, P::Local>), StepFault>
-    requires program { core.old.program ≡ J.program }
+    requires program { core.old.program ≡ B.program }
     requires live { ⟦<P as CoreMeaning>⟧.is_live core.old asked.old.task asked.old.from numbers }
     requires room { vec_len trace.old < vec_capacity trace.old }
     ensures stepped { MatchResult result (λ s. ⟦<P as CoreMeaning>⟧.is_step core.old (Act asked.old.task) core.new s.0) (λ e. ⟦<P as CoreMeaning>⟧.is_refused core.old (Act asked.old.task) e × (core.new ≡ core.old)) }
@@ -169,10 +173,10 @@ fn step<P: Program, J: Named<P>>(
 
 /// How a run is over whose last step, the task's, gave an error.
 #[inline(never)]
-fn error_outcome<P: Program, J: Named<P>>(
+fn error_outcome<P: Program, B: BoardBrand<P>>(
     core: &Core<'_, P>,
     kind: ErrorKind,
-    asked: &mut Asked<P, J>,
+    asked: &mut Asked<P, B>,
 ) -> Outcome<<P::Lat as Lattice>::Event>
     ensures { result ≡ Outcome.Error kind (option_and_then (λ f. f.variable) core.now.fault) asked.old.task }
 {

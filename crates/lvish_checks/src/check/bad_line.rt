@@ -11,21 +11,21 @@ use lvish_syntax::Version;
 
 /// Whether a line has none of the forms, or stands where it may not: the line of the version below
 /// a line with words, or a declaration below a procedure.
-fn is_out_of_place(told: bool, begun: bool, line: &Line) -> bool
-    ensures { (before : List Line) → told ≡ list_any is_told before → begun ≡ list_any is_procedure before → result ≡ is_out_of_place before line.now }
+fn is_out_of_place(is_said: bool, begun: bool, line: &Line) -> bool
+    ensures { (before : List Line) → is_said ≡ list_any is_told before → begun ≡ list_any is_procedure before → result ≡ is_out_of_place before line.now }
 {
     match line {
         Line::Bad => true,
-        Line::Version => told,
+        Line::Version => is_said,
         Line::Declare(_) => begun,
         _ => false,
     }
 }
 
-fn stands_badly(version: Version, told: bool, begun: bool, line: &Line) -> bool
-    ensures { (before : List Line) → told ≡ list_any is_told before → begun ≡ list_any is_procedure before → result ≡ stands_badly version before line.now }
+fn stands_badly(version: Version, is_said: bool, begun: bool, line: &Line) -> bool
+    ensures { (before : List Line) → is_said ≡ list_any is_told before → begun ≡ list_any is_procedure before → result ≡ stands_badly version before line.now }
 {
-    is_out_of_place(told, begun, line) || !is_line_in(version, line)
+    is_out_of_place(is_said, begun, line) || !is_line_in(version, line)
 }
 
 /// The first line that has none of the forms of the version, or stands where it may not.
@@ -33,14 +33,14 @@ pub fn first_bad_line(lines: &[Line]) -> Option<usize>
     ensures { IsFirstOn (on_line (line_fails BadLine lines.now) lines.now) result }
 {
     let version = version_of(lines);
-    let mut told = false;
+    let mut is_said = false;
     let mut begun = false;
     for k in 0..lines.len() {
         let line = &lines[k];
-        if stands_badly(version, told, begun, line) {
+        if stands_badly(version, is_said, begun, line) {
             return Some(k + 1);
         }
-        told |= is_told(line);
+        is_said |= is_told(line);
         begun |= is_procedure(line);
     }
     None

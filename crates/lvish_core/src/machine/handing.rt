@@ -85,7 +85,7 @@ impl<'p, P: Program> Core<'p, P> {
         counts_follow::<P>();
         names_are_new::<P>();
         running_counts::<P>();
-        let task = TaskName::handled(alloc, name, &event)?;
+        let task = TaskName::handed(alloc, name, &event)?;
         let local = self.program.start_handler(alloc, place.procedure, &event)?;
         let made = Made {
             name: task.copy()?,

@@ -5,7 +5,7 @@ ghost use Rattle.lvish_names.specs.Names.{Name};
 ghost use Rattle.lvish_handlers.specs.Handlers.{IsByName};
 ghost use Rattle.lvish_core.specs.Tasks.{HasEachOnce, IsAt, task_names};
 ghost use Rattle.lvish_core.specs.declared.stage.TaskNumbers.{TaskNumbers};
-ghost use Rattle.lvish_core.specs.Waiting.{NoneFreezes};
+ghost use Rattle.lvish_core.specs.Blocked.{NoneFreezes};
 
 use super::Core;
 use crate::core_meaning::CoreMeaning;

@@ -16,21 +16,21 @@ use std::alloc::{AllocError, Global};
 
 /// A block that is open, by the line that opened it.
 #[derive(Clone, Copy)]
-struct Opened {
+struct OpenedAt {
     line: usize,
     takes_else: bool,
 }
 
 /// What is open after a line with this first word.
-fn step(open: &mut Vec<Opened>, first: &[u8], line: usize) -> Result<(), AllocError> {
+fn step(open: &mut Vec<OpenedAt>, first: &[u8], line: usize) -> Result<(), AllocError> {
     match first {
-        b"proc" => open.push(Opened {
+        b"proc" => open.push(OpenedAt {
             line,
             takes_else: false,
         })?,
         b"if" | b"while" => {
             if !open.is_empty() {
-                open.push(Opened {
+                open.push(OpenedAt {
                     line,
                     takes_else: is(first, b"if"),
                 })?;
@@ -38,7 +38,7 @@ fn step(open: &mut Vec<Opened>, first: &[u8], line: usize) -> Result<(), AllocEr
         }
         b"else" => {
             if let Some(block) = open.pop() {
-                open.push(Opened {
+                open.push(OpenedAt {
                     takes_else: false,
                     ..block
                 })?;
@@ -53,7 +53,7 @@ fn step(open: &mut Vec<Opened>, first: &[u8], line: usize) -> Result<(), AllocEr
 }
 
 /// What is open after these lines, the innermost last.
-fn open_after(alloc: Global, lines: &[&[u8]]) -> Result<Vec<Opened>, AllocError> {
+fn open_after(alloc: Global, lines: &[&[u8]]) -> Result<Vec<OpenedAt>, AllocError> {
     let mut open = Vec::new(alloc);
     let mut words = Vec::new(alloc);
     for k in 0..lines.len() {
@@ -66,7 +66,7 @@ fn open_after(alloc: Global, lines: &[&[u8]]) -> Result<Vec<Opened>, AllocError>
 }
 
 /// Why a line with this first word can't stand where this block is the innermost open one.
-fn misplaced(first: &[u8], innermost: Option<&Opened>) -> Option<Reason>
+fn misplaced(first: &[u8], innermost: Option<&OpenedAt>) -> Option<Reason>
     ensures { IfSome result (λ reason. fault_of reason ≡ OpenBlock) }
 {
     match (first, innermost) {
@@ -79,7 +79,7 @@ fn misplaced(first: &[u8], innermost: Option<&Opened>) -> Option<Reason>
 }
 
 /// The innermost open block.
-fn open_hint<'a>(innermost: Option<&Opened>) -> Hint<'a> {
+fn open_hint<'a>(innermost: Option<&OpenedAt>) -> Hint<'a> {
     match innermost {
         Some(block) => Hint::Line(block.line, "opens the innermost block that is open"),
         None => Hint::Nothing,

@@ -5,7 +5,7 @@ use Rattle.lvish_core.specs.Core.{CanTake}
 use Rattle.lvish_board.specs.Listed.{HasNext, stretches, acts, handings, option_list}
 use Rattle.lvish_board.specs.Left.{AreThose, candidates}
 use Rattle.lvish_board.proofs.Handing.{own_left}
-use Rattle.lvish_board.specs.Seated.{places_of}
+use Rattle.lvish_board.specs.Seated.{stands_of}
 use Rattle.lvish_board.specs.Woken.{IsWoken, MayWake}
 use Rattle.lvish_board.proofs.list.leave.Goals as goal
 
@@ -15,9 +15,9 @@ returns-clause-left g c =
     let M = machine c.args.core.now.program in
     let concerned = c.keep_candidates.ensures.are ∙ ap (λ es. candidates es c.args.room.now.concerned.items c.args.left.added) c.fresh-entries.ensures in
     let tickets = stretches (option_list c.args.left.own ++ option_list c.args.left.made) in
-    own_left machine g.J.Named.program c.args.core.now c.requires.program g.P.Lat.Event.Ord.cmp g.P.Lat.Reads.spot_of g.P.Lat.Reads.watched c.args.logged c.args.left.own c.args.left.made c.args.left.added c.args.room.now.concerned.items (places_of c.args.parked.now) (places_of c.wake.new.self) _ (record {
+    own_left machine g.B.BoardBrand.program c.args.core.now c.requires.program g.P.Lat.Event.Ord.cmp g.P.Lat.Reads.spot_of g.P.Lat.Reads.watched c.args.logged c.args.left.own c.args.left.made c.args.left.added c.args.room.now.concerned.items (stands_of c.args.parked.now) (stands_of c.wake.new.self) _ (record {
       woken = c.wake.new.woken.items;
-      woken_are = subst (λ es. IsWoken (λ p. CanTake M c.args.core.now (Act p.task)) (λ p. MayWake g.P.Lat.Reads.spot_of g.P.Lat.Reads.watched c.args.core.now.touched es (M.request p.from)) (places_of c.args.parked.now) (places_of c.wake.new.self) c.wake.new.woken.items) c.fresh-entries.ensures c.wake.ensures.woken;
+      woken_are = subst (λ es. IsWoken (λ p. CanTake M c.args.core.now (Act p.task)) (λ p. MayWake g.P.Lat.Reads.spot_of g.P.Lat.Reads.watched c.args.core.now.touched es (M.request p.from)) (stands_of c.args.parked.now) (stands_of c.wake.new.self) c.wake.new.woken.items) c.fresh-entries.ensures c.wake.ensures.woken;
       by_name = c.wake.ensures.by_name;
       work = record {
         hands = c.list_hands.new.list.items;

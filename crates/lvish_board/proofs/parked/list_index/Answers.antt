@@ -10,7 +10,7 @@ returns-in-Some-clause-kept g c = λ r t on. stays_on g.P.Lat.Spot.PartialEq.eq 
 
 pub returns-in-Some-clause-there : goal.returns-in-Some-clause-there
 returns-in-Some-clause-there g c =
-    let asks : (g.P.Program.functions g.J.Named.program).request c.args.asked.now.from ≡ Get c.in-Get.variable c.in-Get.read = sym c.request.ensures ∙ c.in-Get.is in
+    let asks : (g.P.Program.functions g.B.BoardBrand.program).request c.args.asked.now.from ≡ Get c.in-Get.variable c.in-Get.read = sym c.request.ensures ∙ c.in-Get.is in
     let at = sym c.watch.ensures ∙ c.in-Some.is in
     subst (λ r. OnOk c.push.result (IsOnItsList g.P.Lat.Spot.PartialEq.eq g.P.Lat.Reads.watched c.args.whole.now.lists.items c.push.new.self.tables.items c.args.freezes.now.lists.items r c.args.index)) (sym asks)
     (subst (λ o. OnOk c.push.result (IsAmong c.args.index (get_list g.P.Lat.Spot.PartialEq.eq c.args.whole.now.lists.items c.push.new.self.tables.items c.in-Get.variable o))) (sym at) c.push.ensures.there)
@@ -20,7 +20,7 @@ returns-in-None-clause-kept g c = λ r t on. stays_on g.P.Lat.Spot.PartialEq.eq 
 
 pub returns-in-None-clause-there : goal.returns-in-None-clause-there
 returns-in-None-clause-there g c =
-    let asks : (g.P.Program.functions g.J.Named.program).request c.args.asked.now.from ≡ Get c.in-Get.variable c.in-Get.read = sym c.request.ensures ∙ c.in-Get.is in
+    let asks : (g.P.Program.functions g.B.BoardBrand.program).request c.args.asked.now.from ≡ Get c.in-Get.variable c.in-Get.read = sym c.request.ensures ∙ c.in-Get.is in
     let at = sym c.watch.ensures ∙ c.in-None.is in
     subst (λ r. OnOk c.push-in-None.result (IsOnItsList g.P.Lat.Spot.PartialEq.eq g.P.Lat.Reads.watched c.push-in-None.new.self.lists.items c.args.spots.now.tables.items c.args.freezes.now.lists.items r c.args.index)) (sym asks)
     (subst (λ o. OnOk c.push-in-None.result (IsAmong c.args.index (get_list g.P.Lat.Spot.PartialEq.eq c.push-in-None.new.self.lists.items c.args.spots.now.tables.items c.in-Get.variable o))) (sym at) c.push-in-None.ensures.there)
@@ -30,5 +30,5 @@ returns-in-Freeze-clause-kept g c = λ r t on. stays_on g.P.Lat.Spot.PartialEq.e
 
 pub returns-in-Freeze-clause-there : goal.returns-in-Freeze-clause-there
 returns-in-Freeze-clause-there g c =
-    let asks : (g.P.Program.functions g.J.Named.program).request c.args.asked.now.from ≡ Freeze c.in-Freeze.variable c.in-Freeze.field-1 = sym c.request.ensures ∙ c.in-Freeze.is in
+    let asks : (g.P.Program.functions g.B.BoardBrand.program).request c.args.asked.now.from ≡ Freeze c.in-Freeze.variable c.in-Freeze.field-1 = sym c.request.ensures ∙ c.in-Freeze.is in
     subst (λ r. OnOk c.push-in-Freeze.result (IsOnItsList g.P.Lat.Spot.PartialEq.eq g.P.Lat.Reads.watched c.args.whole.now.lists.items c.args.spots.now.tables.items c.push-in-Freeze.new.self.lists.items r c.args.index)) (sym asks) c.push-in-Freeze.ensures.there

@@ -7,7 +7,7 @@ use Rattle.lvish_run.proofs.Reports.{board_over}
 use Rattle.lvish_run.proofs.closing.looked_at.Goals as goal
 
 pub returns-clause-over : goal.returns-clause-over
-returns-clause-over g c = board_over _ g.J.Named.program g.J.Named.budget c.args.board.now _ _ c.over.ensures.sound (sym c.in-Some.ensures.over) c.in_ok-outcome.ensures
+returns-clause-over g c = board_over _ g.B.BoardBrand.program g.B.BoardBrand.budget c.args.board.now _ _ c.over.ensures.sound (sym c.in-Some.ensures.over) c.in_ok-outcome.ensures
 
 pub returns-clause-workers : goal.returns-clause-workers
 returns-clause-workers g c = c.in_ok-by_worker.ensures.counts.count

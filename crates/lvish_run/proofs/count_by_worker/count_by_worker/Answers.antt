@@ -1,5 +1,5 @@
 use Rattle.std.proofs.Common.{rules, ◌≡◌, ◌<◌, ap, sum, sym, length, ◌∙◌, arith}
-use Rattle.lvish_run.proofs.Counted.{counts_of, one_more, all_told, never_over, none_is_left}
+use Rattle.lvish_run.proofs.Counted.{counts_of, one_more, all_counted, never_over, none_is_left}
 use Rattle.lvish_run.proofs.count_by_worker.count_by_worker.Goals as goal
 
 pub loop-worker-preserved : goal.loop-worker-preserved
@@ -10,7 +10,7 @@ loop-worker-preserved c =
 pub returns-then-total-noted-clause-counts : goal.returns-then-total-noted-clause-counts
 returns-then-total-noted-clause-counts c =
     let all : c.loop-worker.worker ≡ c.args.workers = omega arith in
-    all_told c.args.noted.now c.from.result c.args.workers (c.from.ensures ∙ c.loop-worker.invariant.are ∙ ap (counts_of c.args.noted.now) all) (ap sum c.from.ensures ∙ c.loop-worker.invariant.total ∙ c.if-total-noted.true)
+    all_counted c.args.noted.now c.from.result c.args.workers (c.from.ensures ∙ c.loop-worker.invariant.are ∙ ap (counts_of c.args.noted.now) all) (ap sum c.from.ensures ∙ c.loop-worker.invariant.total ∙ c.if-total-noted.true)
 
 pub returns-in_default-clause-mixed : goal.returns-in_default-clause-mixed
 returns-in_default-clause-mixed c _ _ =

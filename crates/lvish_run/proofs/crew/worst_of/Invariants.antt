@@ -1,6 +1,6 @@
 use Rattle.std.proofs.Common.{◌≡◌, ◌≢◌, true, length}
 use Rattle.std.specs.Vec.Iter.{into_iter_items, into_iter_len}
-use Rattle.lvish_run.specs.declared.why.Why.TheVariants.{Stopped}
+use Rattle.lvish_run.specs.declared.leave.Leave.TheVariants.{Stopped}
 use Rattle.lvish_run.proofs.crew.worst_of.Given as goal
 
 abbrev pub invariant-loop-handle : goal.invariant-loop-handle

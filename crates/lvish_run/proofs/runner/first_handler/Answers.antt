@@ -8,12 +8,12 @@ use Rattle.lvish_run.proofs.runner.first_handler.Goals as goal
 pub returns-in-Some-next : goal.returns-in-Some-next
 returns-in-Some-next g c =
     let exact = handler_cmp-iff g.P.Lat.Event.Ord.cmp g.met.P.Lat.Event.Plain.identical g.met.P.Lat.Event.Ord.matches_eq g.met.P.Lat.Event.Ord.total in
-    first_handler _ _ g.J.Named.program g.J.Named.budget c.args.board.now c.is_sound.ensures c.requires.running c.loop-handler.agenda c.pop_handler.new.self c.loop-handler.invariant.beside c.loop-handler.invariant.no_task (c.hands_one_event.ensures.open g.J.Named.program) (c.hands_one_event.ensures.one g.J.Named.program) exact c.in-Some.handler c.in-Some.ensures c.in-Some-next._event (subst (λ k. IsNext g.P.Lat.Event.PartialEq.eq k.table c.in-Some.handler c.in-Some-next._event) c.core.ensures.core c.in-Some-next.ensures)
+    first_handler _ _ g.B.BoardBrand.program g.B.BoardBrand.budget c.args.board.now c.is_sound.ensures c.requires.running c.loop-handler.agenda c.pop_handler.new.self c.loop-handler.invariant.beside c.loop-handler.invariant.no_task (c.hands_one_event.ensures.open g.B.BoardBrand.program) (c.hands_one_event.ensures.one g.B.BoardBrand.program) exact c.in-Some.handler c.in-Some.ensures c.in-Some-next._event (subst (λ k. IsNext g.P.Lat.Event.PartialEq.eq k.table c.in-Some.handler c.in-Some-next._event) c.core.ensures.core c.in-Some-next.ensures)
 
 pub loop-handler-preserved : goal.loop-handler-preserved
 loop-handler-preserved g c =
     let exact = handler_cmp-iff g.P.Lat.Event.Ord.cmp g.met.P.Lat.Event.Plain.identical g.met.P.Lat.Event.Ord.matches_eq g.met.P.Lat.Event.Ord.total in
-    let z = next_handler _ _ g.J.Named.program g.J.Named.budget c.args.board.now c.is_sound.ensures c.requires.running c.loop-handler.agenda c.pop_handler.new.self c.loop-handler.invariant.beside c.loop-handler.invariant.no_task (c.hands_one_event.ensures.open g.J.Named.program) (c.hands_one_event.ensures.one g.J.Named.program) exact c.in-Some.handler c.in-Some.ensures (λ e next. c.in_default-next.ensures e (subst (λ k. IsNext g.P.Lat.Event.PartialEq.eq k.table c.in-Some.handler e) (sym c.core.ensures.core) next)) in
+    let z = next_handler _ _ g.B.BoardBrand.program g.B.BoardBrand.budget c.args.board.now c.is_sound.ensures c.requires.running c.loop-handler.agenda c.pop_handler.new.self c.loop-handler.invariant.beside c.loop-handler.invariant.no_task (c.hands_one_event.ensures.open g.B.BoardBrand.program) (c.hands_one_event.ensures.one g.B.BoardBrand.program) exact c.in-Some.handler c.in-Some.ensures (λ e next. c.in_default-next.ensures e (subst (λ k. IsNext g.P.Lat.Event.PartialEq.eq k.table c.in-Some.handler e) (sym c.core.ensures.core) next)) in
     record { beside = z.0; no_task = z.1 }
 
 pub returns : goal.returns

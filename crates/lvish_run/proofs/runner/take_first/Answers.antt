@@ -20,5 +20,5 @@ returns-then-branch-clause-turn g c =
 
 pub returns-clause-turn : goal.returns-clause-turn
 returns-clause-turn g c =
-    let M = machine_of g.P.Lat.PartialEq.eq g.P.Lat.Event.PartialEq.eq g.P.Lat.Event.Ord.cmp g.P.Lat.Lattice.least g.P.Lat.Lattice.joined g.P.Lat.Lattice.events_of g.P.Lat.Reads.answer_of (g.P.Program.functions g.J.Named.program) in
+    let M = machine_of g.P.Lat.PartialEq.eq g.P.Lat.Event.PartialEq.eq g.P.Lat.Event.Ord.cmp g.P.Lat.Lattice.least g.P.Lat.Lattice.joined g.P.Lat.Lattice.events_of g.P.Lat.Reads.answer_of (g.P.Program.functions g.B.BoardBrand.program) in
     IfOk-weaker c.take_first_handing.result _ _ (λ made z. turn_after g.P.Lat.Event.Ord.cmp M c.args.board.now c.loop-asked.board c.take_first_handing.new.board c.loop-asked.invariant.idle made z) c.take_first_handing.ensures.turn

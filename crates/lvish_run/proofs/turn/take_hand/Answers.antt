@@ -12,12 +12,12 @@ unreachable-requires-in-Parked g c = (c.in-Parked.ensures.comes c.args.handler r
 
 pub unreachable-requires-in-Stale : goal.unreachable-requires-in-Stale
 unreachable-requires-in-Stale g c =
-    (c.in-Stale.ensures.comes c.args.handler refl).order.1 (handler_there _ g.J.Named.program g.J.Named.budget c.args.board.now c.is_sound.ensures c.requires.running (c.hands_one_event.ensures.open g.J.Named.program) c.args.handler c.requires.next)
+    (c.in-Stale.ensures.comes c.args.handler refl).order.1 (handler_there _ g.B.BoardBrand.program g.B.BoardBrand.budget c.args.board.now c.is_sound.ensures c.requires.running (c.hands_one_event.ensures.open g.B.BoardBrand.program) c.args.handler c.requires.next)
 
 pub returns-in-Next : goal.returns-in-Next
 returns-in-Next g c = λ e next.
     let made = (c.in-Next.ensures.comes c.args.handler refl).step refl in
-    let same = comes_once _ (c.hands_one_event.ensures.one g.J.Named.program) (c.hands_one_event.ensures.open g.J.Named.program) g.J.Named.program g.J.Named.budget c.args.board.now c.is_sound.ensures c.requires.running c.args.handler made.0 e made.1 next in
+    let same = comes_once _ (c.hands_one_event.ensures.one g.B.BoardBrand.program) (c.hands_one_event.ensures.open g.B.BoardBrand.program) g.B.BoardBrand.program g.B.BoardBrand.budget c.args.board.now c.is_sound.ensures c.requires.running c.args.handler made.0 e made.1 next in
     handing_made same made.2 made.3
 
 pub returns-in-Over : goal.returns-in-Over

@@ -1,7 +1,7 @@
 use Rattle.std.proofs.Common.{rules, ◌≡◌, inl, ◌≤◌, ◌<◌, None, Some, IsSome, length, refl, ap, subst, sym, ◌∙◌, arith}
 use Rattle.lvish_core.specs.Changes.{local_of}
 use Rattle.lvish_core.specs.Tasks.{task_names}
-use Rattle.lvish_board.specs.Vocabulary.{CameGone, CameNext, CameOver, CameParked, CameStale}
+use Rattle.lvish_board.specs.Vocabulary.{GoneKind, NextKind, OverKind, ParkedKind, StaleKind}
 use Rattle.lvish_board.proofs.Comes.{act_over, act_stale, act_unmade, for_this}
 use Rattle.lvish_trace.proofs.Noting.{as_many}
 use Rattle.lvish_board.proofs.Steps.{none_is, not_full}
@@ -26,8 +26,8 @@ act_no_more-requires-clause-used g c =
     let budget = c.self.invariant.0 in
     let full : c.self.inside.budget ≤ length c.self.inside.trace.items = search rules in
     let many = as_many (task_names c.self.inside.core.table.tasks) c.self.inside.trace.items in
-    let within : length c.self.inside.trace.items ≤ g.J.Named.budget = subst (λ n. n ≤ g.J.Named.budget) many sound.within in
-    let used : length c.self.inside.trace.items ≡ g.J.Named.budget = omega (arith, full, within, budget) in
+    let within : length c.self.inside.trace.items ≤ g.B.BoardBrand.budget = subst (λ n. n ≤ g.B.BoardBrand.budget) many sound.within in
+    let used : length c.self.inside.trace.items ≡ g.B.BoardBrand.budget = omega (arith, full, within, budget) in
     rw (← c.self.view_is) (many ∙ used)
 
 pub returns-then-len-self-clause-comes : goal.returns-then-len-self-clause-comes
@@ -42,8 +42,8 @@ pub returns-in-Memory-clause-comes : goal.returns-in-Memory-clause-comes
 returns-in-Memory-clause-comes g c =
     let none : c.args.self.now.over ≡ None = rw (← c.self.view_is) (none_is c.self.inside.over (sym c.is_some.ensures ∙ c.if-is_some.false)) in
     let many = as_many (task_names c.self.inside.core.table.tasks) c.self.inside.trace.items in
-    let less : length c.self.inside.trace.items < g.J.Named.budget = search rules in
-    let room : length c.args.self.now.trace ≡ g.J.Named.budget → ⊥ = rw (← c.self.view_is) (not_full (subst (λ n. n < g.J.Named.budget) (sym many) less)) in
+    let less : length c.self.inside.trace.items < g.B.BoardBrand.budget = search rules in
+    let room : length c.args.self.now.trace ≡ g.B.BoardBrand.budget → ⊥ = rw (← c.self.view_is) (not_full (subst (λ n. n < g.B.BoardBrand.budget) (sym many) less)) in
     let kept = c.make.ensures.kept c.in-Memory.is in
     let back = ap (λ a. Some a) (c.make.ensures.back c.in-Memory.is) in
     let came = rw kept at (c.not_made.ensures.came c.in-Some.task.now back) in
@@ -65,13 +65,13 @@ pub returns-in-Parked-clause-back : goal.returns-in-Parked-clause-back
 returns-in-Parked-clause-back g c = λ refused. c.park.ensures.back refused ∙ ap (λ a. Some a) (c.make.ensures.blocked c.in-Parked.is).2 ∙ c.in-Some.ensures.value
 
 pub returns-in-Next-clause-comes : goal.returns-in-Next-clause-comes
-returns-in-Next-clause-comes g c = for_this _ _ _ c.in-Some.ensures.value (rw c.in-Next.is at (c.make.ensures.comes (λ e. let z : CameNext ≡ CameParked = sym c.in-Next.is ∙ e in cc)))
+returns-in-Next-clause-comes g c = for_this _ _ _ c.in-Some.ensures.value (rw c.in-Next.is at (c.make.ensures.comes (λ e. let z : NextKind ≡ ParkedKind = sym c.in-Next.is ∙ e in cc)))
 
 pub returns-in-Gone-clause-comes : goal.returns-in-Gone-clause-comes
-returns-in-Gone-clause-comes g c = for_this _ _ _ c.in-Some.ensures.value (rw c.in-Gone.is at (c.make.ensures.comes (λ e. let z : CameGone ≡ CameParked = sym c.in-Gone.is ∙ e in cc)))
+returns-in-Gone-clause-comes g c = for_this _ _ _ c.in-Some.ensures.value (rw c.in-Gone.is at (c.make.ensures.comes (λ e. let z : GoneKind ≡ ParkedKind = sym c.in-Gone.is ∙ e in cc)))
 
 pub returns-in-Over-clause-comes : goal.returns-in-Over-clause-comes
-returns-in-Over-clause-comes g c = for_this _ _ _ c.in-Some.ensures.value (rw c.in-Over.is at (c.make.ensures.comes (λ e. let z : CameOver ≡ CameParked = sym c.in-Over.is ∙ e in cc)))
+returns-in-Over-clause-comes g c = for_this _ _ _ c.in-Some.ensures.value (rw c.in-Over.is at (c.make.ensures.comes (λ e. let z : OverKind ≡ ParkedKind = sym c.in-Over.is ∙ e in cc)))
 
 pub returns-in-Stale-clause-comes : goal.returns-in-Stale-clause-comes
-returns-in-Stale-clause-comes g c = for_this _ _ _ c.in-Some.ensures.value (rw c.in-Stale.is at (c.make.ensures.comes (λ e. let z : CameStale ≡ CameParked = sym c.in-Stale.is ∙ e in cc)))
+returns-in-Stale-clause-comes g c = for_this _ _ _ c.in-Some.ensures.value (rw c.in-Stale.is at (c.make.ensures.comes (λ e. let z : StaleKind ≡ ParkedKind = sym c.in-Stale.is ∙ e in cc)))

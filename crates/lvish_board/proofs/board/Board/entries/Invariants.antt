@@ -1,6 +1,6 @@
 use Rattle.std.proofs.Common.{◌≡◌, ◌≤◌, length, take, vec_capacity}
 use Rattle.lvish_core.specs.Tasks.{task_names}
-use Rattle.lvish_trace.specs.Noted.{entries_of}
+use Rattle.lvish_trace.specs.Packed.{entries_of}
 use Rattle.lvish_board.proofs.board.Board.entries.Given as goal
 
 abbrev pub invariant-loop-noted : goal.invariant-loop-noted

@@ -11,7 +11,7 @@ invariant_of-self g c =
     let sound = c.self.invariant.2 in
     let none = ap (λ b. b.over) c.self.view_is ∙ c.requires.running in
     let next : IsNext g.P.Lat.Event.PartialEq.eq c.args.self.now.core.table c.in-Some.handler.now c.in-Some-next._event = c.in-Some-next.ensures in
-    let can = hand_open _ (c.hands_one_event.ensures.open g.J.Named.program) _ _ _ sound none c.in-Some.handler.now c.in-Some-next._event (rw (← c.self.view_is) at next) in
+    let can = hand_open _ (c.hands_one_event.ensures.open g.B.BoardBrand.program) _ _ _ sound none c.in-Some.handler.now c.in-Some-next._event (rw (← c.self.view_is) at next) in
     (c.self.invariant.0, c.self.invariant.1, kept_over _ sound (rw (← c.self.view_is) at c.requires.used, (Hand c.in-Some.handler.now c.in-Some-next._event, can)) (some_over _) sound.blocked sound.once, c.self.invariant.3, c.self.invariant.4)
 
 pub returns-in_default-next-clause-came : goal.returns-in_default-next-clause-came

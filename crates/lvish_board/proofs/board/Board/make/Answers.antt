@@ -7,7 +7,7 @@ use Rattle.lvish_core.specs.Tasks.{task_names}
 use Rattle.lvish_board.specs.Acts.{entry_of}
 use Rattle.lvish_board.specs.Listed.{option_list}
 use Rattle.lvish_board.specs.Left.{most_added}
-use Rattle.lvish_trace.specs.Noted.{entries_of, label_at}
+use Rattle.lvish_trace.specs.Packed.{entries_of, label_at}
 use Rattle.lvish_trace.specs.Traced.{labels_of}
 use Rattle.lvish_board.proofs.Acting.{act_tickets, error_done, error_kept, error_listed, is_done, not_done, stands}
 use Rattle.lvish_board.proofs.Blocked.{IsMade, is_listed, kept_made, still_current}
@@ -22,9 +22,9 @@ use Rattle.lvish_board.proofs.board.Board.make.Goals.{In-Error, After-left_by-le
 use Rattle.lvish_board.proofs.board.Board.make.Goals as goal
 
 -- a step that gave an error
-failed : (g : _) (c : In-Error g) → IsStep (machine_of g.P.Lat.PartialEq.eq g.P.Lat.Event.PartialEq.eq g.P.Lat.Event.Ord.cmp g.P.Lat.Lattice.least g.P.Lat.Lattice.joined g.P.Lat.Lattice.events_of g.P.Lat.Reads.answer_of (g.P.Program.functions g.J.Named.program)) c.self.inside.core (Act c.args.asked.now.task) c.step_with_room.new.core (ErrorStep c.in-Error.kind)
+failed : (g : _) (c : In-Error g) → IsStep (machine_of g.P.Lat.PartialEq.eq g.P.Lat.Event.PartialEq.eq g.P.Lat.Event.Ord.cmp g.P.Lat.Lattice.least g.P.Lat.Lattice.joined g.P.Lat.Lattice.events_of g.P.Lat.Reads.answer_of (g.P.Program.functions g.B.BoardBrand.program)) c.self.inside.core (Act c.args.asked.now.task) c.step_with_room.new.core (ErrorStep c.in-Error.kind)
 failed g c =
-    let M = machine_of g.P.Lat.PartialEq.eq g.P.Lat.Event.PartialEq.eq g.P.Lat.Event.Ord.cmp g.P.Lat.Lattice.least g.P.Lat.Lattice.joined g.P.Lat.Lattice.events_of g.P.Lat.Reads.answer_of (g.P.Program.functions g.J.Named.program) in
+    let M = machine_of g.P.Lat.PartialEq.eq g.P.Lat.Event.PartialEq.eq g.P.Lat.Event.Ord.cmp g.P.Lat.Lattice.least g.P.Lat.Lattice.joined g.P.Lat.Lattice.events_of g.P.Lat.Reads.answer_of (g.P.Program.functions g.B.BoardBrand.program) in
     subst (λ r. IsStep M c.self.inside.core (Act c.args.asked.now.task) c.step_with_room.new.core r) c.in-Error.is c.in-Ok.ensures.made.step
 
 pub invariant_of-self-in-Error : goal.invariant_of-self-in-Error
@@ -34,7 +34,7 @@ invariant_of-self-in-Error g c =
     let there = step.indices c.args.numbers.index c.args.asked.now.task live in
     let noted = all_noted (task_names c.self.inside.core.table.tasks) (task_names c.step_with_room.new.core.table.tasks) step.indices c.self.inside.trace.items c.step_with_room.new.trace.items c.args.worker (ActStep c.args.numbers.index) c.self.invariant.1 c.in-Ok.ensures.written (c.args.asked.now.task, there) in
     let longer = written (task_names c.self.inside.core.table.tasks) (task_names c.step_with_room.new.core.table.tasks) step.indices c.self.inside.trace.items c.step_with_room.new.trace.items c.args.worker (ActStep c.args.numbers.index) c.self.invariant.1 c.in-Ok.ensures.written (Act c.args.asked.now.task) (acts_there (task_names c.step_with_room.new.core.table.tasks) c.args.numbers.index c.args.asked.now.task there) in
-    let known = error_known _ (c.tasks_after.ensures.others g.J.Named.program) _ c.self.invariant.2.leads c.each_task_once.ensures c.args.asked.now.task c.args.numbers.index _ step live c.self.inside.newest c.clear.new.self c.self.invariant.3 (rw c.step_with_room.ensures.newest at c.clear.ensures) in
+    let known = error_known _ (c.tasks_after.ensures.others g.B.BoardBrand.program) _ c.self.invariant.2.leads c.each_task_once.ensures c.args.asked.now.task c.args.numbers.index _ step live c.self.inside.newest c.clear.new.self c.self.invariant.3 (rw c.step_with_room.ensures.newest at c.clear.ensures) in
     (c.self.invariant.0, noted, error_kept _ _ _ _ _ step _ _ _ _ _ _ c.args.worker _ c.self.invariant.2 (rw (← c.self.view_is) at c.requires.room) longer (rw c.step_with_room.ensures.same at c.error_outcome.ensures), known, still_indexed _ _ step.indices _ _ c.self.invariant.4 (λ e i. i))
 
 pub returns-in-Error-clause-comes : goal.returns-in-Error-clause-comes
@@ -50,13 +50,13 @@ returns-in-Error-clause-comes g c =
     (ap (label_at _) c.empty.ensures.step ∙ there) c.empty.ensures.own
 
 -- a step that gave none, and how many handlers it added at most
-made : (g : _) (c : After-left_by-left g) → IsMade (machine_of g.P.Lat.PartialEq.eq g.P.Lat.Event.PartialEq.eq g.P.Lat.Event.Ord.cmp g.P.Lat.Lattice.least g.P.Lat.Lattice.joined g.P.Lat.Lattice.events_of g.P.Lat.Reads.answer_of (g.P.Program.functions g.J.Named.program)) g.P.Lat.Event.Ord.cmp c.self.inside.core (Act c.args.asked.now.task) c.step_with_room.new.core c.in-Ok.made.0 c.step_with_room.new.room.concerned.items c.left_by-left.result.added c.in-Ok.made.2
-    × (length (option_list c.left_by-left.result.added) ≤ most_added ((g.P.Program.functions g.J.Named.program).request c.args.asked.now.from))
+made : (g : _) (c : After-left_by-left g) → IsMade (machine_of g.P.Lat.PartialEq.eq g.P.Lat.Event.PartialEq.eq g.P.Lat.Event.Ord.cmp g.P.Lat.Lattice.least g.P.Lat.Lattice.joined g.P.Lat.Lattice.events_of g.P.Lat.Reads.answer_of (g.P.Program.functions g.B.BoardBrand.program)) g.P.Lat.Event.Ord.cmp c.self.inside.core (Act c.args.asked.now.task) c.step_with_room.new.core c.in-Ok.made.0 c.step_with_room.new.room.concerned.items c.left_by-left.result.added c.in-Ok.made.2
+    × (length (option_list c.left_by-left.result.added) ≤ most_added ((g.P.Program.functions g.B.BoardBrand.program).request c.args.asked.now.from))
 made g c =
-    let M = machine_of g.P.Lat.PartialEq.eq g.P.Lat.Event.PartialEq.eq g.P.Lat.Event.Ord.cmp g.P.Lat.Lattice.least g.P.Lat.Lattice.joined g.P.Lat.Lattice.events_of g.P.Lat.Reads.answer_of (g.P.Program.functions g.J.Named.program) in
+    let M = machine_of g.P.Lat.PartialEq.eq g.P.Lat.Event.PartialEq.eq g.P.Lat.Event.Ord.cmp g.P.Lat.Lattice.least g.P.Lat.Lattice.joined g.P.Lat.Lattice.events_of g.P.Lat.Reads.answer_of (g.P.Program.functions g.B.BoardBrand.program) in
     let k = c.in-Ok.ensures.made in
     let step = subst (λ r. IsStep M c.self.inside.core (Act c.args.asked.now.task) c.step_with_room.new.core r) c.in-Done.is k.step in
-    let ok = c.lawful.ensures g.J.Named.program in
+    let ok = c.lawful.ensures g.B.BoardBrand.program in
     let at = ap local_of (rw (← c.self.view_is) at c.requires.live).0 in (
       act_made _ _ ok _ _ _ _ _ _ step at k.concerned k.long (labels_of (entries_of (task_names c.self.inside.core.table.tasks) c.self.inside.trace.items)) c.self.invariant.2.leads _ k.told _ c.left_by-left.ensures.added,
       few_added _ _ ok _ _ _ _ _ _ step at k.concerned k.long c.left_by-left.result.added (c.left_by-left.ensures.added ∙ ap (λ m. m.added) k.told),
@@ -69,7 +69,7 @@ pub leave-requires-clause-logged : goal.leave-requires-clause-logged
 leave-requires-clause-logged g c = (made g (goal.at.leave-requires-clause-logged g c).After-left_by-left).0.is_logged
 
 pub leave-requires-clause-current : goal.leave-requires-clause-current
-leave-requires-clause-current g c = λ p i. still_current (c.waiting_tasks.ensures.until_touched g.J.Named.program) (made g (goal.at.leave-requires-clause-current g c).After-left_by-left).0 p (c.self.invariant.2.blocked p i)
+leave-requires-clause-current g c = λ p i. still_current (c.blocked_tasks.ensures.until_touched g.B.BoardBrand.program) (made g (goal.at.leave-requires-clause-current g c).After-left_by-left).0 p (c.self.invariant.2.blocked p i)
 
 pub leave-requires-clause-once : goal.leave-requires-clause-once
 leave-requires-clause-once g c = c.self.invariant.2.once
@@ -86,11 +86,11 @@ leave-requires-clause-concerned_room g c = omega (arith, c.in-Ok.ensures.concern
 pub leave-requires-clause-hands_room : goal.leave-requires-clause-hands_room
 leave-requires-clause-hands_room g c = omega (arith, c.in-Ok.ensures.hands_room, (made g (goal.at.leave-requires-clause-hands_room g c).After-left_by-left).1)
 
-pub settle-requires-clause-program : goal.settle-requires-clause-program
-settle-requires-clause-program g c = (made g (goal.at.settle-requires-clause-program g c).After-left_by-left).0.step.program ∙ c.self.invariant.2.program_is
+pub note_end-requires-clause-program : goal.note_end-requires-clause-program
+note_end-requires-clause-program g c = (made g (goal.at.note_end-requires-clause-program g c).After-left_by-left).0.step.program ∙ c.self.invariant.2.program_is
 
-pub settle-requires-clause-running : goal.settle-requires-clause-running
-settle-requires-clause-running g c = ap (λ b. b.over) c.self.view_is ∙ c.requires.running
+pub note_end-requires-clause-running : goal.note_end-requires-clause-running
+note_end-requires-clause-running g c = ap (λ b. b.over) c.self.view_is ∙ c.requires.running
 
 pub invariant_of-self-in-Done : goal.invariant_of-self-in-Done
 invariant_of-self-in-Done g c =
@@ -101,13 +101,13 @@ invariant_of-self-in-Done g c =
     let noted = all_noted (task_names c.self.inside.core.table.tasks) (task_names c.step_with_room.new.core.table.tasks) k.step.indices c.self.inside.trace.items c.step_with_room.new.trace.items c.args.worker (ActStep c.args.numbers.index) c.self.invariant.1 c.in-Ok.ensures.written (c.args.asked.now.task, there) in
     let longer = written (task_names c.self.inside.core.table.tasks) (task_names c.step_with_room.new.core.table.tasks) k.step.indices c.self.inside.trace.items c.step_with_room.new.trace.items c.args.worker (ActStep c.args.numbers.index) c.self.invariant.1 c.in-Ok.ensures.written (Act c.args.asked.now.task) (acts_there (task_names c.step_with_room.new.core.table.tasks) c.args.numbers.index c.args.asked.now.task there) in
     let newest = rw (c.step_with_room.ensures.same, c.step_with_room.ensures.newest) at c.left_by-left.ensures.newest in
-    let known = step_known _ (c.tasks_after.ensures.others g.J.Named.program) _ sound.leads c.each_task_once.ensures (c.tasks_after.ensures.made g.J.Named.program) c.in-Ok.made.2 c.args.asked.now.task c.args.numbers.index _ k.step k.told live
-    (stands (c.lawful.ensures g.J.Named.program) k) c.self.inside.newest c.left_by-left.new.newest c.self.invariant.3 newest.0 newest.1 c.tasks-next.result c.tasks-next.ensures newest.2 in
-    (c.self.invariant.0, noted, kept_made (c.waiting_tasks.ensures.until_touched g.J.Named.program) k (c.passes_at_its_spot.ensures g.J.Named.program) sound.blocked c.leave.ensures.left (c.waiting_tasks.ensures.ends g.J.Named.program) _ _ _ _ _ _ c.args.worker sound (rw (← c.self.view_is) at c.requires.room) longer c.leave.ensures.once c.settle.ensures, known, still_indexed _ _ k.step.indices _ _ c.self.invariant.4 c.leave.ensures.within)
+    let known = step_known _ (c.tasks_after.ensures.others g.B.BoardBrand.program) _ sound.leads c.each_task_once.ensures (c.tasks_after.ensures.made g.B.BoardBrand.program) c.in-Ok.made.2 c.args.asked.now.task c.args.numbers.index _ k.step k.told live
+    (stands (c.lawful.ensures g.B.BoardBrand.program) k) c.self.inside.newest c.left_by-left.new.newest c.self.invariant.3 newest.0 newest.1 c.tasks-next.result c.tasks-next.ensures newest.2 in
+    (c.self.invariant.0, noted, kept_made (c.blocked_tasks.ensures.until_touched g.B.BoardBrand.program) k (c.wakes_at_its_spot.ensures g.B.BoardBrand.program) sound.blocked c.leave.ensures.left (c.blocked_tasks.ensures.ends g.B.BoardBrand.program) _ _ _ _ _ _ c.args.worker sound (rw (← c.self.view_is) at c.requires.room) longer c.leave.ensures.once c.note_end.ensures, known, still_indexed _ _ k.step.indices _ _ c.self.invariant.4 c.leave.ensures.within)
 
 pub returns-in-Done-clause-comes : goal.returns-in-Done-clause-comes
 returns-in-Done-clause-comes g c =
-    let ok = c.lawful.ensures g.J.Named.program in
+    let ok = c.lawful.ensures g.B.BoardBrand.program in
     let k = (made g (goal.at.returns-in-Done-clause-comes g c).After-left_by-left).0 in
     let machine = λ (p : g.row.P.Denot). machine_of g.P.Lat.PartialEq.eq g.P.Lat.Event.PartialEq.eq g.P.Lat.Event.Ord.cmp g.P.Lat.Lattice.least g.P.Lat.Lattice.joined g.P.Lat.Lattice.events_of g.P.Lat.Reads.answer_of (g.P.Program.functions p) in
     let can = can_seen machine _ c.self.inside.core c.args.self.now.core _ c.self.invariant.2.program_is (seen_core c.self.view_is) k.step.enabled in
@@ -116,10 +116,10 @@ returns-in-Done-clause-comes g c =
     let longer = written (task_names c.self.inside.core.table.tasks) (task_names c.step_with_room.new.core.table.tasks) k.step.indices c.self.inside.trace.items c.step_with_room.new.trace.items c.args.worker (ActStep c.args.numbers.index) c.self.invariant.1 c.in-Ok.ensures.written (Act c.args.asked.now.task) there
     ∙ ap (λ b. b.trace ++ entry_of c.args.worker (Act c.args.asked.now.task) ∷ []) c.self.view_is in
     let own = ap is_some (sym (rw c.step_with_room.ensures.same at c.left_by-left.ensures.own)) ∙ sym c.is_some-goes_on.ensures in
-    λ _. act_left c.is_some-goes_on.result c.leave.new.works c.next_or_gone.result c.next_or_gone.ensures.next c.next_or_gone.ensures.gone (c.requires.running, ap local_of c.requires.live.0, can, not_full c.requires.room) longer
+    λ _. act_left c.is_some-goes_on.result c.leave.new.step_work c.next_or_gone.result c.next_or_gone.ensures.next c.next_or_gone.ensures.gone (c.requires.running, ap local_of c.requires.live.0, can, not_full c.requires.room) longer
     (λ goes done. not_done ok k (own ∙ goes) done)
     (λ ends. is_done ok k (own ∙ ends))
-    (is_listed (c.waiting_tasks.ensures.until_touched g.J.Named.program) k (c.passes_at_its_spot.ensures g.J.Named.program) c.self.invariant.2.blocked c.leave.ensures.left (act_tickets c.args.asked.now.task c.in-Ok.made.2 c.left_by-left.result.own c.left_by-left.result.made (rw c.step_with_room.ensures.same at c.left_by-left.ensures.own) c.left_by-left.ensures.made) c.args.self.now _ (seen_core c.self.view_is) (seen_parked c.self.view_is) refl refl)
+    (is_listed (c.blocked_tasks.ensures.until_touched g.B.BoardBrand.program) k (c.wakes_at_its_spot.ensures g.B.BoardBrand.program) c.self.invariant.2.blocked c.leave.ensures.left (act_tickets c.args.asked.now.task c.in-Ok.made.2 c.left_by-left.result.own c.left_by-left.result.made (rw c.step_with_room.ensures.same at c.left_by-left.ensures.own) c.left_by-left.ensures.made) c.args.self.now _ (seen_core c.self.view_is) (seen_parked c.self.view_is) refl refl)
     (ap (label_at _) (c.leave.ensures.step ∙ c.left_by-left.ensures.step) ∙ there)
     (ap is_some c.leave.ensures.own ∙ sym c.is_some-goes_on.ensures)
 

@@ -2,7 +2,7 @@ use Rattle.std.proofs.Common.{◌≡◌, ℕ, Some, refl, sym, ap, ◌∙◌, if
 use Rattle.std.specs.Prelude.{slice_get}
 use Rattle.std.proofs.lemmas.Bool.{ltb-false}
 use Rattle.std.proofs.lemmas.Option.{slice_get_read, slice_get_past, same_Some, none-some}
-use Rattle.lvish_board.specs.Place.{TaskPlace}
+use Rattle.lvish_board.specs.Stand.{TaskStand}
 use Rattle.lvish_board.proofs.Seating.{not_seated, other_seated}
 use Rattle.lvish_board.proofs.by_index.ByIndex.find.Goals.{In-Some, In-Some-get}
 use Rattle.lvish_board.proofs.by_index.ByIndex.find.Goals as goal
@@ -33,4 +33,4 @@ returns-then-asked-index g c =
 pub returns-else-asked-index : goal.returns-else-asked-index
 returns-else-asked-index g c =
     let at = goal.at.returns-else-asked-index g c in
-    rw (← c.self.view_is) (other_seated _ _ c.self.invariant c.args.index c.in-Some.seat.now (noted g at.In-Some) (λ v there. c.if-asked-index.false (ap (λ (e : ℕ × TaskPlace g.row.P-Lat-Event.Denot g.row.P-Local.Denot). e.0) (same_Some _ (c.args.index, v) (sym (stands g at.In-Some-get) ∙ there)))))
+    rw (← c.self.view_is) (other_seated _ _ c.self.invariant c.args.index c.in-Some.seat.now (noted g at.In-Some) (λ v there. c.if-asked-index.false (ap (λ (e : ℕ × TaskStand g.row.P-Lat-Event.Denot g.row.P-Local.Denot). e.0) (same_Some _ (c.args.index, v) (sym (stands g at.In-Some-get) ∙ there)))))

@@ -24,5 +24,5 @@ invariant_of-self-2 g c =
     rw items (rw count (pushed_seated c.self.inside.seats.items es c.self.invariant c.reserve_at.new.seats.items c.args.index c.in-Some.asked c.reserve_at.ensures.kept c.in_ok-reserve_at.ensures.there absent))
 
 pub returns-clause-ok : goal.returns-clause-ok
-returns-clause-ok g c = for_this (λ x. c.push_reserved.new.self.items ≡ c.args.self.now ++ (c.args.index, x) ∷ []) c.in-Some.asked c.args.place.now c.in-Some.ensures.value
+returns-clause-ok g c = for_this (λ x. c.push_reserved.new.self.items ≡ c.args.self.now ++ (c.args.index, x) ∷ []) c.in-Some.asked c.args.slot.now c.in-Some.ensures.value
     (c.push_reserved.ensures.items ∙ ap (λ xs. xs ++ (c.args.index, c.in-Some.asked) ∷ []) (c.reserve_at.ensures.items ∙ c.self.view_is))

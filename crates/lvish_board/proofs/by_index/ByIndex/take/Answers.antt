@@ -3,7 +3,7 @@ use Rattle.std.specs.Prelude.{slice_get}
 use Rattle.std.specs.List.{swap_remove}
 use Rattle.std.proofs.lemmas.Bool.{ltb-false}
 use Rattle.std.proofs.lemmas.Option.{slice_get_read, slice_get_past, slice_get_within, slice_get-get_or}
-use Rattle.lvish_board.specs.Place.{TaskPlace}
+use Rattle.lvish_board.specs.Stand.{TaskStand}
 use Rattle.lvish_board.proofs.Seating.{moved_seated, ended_seated, stood_last}
 use Rattle.lvish_board.proofs.by_index.ByIndex.take.Goals.{After-swap_remove-index, In-Some}
 use Rattle.lvish_board.proofs.by_index.ByIndex.take.Goals as goal
@@ -14,10 +14,10 @@ swap_remove-index-requires g c = let lt = rw (← c.self.view_is) at c.requires 
 count : (g : _) (c : After-swap_remove-index g) → length c.swap_remove-index.new.self.items + 1 ≡ length c.self.inside.asked.items
 count g c = omega (arith, c.swap_remove-index.ensures.len, c.self.inside.asked.ok.0, c.swap_remove-index.new.self.ok.0)
 
-moved : (g : _) (c : After-swap_remove-index g) (d : ℕ × TaskPlace g.row.P-Lat-Event.Denot g.row.P-Local.Denot) → c.args.seat + 1 < length c.self.inside.asked.items → get_or c.swap_remove-index.new.self.items c.args.seat d ≡ get_or c.self.inside.asked.items (length c.self.inside.asked.items - 1) d
+moved : (g : _) (c : After-swap_remove-index g) (d : ℕ × TaskStand g.row.P-Lat-Event.Denot g.row.P-Local.Denot) → c.args.seat + 1 < length c.self.inside.asked.items → get_or c.swap_remove-index.new.self.items c.args.seat d ≡ get_or c.self.inside.asked.items (length c.self.inside.asked.items - 1) d
 moved g c d lt = c.swap_remove-index.ensures.by_index.0 d (omega (arith, lt, c.self.inside.asked.ok.0)) ∙ ap (λ n. get_or c.self.inside.asked.items (n - 1) d) c.self.inside.asked.ok.0
 
-stay : (g : _) (c : After-swap_remove-index g) (k : ℕ) (d : ℕ × TaskPlace g.row.P-Lat-Event.Denot g.row.P-Local.Denot) → (k ≡ c.args.seat → ⊥) → k + 1 < length c.self.inside.asked.items → get_or c.swap_remove-index.new.self.items k d ≡ get_or c.self.inside.asked.items k d
+stay : (g : _) (c : After-swap_remove-index g) (k : ℕ) (d : ℕ × TaskStand g.row.P-Lat-Event.Denot g.row.P-Local.Denot) → (k ≡ c.args.seat → ⊥) → k + 1 < length c.self.inside.asked.items → get_or c.swap_remove-index.new.self.items k d ≡ get_or c.self.inside.asked.items k d
 stay g c k d other lt = c.swap_remove-index.ensures.by_index.1 k d other (omega (arith, lt, c.self.inside.asked.ok.0))
 
 -- what stands where the task has stood

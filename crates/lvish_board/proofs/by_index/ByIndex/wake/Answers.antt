@@ -9,11 +9,11 @@ use Rattle.lvish_core.specs.Changes.{local_of}
 use Rattle.lvish_picture.specs.Picture.{task_of}
 use Rattle.lvish_names.specs.laws.OrderLaws.{name_equiv}
 use Rattle.lvish_names.proofs.NameLaws.{same_name-true}
-use Rattle.lvish_board.specs.Place.{TaskPlace}
-use Rattle.lvish_board.specs.Seated.{AreSeated, indices_of, places_of}
-use Rattle.lvish_board.specs.Standing.{tasks_of}
+use Rattle.lvish_board.specs.Stand.{TaskStand}
+use Rattle.lvish_board.specs.Seated.{AreSeated, indices_of, stands_of}
+use Rattle.lvish_board.specs.Board.{tasks_of}
 use Rattle.lvish_board.specs.Waking.{Wakes}
-use Rattle.lvish_board.proofs.Seating.{index_among, one_of_index, place_among, stands_among}
+use Rattle.lvish_board.proofs.Seating.{index_among, one_of_index, stand_listed, stands_among}
 use Rattle.lvish_board.proofs.Taking.{index_gone, left_once, left_within, wakes_seated}
 use Rattle.lvish_board.proofs.Waking.{wakes_none}
 use Rattle.lvish_board.proofs.by_index.ByIndex.wake.Goals.{After-request}
@@ -43,8 +43,8 @@ asked g c =
 stands : (g : _) (c : After-request g) → local_of (task_of g.P.Lat.Event.PartialEq.eq c.args.core.now.table.tasks c.index.result.now.1.task) ≡ Some c.index.result.now.1.from
 stands g c =
     let p = c.in-Some.ensures.0 in
-    let there : local_of (task_of g.P.Lat.Event.PartialEq.eq c.args.core.now.table.tasks p.task) ≡ Some p.from = c.requires.current p (place_among (c.args.index, p) c.args.self.now (stands_among c.args.self.now c.in-Some.seat (c.args.index, p) c.in-Some.ensures.1)) in
-    subst (λ (e : ℕ × TaskPlace g.row.P-Lat-Event.Denot g.row.P-Local.Denot). local_of (task_of g.P.Lat.Event.PartialEq.eq c.args.core.now.table.tasks e.1.task) ≡ Some e.1.from) (sym (asked g c)) there
+    let there : local_of (task_of g.P.Lat.Event.PartialEq.eq c.args.core.now.table.tasks p.task) ≡ Some p.from = c.requires.current p (stand_listed (c.args.index, p) c.args.self.now (stands_among c.args.self.now c.in-Some.seat (c.args.index, p) c.in-Some.ensures.1)) in
+    subst (λ (e : ℕ × TaskStand g.row.P-Lat-Event.Denot g.row.P-Local.Denot). local_of (task_of g.P.Lat.Event.PartialEq.eq c.args.core.now.table.tasks e.1.task) ≡ Some e.1.from) (sym (asked g c)) there
 
 pub can_act-requires-clause-there : goal.can_act-requires-clause-there
 can_act-requires-clause-there g c = rw c.task.ensures (ap is_some (stands g (goal.at.can_act-requires-clause-there g c).After-request))
@@ -62,7 +62,7 @@ seated g c = subst (λ es. AreSeated c.self.inside.seats.items es) c.self.view_i
 
 -- the name by which the core is asked
 name : (g : _) (c : After-request g) → c.task.result.now ≡ c.in-Some.ensures.0.task
-name g c = c.task.ensures ∙ ap (λ (e : ℕ × TaskPlace g.row.P-Lat-Event.Denot g.row.P-Local.Denot). e.1.task) (asked g c)
+name g c = c.task.ensures ∙ ap (λ (e : ℕ × TaskStand g.row.P-Lat-Event.Denot g.row.P-Local.Denot). e.1.task) (asked g c)
 
 pub returns-then-not-can_act-clause-wakes : goal.returns-then-not-can_act-clause-wakes
 returns-then-not-can_act-clause-wakes g c =
@@ -82,17 +82,17 @@ returns g c =
     let laws = name_equiv g.met.P.Lat.Event.Eq.laws in
     let exact = same_name-true g.met.P.Lat.Event.Plain.identical in
     let p = c.in-Some.ensures.0 in
-    let Can : TaskPlace g.row.P-Lat-Event.Denot g.row.P-Local.Denot → Type 0 = λ q. CanTake M c.args.core.now (Act q.task) in
+    let Can : TaskStand g.row.P-Lat-Event.Denot g.row.P-Local.Denot → Type 0 = λ q. CanTake M c.args.core.now (Act q.task) in
     let can : CanTake M c.args.core.now (Act p.task) = subst (λ t. CanTake M c.args.core.now (Act t)) (name g before) (c.can_act.ensures.0 c.if-not-can_act.false) in
     let one : (c.take.ensures.0, c.take.result) ≡ (c.args.index, p) = same_Some (c.take.ensures.0, c.take.result) (c.args.index, p) (sym c.take.ensures.1 ∙ c.in-Some.ensures.1) in
     let left : c.take.new.self ≡ swap_remove c.args.self.now c.in-Some.seat (c.args.index, p) = c.take.ensures.2 ∙ ap (λ e. swap_remove c.args.self.now c.in-Some.seat e) one in
-    let adds = c.push_reserved.ensures.items ∙ ap (λ (e : ℕ × TaskPlace g.row.P-Lat-Event.Denot g.row.P-Local.Denot). c.args.woken.now.items ++ e.1 ∷ []) one in
+    let adds = c.push_reserved.ensures.items ∙ ap (λ (e : ℕ × TaskStand g.row.P-Lat-Event.Denot g.row.P-Local.Denot). c.args.woken.now.items ++ e.1 ∷ []) one in
     let seats = seated g before in
     record {
-      wakes = subst (λ es. Wakes Can (λ q. IsAmong (c.args.index, q) c.args.self.now) (places_of c.args.self.now) (places_of es) c.args.woken.now.items c.push_reserved.new.self.items) (sym left)
+      wakes = subst (λ es. Wakes Can (λ q. IsAmong (c.args.index, q) c.args.self.now) (stands_of c.args.self.now) (stands_of es) c.args.woken.now.items c.push_reserved.new.self.items) (sym left)
           (wakes_seated laws exact c.self.inside.seats.items c.args.self.now seats c.requires.once c.in-Some.seat c.args.index p c.in-Some.ensures.1 Can can c.args.woken.now.items c.push_reserved.new.self.items adds);
       gone = λ t i. index_gone laws exact c.self.inside.seats.items c.args.self.now seats c.requires.once c.in-Some.seat c.args.index p c.in-Some.ensures.1 (subst (λ es. IsAmong c.args.index (indices_of es)) left i);
-      once = subst (λ es. NoRepeats (tasks_of (places_of es))) (sym left) (left_once laws exact c.self.inside.seats.items c.args.self.now seats c.requires.once c.in-Some.seat c.args.index p c.in-Some.ensures.1);
+      once = subst (λ es. NoRepeats (tasks_of (stands_of es))) (sym left) (left_once laws exact c.self.inside.seats.items c.args.self.now seats c.requires.once c.in-Some.seat c.args.index p c.in-Some.ensures.1);
       within = λ e i. left_within laws exact c.self.inside.seats.items c.args.self.now seats c.requires.once c.in-Some.seat c.args.index p c.in-Some.ensures.1 e (subst (λ es. IsAmong e es) left i);
       capacity = c.push_reserved.ensures.capacity;
     }

@@ -1,7 +1,7 @@
 use Rattle.std.proofs.Common.{sym, subst}
 use Rattle.std.specs.List.Sorted.{IsStrictlySortedBy}
 use Rattle.lvish_names.specs.NameOrder.{name_cmp}
-use Rattle.lvish_board.specs.Standing.{tasks_of}
+use Rattle.lvish_board.specs.Board.{tasks_of}
 use Rattle.lvish_board.proofs.Those.{nothing_sorted}
 use Rattle.lvish_board.proofs.parked.Parked.wake.Goals as goal
 

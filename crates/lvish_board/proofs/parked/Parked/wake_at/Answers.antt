@@ -5,7 +5,7 @@ use Rattle.std.specs.Prelude.{slice_get, slice_set, vec_len}
 use Rattle.lvish_calculus.specs.Handing.{IsAmong}
 use Rattle.lvish_board.specs.Shelved.{WaitsAt, shelf_of}
 use Rattle.lvish_board.proofs.Lists.{stays_on, waits_on}
-use Rattle.lvish_board.proofs.Seating.{index_among, of_place}
+use Rattle.lvish_board.proofs.Seating.{index_among, of_stand}
 use Rattle.lvish_board.proofs.Shelving.{tables_kept}
 use Rattle.lvish_board.proofs.Waking.{wakes_fewer, wakes_none}
 use Rattle.lvish_board.proofs.parked.Parked.wake_at.Goals as goal
@@ -15,7 +15,7 @@ invariant_of-self g c = λ e i.
     let inside : c.args.variable < length c.self.inside.spots.tables.items = omega (arith, c.in-Some.ensures.variant.0 refl, c.self.inside.spots.tables.ok.0) in
     let at : slice_get c.self.inside.spots.tables.items c.args.variable ≡ Some c.in-Some.lists.now = slice_get-get_or _ _ c.in-Some.lists.now inside ∙ ap Some (sym c.in-Some.ensures.value) in
     let was = c.self.invariant e (c.wake_under.ensures.within e i) in
-    stays_on g.P.Lat.Spot.PartialEq.eq g.P.Lat.Reads.watched c.self.inside.whole.lists.items c.self.inside.whole.lists.items c.self.inside.spots.tables.items (slice_set c.self.inside.spots.tables.items c.args.variable c.wake_under.new.lists) c.self.inside.freezes.lists.items c.self.inside.freezes.lists.items ((g.P.Program.functions g.J.Named.program).request e.1.from) e.0 (λ v on. on) (λ v w. tables_kept g.P.Lat.Spot.PartialEq.eq c.self.inside.spots.tables.items c.args.variable c.wake_under.new.lists v w e.0 (λ on. c.wake_under.ensures.left w e.0 (index_among e c.wake_under.new.self i) (subst (λ o. IsAmong e.0 (shelf_of g.P.Lat.Spot.PartialEq.eq o w)) at on))) (λ v on. on) was
+    stays_on g.P.Lat.Spot.PartialEq.eq g.P.Lat.Reads.watched c.self.inside.whole.lists.items c.self.inside.whole.lists.items c.self.inside.spots.tables.items (slice_set c.self.inside.spots.tables.items c.args.variable c.wake_under.new.lists) c.self.inside.freezes.lists.items c.self.inside.freezes.lists.items ((g.P.Program.functions g.B.BoardBrand.program).request e.1.from) e.0 (λ v on. on) (λ v w. tables_kept g.P.Lat.Spot.PartialEq.eq c.self.inside.spots.tables.items c.args.variable c.wake_under.new.lists v w e.0 (λ on. c.wake_under.ensures.left w e.0 (index_among e c.wake_under.new.self i) (subst (λ o. IsAmong e.0 (shelf_of g.P.Lat.Spot.PartialEq.eq o w)) at on))) (λ v on. on) was
 
 pub returns-in-Some-clause-wakes : goal.returns-in-Some-clause-wakes
 returns-in-Some-clause-wakes g c =
@@ -23,9 +23,9 @@ returns-in-Some-clause-wakes g c =
     let at : slice_get c.self.inside.spots.tables.items c.args.variable ≡ Some c.in-Some.lists.now = slice_get-get_or _ _ c.in-Some.lists.now inside ∙ ap Some (sym c.in-Some.ensures.value) in
     rw (← c.self.view_is) (wakes_fewer _ _ _ _ _ _ _ c.wake_under.ensures.wakes (λ p i may.
     let here = subst (λ x. WaitsAt g.P.Lat.Reads.watched c.args.variable (Some c.args.spot.now) ((g.P.Program.functions x).request p.from)) c.requires.program may in
-    let r = of_place p c.wake_under.new.self i in
+    let r = of_stand p c.wake_under.new.self i in
     let was = c.wake_under.ensures.within (r.0, p) r.1 in
-    let on = waits_on g.P.Lat.Spot.PartialEq.eq g.P.Lat.Reads.watched c.self.inside.whole.lists.items c.self.inside.spots.tables.items c.self.inside.freezes.lists.items c.args.variable (Some c.args.spot.now) ((g.P.Program.functions g.J.Named.program).request p.from) r.0 (c.self.invariant (r.0, p) was) here in
+    let on = waits_on g.P.Lat.Spot.PartialEq.eq g.P.Lat.Reads.watched c.self.inside.whole.lists.items c.self.inside.spots.tables.items c.self.inside.freezes.lists.items c.args.variable (Some c.args.spot.now) ((g.P.Program.functions g.B.BoardBrand.program).request p.from) r.0 (c.self.invariant (r.0, p) was) here in
     (r.0, subst (λ o. IsAmong r.0 (shelf_of g.P.Lat.Spot.PartialEq.eq o c.args.spot.now)) at on, was)))
 
 pub returns-in-Some-clause-within : goal.returns-in-Some-clause-within
@@ -39,5 +39,5 @@ returns-in_default-clause-wakes g c =
     let at : slice_get c.self.inside.spots.tables.items c.args.variable ≡ None = slice_get_past c.self.inside.spots.tables.items c.args.variable (omega (arith, past)) in
     rw (← c.self.view_is) (wakes_none _ _ _ _ (λ p i may can.
     let here = subst (λ x. WaitsAt g.P.Lat.Reads.watched c.args.variable (Some c.args.spot.now) ((g.P.Program.functions x).request p.from)) c.requires.program may in
-    let r = of_place p c.self.inside.tasks i in
-    subst (λ o. IsAmong r.0 (shelf_of g.P.Lat.Spot.PartialEq.eq o c.args.spot.now)) at (waits_on g.P.Lat.Spot.PartialEq.eq g.P.Lat.Reads.watched c.self.inside.whole.lists.items c.self.inside.spots.tables.items c.self.inside.freezes.lists.items c.args.variable (Some c.args.spot.now) ((g.P.Program.functions g.J.Named.program).request p.from) r.0 (c.self.invariant (r.0, p) r.1) here)))
+    let r = of_stand p c.self.inside.tasks i in
+    subst (λ o. IsAmong r.0 (shelf_of g.P.Lat.Spot.PartialEq.eq o c.args.spot.now)) at (waits_on g.P.Lat.Spot.PartialEq.eq g.P.Lat.Reads.watched c.self.inside.whole.lists.items c.self.inside.spots.tables.items c.self.inside.freezes.lists.items c.args.variable (Some c.args.spot.now) ((g.P.Program.functions g.B.BoardBrand.program).request p.from) r.0 (c.self.invariant (r.0, p) r.1) here)))

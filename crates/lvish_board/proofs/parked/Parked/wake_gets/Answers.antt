@@ -2,7 +2,7 @@ use Rattle.std.proofs.Common.{rules, ◌≡◌, ◌+◌, suc, inl, inr, ◌∷�
 use Rattle.lvish_calculus.specs.Program.{machine_of}
 use Rattle.lvish_board.specs.Vocabulary.{Act, PutOn as Put}
 use Rattle.lvish_core.specs.Core.{CanTake}
-use Rattle.lvish_board.specs.Seated.{places_of}
+use Rattle.lvish_board.specs.Seated.{stands_of}
 use Rattle.lvish_board.specs.Shelved.{WaitsAt}
 use Rattle.lvish_board.specs.Woken.{MayWake}
 use Rattle.lvish_board.proofs.Woken.{may_at, may_first, may_more}
@@ -41,7 +41,7 @@ loop-entry-preserved g c =
           (λ p. MayWake g.P.Lat.Reads.spot_of g.P.Lat.Reads.watched (Some (Put c.args.variable)) (take (c.loop-entry.entry-index + 1) c.args.fresh.now) ((g.P.Program.functions c.args.core.now.program).request p.from))
           (λ p. MayWake g.P.Lat.Reads.spot_of g.P.Lat.Reads.watched (Some (Put c.args.variable)) (take c.loop-entry.entry-index c.args.fresh.now) ((g.P.Program.functions c.args.core.now.program).request p.from))
           (λ p. WaitsAt g.P.Lat.Reads.watched c.args.variable (Some c.spot-spot.result) ((g.P.Program.functions c.args.core.now.program).request p.from))
-          (places_of c.args.self.now) (places_of c.loop-entry.self) (places_of c.wake_at.new.self) c.args.woken.now.items c.loop-entry.woken.items c.wake_at.new.woken.items c.loop-entry.invariant.wakes c.wake_at.ensures.wakes (λ p i j one two may can.
+          (stands_of c.args.self.now) (stands_of c.loop-entry.self) (stands_of c.wake_at.new.self) c.args.woken.now.items c.loop-entry.woken.items c.wake_at.new.woken.items c.loop-entry.invariant.wakes c.wake_at.ensures.wakes (λ p i j one two may can.
           let q = (g.P.Program.functions c.args.core.now.program).request p.from in
           elim (may_more g.P.Lat.Reads.spot_of g.P.Lat.Reads.watched c.args.variable (take c.loop-entry.entry-index c.args.fresh.now) c.entry-item.result q (subst (λ es. MayWake g.P.Lat.Reads.spot_of g.P.Lat.Reads.watched (Some (Put c.args.variable)) es q) more may)) [
             | inl old ↦ one old can

@@ -3,11 +3,11 @@ use Rattle.std.proofs.lemmas.Option.{none-some}
 use Rattle.std.proofs.lemmas.Result.{IfOk-weaker}
 use Rattle.lvish_names.specs.laws.OrderLaws.{name_total}
 use Rattle.lvish_names.proofs.NameLaws.{name_cmp-iff}
-use Rattle.lvish_board.specs.Place.{TaskPlace}
+use Rattle.lvish_board.specs.Stand.{TaskStand}
 use Rattle.lvish_run.proofs.FirstTask.{compared, greater_other, stands_before, stands_again, stands_still, opened_alone, opened_other, opened_front, opened_again}
 use Rattle.lvish_run.proofs.agenda.Agenda.open_task.Goals as goal
 
-first_is : {E L : Type 0} (p q : TaskPlace E L) → Some p ≡ Some q → p.task ≡ q.task
+first_is : {E L : Type 0} (p q : TaskStand E L) → Some p ≡ Some q → p.task ≡ q.task
 first_is p q e = let same : p ≡ q = cc in ap (λ r. r.task) same
 
 pub invariant_of-self : goal.invariant_of-self

@@ -1,11 +1,11 @@
 use Rattle.std.proofs.Common.{◌≡◌, Some, refl, sym, ap, ◌∙◌}
 use Rattle.lvish_names.specs.laws.OrderLaws.{name_total}
 use Rattle.lvish_names.proofs.NameLaws.{name_cmp-iff}
-use Rattle.lvish_board.specs.Place.{TaskPlace}
+use Rattle.lvish_board.specs.Stand.{TaskStand}
 use Rattle.lvish_run.proofs.FirstTask.{compared, equal_from, other_from, taken_first, taken_other}
 use Rattle.lvish_run.proofs.agenda.Agenda.take_task.Goals as goal
 
-first_is : {E L : Type 0} (p q : TaskPlace E L) → Some p ≡ Some q → p.task ≡ q.task
+first_is : {E L : Type 0} (p q : TaskStand E L) → Some p ≡ Some q → p.task ≡ q.task
 first_is p q e = let same : p ≡ q = cc in ap (λ r. r.task) same
 
 pub returns-then-is_eq-clause-was : goal.returns-then-is_eq-clause-was

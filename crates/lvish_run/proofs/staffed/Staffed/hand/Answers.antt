@@ -5,7 +5,7 @@ use Rattle.lvish_run.proofs.staffed.Staffed.hand.Goals as goal
 
 pub invariant_of-self : goal.invariant_of-self
 invariant_of-self g c =
-    still_ours g.J.Staff.workers c.number-number.result _ _ c.number-number.ensures.ours
+    still_ours g.B.Staff.workers c.number-number.result _ _ c.number-number.ensures.ours
     (by_hand _ _ _ _ _ _ _ _ _ _ (c.hand_into-came.ensures.comes _ refl)) c.self.invariant
 
 pub returns : goal.returns

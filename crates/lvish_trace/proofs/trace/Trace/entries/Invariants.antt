@@ -1,5 +1,5 @@
 use Rattle.std.proofs.Common.{◌≡◌, ◌≤◌, length, take, vec_capacity}
-use Rattle.lvish_trace.specs.Noted.{entries_of}
+use Rattle.lvish_trace.specs.Packed.{entries_of}
 use Rattle.lvish_trace.proofs.trace.Trace.entries.Given as goal
 
 abbrev pub invariant-loop-noted : goal.invariant-loop-noted

@@ -1,9 +1,0 @@
-use Rattle.std.proofs.Common.{◌≡◌, ◌≢◌, true, length}
-use Rattle.lvish_run.specs.declared.why.Why.TheVariants.{Stopped}
-use Rattle.lvish_run.proofs.crew.fn.together.scope.Given as goal
-
-abbrev pub invariant-loop-shift : goal.invariant-loop-shift
-invariant-loop-shift g l = g.S.Shift.patient ≡ true → l.worst ≢ Stopped
-
-abbrev pub decreases-loop-shift : goal.decreases-loop-shift
-decreases-loop-shift g l = length l.others.items
