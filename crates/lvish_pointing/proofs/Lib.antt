@@ -1,0 +1,9 @@
+pub mod Least
+pub mod Rising
+pub mod Named
+pub mod Listed
+pub mod Composed
+pub mod Lines
+pub mod Texts
+pub mod Searched
+pub mod Gathered

@@ -1,0 +1,44 @@
+-- What the program does with a reader and a writer, by what comes of it.
+use Rattle.std.specs.Prelude.{◌≡◌, ◌≤◌, ℕ, Bool, true, false, List, length, take, Option, IfSome}
+use Rattle.std.specs.Io.KnownBytes.{Appends, Keeps}
+use Rattle.lvish_pointing.specs.declared.fault.Expected.{Expected}
+use Rattle.lvish_pointing.specs.Facts.{IsAccepted, IsEmpty, IsFirstFault}
+use Rattle.lvish_pointing.specs.Answers.{IsAnswer}
+use Rattle.lvish_points_to.specs.declared.performing.Outcome.{Outcome}
+use Rattle.lvish_points_to.specs.declared.performing.Outcome.TheVariants.{Whole, Stopped, Line, Unreadable, Empty, Erring, Memory, NoThread, Unwritten}
+
+-- the writer took a front of the text and nothing else
+abbrev pub TakesFront : Option (List ℕ) → Option (List ℕ) → List ℕ → Type 0
+TakesFront old new text = (n : ℕ) × (n ≤ length text) × Appends old new (take n text)
+
+-- the text answers the bytes that were read, which are those that the reader gave
+pub record IsAnswerTo (given : Option (List ℕ)) (is_whole : Bool) (text : List ℕ) : Type 0 where
+  pub input : List ℕ
+  pub read : IfSome given (λ bytes. input ≡ bytes)
+  pub accepted : IsAccepted input
+  pub answer : IsAnswer input is_whole text
+
+module _ (given : Option (List ℕ)) (old new : Option (List ℕ)) where
+  -- the answer was written, and nothing else
+  abbrev pub Writes : Bool → Type 0
+  Writes is_whole = (text : List ℕ) × IsAnswerTo given is_whole text × Appends old new text
+
+  -- nothing was written, since this is missing on this line of the bytes that were read
+  abbrev pub Refuses : ℕ → Expected → Type 0
+  Refuses number expected = (input : List ℕ) × IfSome given (λ bytes. input ≡ bytes) × IsFirstFault input number expected × Keeps old new
+
+  -- nothing was written, since the bytes that were read state no fact
+  abbrev pub RefusesEmpty : Type 0
+  RefusesEmpty = (input : List ℕ) × IfSome given (λ bytes. input ≡ bytes) × IsEmpty input × Keeps old new
+
+  -- from a reader that gives `given`, the writer comes from `old` to `new`
+  abbrev pub Performs : Outcome → Type 0
+  Performs (Whole stats) = Writes true
+  Performs (Stopped stats) = Writes false
+  Performs (Line number expected) = Refuses number expected
+  Performs Unreadable = Keeps old new
+  Performs Empty = RefusesEmpty
+  Performs Erring = Keeps old new
+  Performs Memory = Keeps old new
+  Performs NoThread = Keeps old new
+  Performs Unwritten = (is_whole : Bool) × (text : List ℕ) × IsAnswerTo given is_whole text × TakesFront old new text
