@@ -1,15 +1,14 @@
 -- What the program does with a reader and a writer, by what comes of it.
-use Rattle.std.specs.Prelude.{◌≡◌, ◌≤◌, ℕ, Bool, true, false, List, length, take, Option, IfSome}
+use Rattle.std.specs.Prelude.{◌≡◌, ℕ, Bool, true, false, List, Option, IfSome}
 use Rattle.std.specs.Io.KnownBytes.{Appends, Keeps}
+use Rattle.lvish_console.specs.Writing.{TakesFront}
 use Rattle.lvish_pointing.specs.declared.fault.Expected.{Expected}
+use Rattle.lvish_pointing.specs.declared.fault.PointFault.{PointFault}
+use Rattle.lvish_pointing.specs.declared.fault.PointFault.TheVariants as fault
 use Rattle.lvish_pointing.specs.Facts.{IsAccepted, IsEmpty, IsFirstFault}
 use Rattle.lvish_pointing.specs.Answers.{IsAnswer}
 use Rattle.lvish_points_to.specs.declared.performing.Outcome.{Outcome}
 use Rattle.lvish_points_to.specs.declared.performing.Outcome.TheVariants.{Whole, Stopped, Line, Unreadable, Empty, Erring, Memory, NoThread, Unwritten}
-
--- the writer took a front of the text and nothing else
-abbrev pub TakesFront : Option (List ℕ) → Option (List ℕ) → List ℕ → Type 0
-TakesFront old new text = (n : ℕ) × (n ≤ length text) × Appends old new (take n text)
 
 -- the text answers the bytes that were read, which are those that the reader gave
 pub record IsAnswerTo (given : Option (List ℕ)) (is_whole : Bool) (text : List ℕ) : Type 0 where
@@ -42,3 +41,20 @@ module _ (given : Option (List ℕ)) (old new : Option (List ℕ)) where
   Performs Memory = Keeps old new
   Performs NoThread = Keeps old new
   Performs Unwritten = (is_whole : Bool) × (text : List ℕ) × IsAnswerTo given is_whole text × TakesFront old new text
+
+-- ---- its parts
+
+-- what comes of an input without an answer
+abbrev pub outcome_of : PointFault → Outcome
+outcome_of (fault.Line number expected) = Line number expected
+outcome_of fault.Empty = Empty
+outcome_of (fault.Erring kind) = Erring
+outcome_of fault.Memory = Memory
+outcome_of fault.NoThread = NoThread
+
+-- the text was written, and the outcome says whether it is whole; or a front of it was
+abbrev pub IsWritten : Option (List ℕ) → Option (List ℕ) → Bool → List ℕ → Outcome → Type 0
+IsWritten old new is_whole text (Whole stats) = (is_whole ≡ true) × Appends old new text
+IsWritten old new is_whole text (Stopped stats) = (is_whole ≡ false) × Appends old new text
+IsWritten old new is_whole text Unwritten = TakesFront old new text
+IsWritten old new is_whole text outcome = ⊥

@@ -1,13 +1,10 @@
-ghost use Rattle.std.specs.Prelude.{◌≡◌, ◌<◌, ◌≤◌, ◌⊎◌, if◌then◌else◌};
-ghost use Rattle.std.specs.Io.KnownBytes.{Appends};
-ghost use Rattle.lvish_points_to.specs.declared.performing.Outcome.TheVariants.{Whole, Stopped, Unwritten};
-ghost use Rattle.lvish_points_to.specs.Performs.{Performs, TakesFront};
+ghost use Rattle.std.specs.Prelude.{◌≡◌, ◌<◌, ◌≤◌};
+ghost use Rattle.lvish_points_to.specs.Performs.{Performs, IsWritten, outcome_of};
 
-use crate::stats::Stats;
-use crate::writing::write_text;
+use lvish_console::{ReadFault, Stats, read_input, write_text};
 use lvish_pointing::{Expected, PointFault, Pointed, points_answer};
 use lvish_rules::MOST_WORKERS;
-use std::io::{ErrorKind, Read, Write};
+use std::io::{Read, Write};
 use std::sync::Wait;
 use std::thread::Threads;
 
@@ -34,6 +31,19 @@ pub enum Outcome {
     Unwritten,
 }
 
+/// What comes of an input without an answer.
+fn refusal(fault: PointFault) -> Outcome
+    ensures { result ≡ outcome_of fault }
+{
+    match fault {
+        PointFault::Line(line, expected) => Outcome::Line(line, expected),
+        PointFault::Empty => Outcome::Empty,
+        PointFault::Erring(_) => Outcome::Erring,
+        PointFault::Memory => Outcome::Memory,
+        PointFault::NoThread => Outcome::NoThread,
+    }
+}
+
 /// Reads facts, and writes who points to whom by them, and nothing else.
 pub fn perform<H: AllocGlobal + Threads + Wait + Sync, R: Read, W: Write>(
     rt: &H,
@@ -47,26 +57,20 @@ pub fn perform<H: AllocGlobal + Threads + Wait + Sync, R: Read, W: Write>(
     ensures { Performs (R.remaining reader.old) (W.contents writer.old) (W.contents writer.new) result }
 {
     let alloc = rt.alloc();
-    let mut input = Vec::new(alloc);
-    match reader.read_to_end(&mut input) {
-        Ok(_) => {}
-        Err(error) if error.kind() == ErrorKind::OutOfMemory => return Outcome::Memory,
-        Err(_) => return Outcome::Unreadable,
-    }
+    let input = match read_input(alloc, reader) {
+        Ok(input) => input,
+        Err(ReadFault::Memory) => return Outcome::Memory,
+        Err(ReadFault::Unreadable) => return Outcome::Unreadable,
+    };
     match points_answer(rt, alloc, input.as_slice(), workers, budget) {
         Ok(pointed) => write_pointed(writer, &pointed),
-        Err(PointFault::Line(line, expected)) => Outcome::Line(line, expected),
-        Err(PointFault::Empty) => Outcome::Empty,
-        Err(PointFault::Erring(_)) => Outcome::Erring,
-        Err(PointFault::Memory) => Outcome::Memory,
-        Err(PointFault::NoThread) => Outcome::NoThread,
+        Err(fault) => refusal(fault),
     }
 }
 
 /// Writes the answer.
 fn write_pointed<W: Write>(writer: &mut W, pointed: &Pointed) -> Outcome
-    ensures { ((result ≡ (if pointed.now.is_whole then Whole (record { steps = pointed.now.steps; facts = pointed.now.count }) else Stopped (record { steps = pointed.now.steps; facts = pointed.now.count }))) × Appends (W.contents writer.old) (W.contents writer.new) pointed.now.text.items)
-        ⊎ ((result ≡ Unwritten) × TakesFront (W.contents writer.old) (W.contents writer.new) pointed.now.text.items) }
+    ensures { IsWritten (W.contents writer.old) (W.contents writer.new) pointed.now.is_whole pointed.now.text.items result }
 {
     let stats = Stats {
         steps: pointed.steps,

@@ -1,8 +1,7 @@
-use crate::commands::program;
-use crate::order::{Order, UsageFault};
-use clap::error::ErrorKind;
-use clap::{ArgMatches, Error};
-use lvish_rules::MOST_PROGRAM_STEPS;
+//! The words that the program knows, with their help.
+
+use clap::Command;
+use lvish_console::{Order, UsageFault, arguments, refusal};
 use std::alloc::{AllocError, Global};
 use std::convert::AsStr;
 
@@ -10,29 +9,39 @@ use std::convert::AsStr;
 pub fn order_of<S: AsStr>(alloc: Global, words: &[S]) -> Result<Order, UsageFault> {
     let command = program(alloc)?;
     match command.try_get_matches_from(words) {
-        Ok(matches) => Ok(asked(alloc, &matches)?),
+        Ok(matches) => Ok(Order::of(alloc, &matches)?),
         Err(error) => Err(refusal(alloc, &error)),
     }
 }
 
-/// The order of words that match.
-fn asked(alloc: Global, words: &ArgMatches<'_>) -> Result<Order, AllocError> {
-    Ok(Order {
-        path: String::from_str(alloc, words.get_str("file").unwrap_or(""))?,
-        workers: words.get_one::<usize>("workers").unwrap_or(1),
-        budget: words.get_one::<u64>("steps").unwrap_or(MOST_PROGRAM_STEPS),
-        stats: words.get_flag("stats"),
-    })
+/// The program.
+fn program<'a>(alloc: Global) -> Result<Command<'a>, AllocError> {
+    Command::new(alloc, "lvish_points_to")
+        .bin_name("lvish_points_to")?
+        .no_binary_name(true)
+        .about("Prints who points to whom: Andersen's analysis of a list of facts")
+        .after_help(HELP)
+        .arg(arguments::needed(alloc, "file", "FILE", "The facts"))?
+        .arg(arguments::workers(alloc))?
+        .arg(arguments::steps(alloc))?
+        .arg(arguments::stats(alloc))
 }
 
-/// Help that was asked for, or why words are refused.
-fn refusal(alloc: Global, error: &Error) -> UsageFault {
-    if error.kind() == ErrorKind::OutOfMemory {
-        return UsageFault::Memory;
-    }
-    match error.to_string(alloc) {
-        Ok(text) if error.use_stderr() => UsageFault::Refused(text),
-        Ok(text) => UsageFault::Help(text),
-        Err(_) => UsageFault::Memory,
-    }
-}
+const HELP: &str = "\
+A line of the file states a fact: `address P X` (P = &X), `copy P Q` (P = Q), `load P Q` (P = *Q) or
+`store P Q` (*P = Q). Names are any words; `#` at the begin of a word begins a comment. Each name
+that points to anything is printed with all that it points to, by the least solution of Andersen's
+constraints: a line `P: X Y`, sorted by bytes.
+
+Example:
+  lvish_points_to swap.facts
+
+Statuses:
+  0  who points to whom is printed, whole; or help was asked for
+  2  the words are refused
+  3  the file can't be opened or read
+  4  a line of the file is no fact, or none is one: standard error says which
+  5  the analysis is in error, which no run of it is
+  6  N steps were made: some of who points to whom is printed
+  7  memory was refused
+  8  standard output is full, or a thread couldn't be started";

@@ -1,4 +1,4 @@
--- What comes of a reader, of an answer and of its writing.
+-- What comes of an answer and of its writing.
 use Rattle.std.proofs.Common.{◌≡◌, ℕ, Bool, List, Option, subst}
 use Rattle.std.specs.Prelude.{IfSome}
 use Rattle.std.proofs.KnownBytes.{Keeps-refl}
@@ -8,20 +8,9 @@ use Rattle.lvish_reaching.specs.declared.fault.ReachFault.{ReachFault}
 use Rattle.lvish_reaching.specs.declared.fault.ReachFault.TheVariants as fault
 use Rattle.lvish_reach.specs.declared.performing.Outcome.{Outcome}
 use Rattle.lvish_reach.specs.declared.performing.Outcome.TheVariants.{Whole, Stopped, Alone, Unreadable, Empty, Erring, Memory, NoThread, Unwritten}
-use Rattle.lvish_reach.specs.Performs.{IsAnswerTo, Performs, IsUnread, IsWritten, outcome_of}
+use Rattle.lvish_reach.specs.Performs.{IsAnswerTo, Performs, IsWritten, outcome_of}
 
 module _ (given : Option (List ℕ)) (root : Word) (old : Option (List ℕ)) where
-  pub unread : (outcome : Outcome) → IsUnread outcome → Performs given root old old outcome
-  unread Unreadable h = Keeps-refl old
-  unread Memory h = Keeps-refl old
-  unread (Whole stats) h = absurd h
-  unread (Stopped stats) h = absurd h
-  unread (Alone number) h = absurd h
-  unread Empty h = absurd h
-  unread Erring h = absurd h
-  unread NoThread h = absurd h
-  unread Unwritten h = absurd h
-
   pub refused : (input : List ℕ) → IfSome given (λ bytes. input ≡ bytes) → (why : ReachFault) → IsRefused input why → Performs given root old old (outcome_of why)
   refused input read (fault.Alone number) is = (input, read, is, Keeps-refl old)
   refused input read fault.Empty is = (input, read, is, Keeps-refl old)

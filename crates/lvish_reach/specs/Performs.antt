@@ -1,6 +1,7 @@
 -- What the program does with a reader and a writer, by what comes of it.
-use Rattle.std.specs.Prelude.{◌≡◌, ◌≤◌, ℕ, Bool, true, false, List, length, take, Option, IfSome}
+use Rattle.std.specs.Prelude.{◌≡◌, ℕ, Bool, true, false, List, Option, IfSome}
 use Rattle.std.specs.Io.KnownBytes.{Appends, Keeps}
+use Rattle.lvish_console.specs.Writing.{TakesFront}
 use Rattle.lvish_facts.specs.Names.{Word}
 use Rattle.lvish_reaching.specs.Edges.{IsAccepted, IsEmpty, IsFirstAlone}
 use Rattle.lvish_reaching.specs.Answers.{IsAnswer}
@@ -8,10 +9,6 @@ use Rattle.lvish_reaching.specs.declared.fault.ReachFault.{ReachFault}
 use Rattle.lvish_reaching.specs.declared.fault.ReachFault.TheVariants as fault
 use Rattle.lvish_reach.specs.declared.performing.Outcome.{Outcome}
 use Rattle.lvish_reach.specs.declared.performing.Outcome.TheVariants.{Whole, Stopped, Alone, Unreadable, Empty, Erring, Memory, NoThread, Unwritten}
-
--- the writer took a front of the text and nothing else
-abbrev pub TakesFront : Option (List ℕ) → Option (List ℕ) → List ℕ → Type 0
-TakesFront old new text = (n : ℕ) × (n ≤ length text) × Appends old new (take n text)
 
 -- the text answers the bytes that were read, which are those that the reader gave
 pub record IsAnswerTo (given : Option (List ℕ)) (root : Word) (is_whole : Bool) (text : List ℕ) : Type 0 where
@@ -46,12 +43,6 @@ module _ (given : Option (List ℕ)) (root : Word) (old new : Option (List ℕ))
   Performs Unwritten = (is_whole : Bool) × (text : List ℕ) × IsAnswerTo given root is_whole text × TakesFront old new text
 
 -- ---- its parts
-
--- what comes of a reader that failed
-abbrev pub IsUnread : Outcome → Type 0
-IsUnread Unreadable = Unit {0}
-IsUnread Memory = Unit {0}
-IsUnread outcome = ⊥
 
 -- what comes of an input without an answer
 abbrev pub outcome_of : ReachFault → Outcome

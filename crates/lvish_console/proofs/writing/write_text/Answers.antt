@@ -1,7 +1,7 @@
 use Rattle.std.proofs.Common.{◌++◌, take}
 use Rattle.std.proofs.KnownBytes.{Appends-trans, Appends-kept}
-use Rattle.lvish_points_to.proofs.Moved.{front_moves, takes_front}
-use Rattle.lvish_points_to.proofs.writing.write_text.Goals as goal
+use Rattle.lvish_console.proofs.Moved.{front_moves, takes_front}
+use Rattle.lvish_console.proofs.writing.write_text.Goals as goal
 
 pub loop-rest-preserved : goal.loop-rest-preserved
 loop-rest-preserved g c =

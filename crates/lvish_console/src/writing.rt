@@ -1,6 +1,6 @@
 ghost use Rattle.std.specs.Prelude.{OnOk, OnErr};
 ghost use Rattle.std.specs.Io.KnownBytes.{Appends};
-ghost use Rattle.lvish_points_to.specs.Performs.{TakesFront};
+ghost use Rattle.lvish_console.specs.Writing.{TakesFront};
 
 use std::io::Write;
 use thiserror::Error;

@@ -5,12 +5,16 @@ use std::time::Duration;
 #[derive(Clone, Copy, Debug, PartialEq, Eq)]
 pub struct Stats {
     pub steps: u64,
-    /// How many nodes were found to be reachable.
+    /// How many facts were found.
     pub facts: usize,
 }
 
 /// The lines of `--stats`.
-pub fn stats_text(alloc: Global, stats: Stats, taken: Duration) -> Result<String, AllocError> {
+pub(crate) fn stats_text(
+    alloc: Global,
+    stats: Stats,
+    taken: Duration,
+) -> Result<String, AllocError> {
     let Stats { steps, facts } = stats;
     let seconds = taken.as_secs();
     let thousandths = taken.subsec_millis();

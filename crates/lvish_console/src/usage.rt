@@ -1,21 +1,6 @@
 use std::alloc::AllocError;
 use thiserror::Error;
 
-/// What the words ask for.
-#[derive(Debug, PartialEq, Drop)]
-pub struct Order {
-    /// The file of the edges.
-    pub path: String,
-    /// The name of the node that the walk begins at.
-    pub root: String,
-    /// How many workers walk at most.
-    pub workers: usize,
-    /// After this many steps the walk is stopped.
-    pub budget: u64,
-    /// Whether to say what it took.
-    pub stats: bool,
-}
-
 /// Why the words are no order.
 #[derive(Debug, PartialEq, Drop, Error)]
 pub enum UsageFault {
@@ -31,7 +16,7 @@ pub enum UsageFault {
 
 impl From<AllocError> for UsageFault {
     ghost use Rattle.std.specs.Prelude.{◌≡◌};
-    ghost use Rattle.lvish_reach.specs.declared.order.UsageFault.TheVariants.{Memory};
+    ghost use Rattle.lvish_console.specs.declared.usage.UsageFault.TheVariants.{Memory};
 
     ghost from_gives = { λ _ f. f ≡ Memory };
 

@@ -1,17 +1,19 @@
-/// How the program ends.
+use std::alloc::AllocError;
+
+/// How a program ends.
 #[derive(Debug, PartialEq, Drop)]
 pub enum Status {
-    /// Who points to whom is printed, or help.
+    /// All that follows is printed, or help.
     Done,
     /// The words are refused, with the text that says why.
     Usage(String),
     /// The file can't be opened or read.
     Unreadable,
-    /// The file has no facts, or a line that is none, with the text that says so.
+    /// The file is refused, with the text that says why.
     Refused(String),
     /// The analysis is in error.
     Error,
-    /// The budget was used up: some of who points to whom is printed.
+    /// The budget was used up: some of what follows is printed.
     Budget,
     /// Memory was refused.
     Memory,
@@ -22,6 +24,14 @@ pub enum Status {
 }
 
 impl Status {
+    /// That the file is refused, by the text that says why.
+    pub fn refused(text: Result<String, AllocError>) -> Status {
+        match text {
+            Ok(text) => Status::Refused(text),
+            Err(_) => Status::Memory,
+        }
+    }
+
     /// The exit status of the process.
     pub fn number(&self) -> u8 {
         match self {
@@ -42,7 +52,7 @@ impl Status {
             Status::Usage(text) | Status::Refused(text) => Some(text.as_str()),
             Status::Unreadable => Some("unreadable\n"),
             Status::Error => Some("error\n"),
-            Status::Budget => Some("the steps are used up: more may be pointed to\n"),
+            Status::Budget => Some("the steps are used up: there may be more\n"),
             Status::Memory => Some("memory\n"),
             Status::NoThread => Some("nothread\n"),
             Status::Done | Status::Unwritten => None,

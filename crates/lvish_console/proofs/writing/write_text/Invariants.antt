@@ -1,7 +1,7 @@
 -- The writer took what is gone from the rest.
 use Rattle.std.proofs.Common.{◌≡◌, List, ℕ, ◌++◌, length}
 use Rattle.std.specs.Io.KnownBytes.{Appends}
-use Rattle.lvish_reach.proofs.writing.write_text.Given as goal
+use Rattle.lvish_console.proofs.writing.write_text.Given as goal
 
 abbrev pub invariant-loop-rest : goal.invariant-loop-rest
 invariant-loop-rest g l =

@@ -1,0 +1,40 @@
+//! The words that each analysis of a file knows. Each argument has a function of its own, so that a
+//! command that is refused drops no other.
+
+use clap::builder::ValueParser;
+use clap::{Arg, ArgAction, value_parser};
+use lvish_rules::{MOST_PROGRAM_STEPS, MOST_WORKERS};
+use std::alloc::Global;
+
+/// A word that has to be there.
+pub fn needed<'a>(alloc: Global, name: &'a str, value: &'a str, help: &'a str) -> Arg<'a> {
+    Arg::new(alloc, name)
+        .value_name(value)
+        .help(help)
+        .value_parser(ValueParser::NonEmptyString)
+        .required(true)
+}
+
+pub fn workers<'a>(alloc: Global) -> Arg<'a> {
+    Arg::new(alloc, "workers")
+        .long("workers")
+        .value_name("N")
+        .help("Let up to N workers work, 1 to 8")
+        .value_parser(value_parser!(u64).range(1..=MOST_WORKERS as i64))
+        .default_value("1")
+}
+
+pub fn steps<'a>(alloc: Global) -> Arg<'a> {
+    Arg::new(alloc, "steps")
+        .long("steps")
+        .value_name("N")
+        .help("Stop after N steps; without it, after as many as a run may have")
+        .value_parser(value_parser!(u64).range(0..=MOST_PROGRAM_STEPS as i64))
+}
+
+pub fn stats<'a>(alloc: Global) -> Arg<'a> {
+    Arg::new(alloc, "stats")
+        .long("stats")
+        .help("Say on standard error how many steps, facts and seconds it took")
+        .action(ArgAction::SetTrue)
+}

@@ -1,0 +1,28 @@
+use clap::ArgMatches;
+use lvish_rules::MOST_PROGRAM_STEPS;
+use std::alloc::{AllocError, Global};
+
+/// What words ask of any analysis of a file.
+#[derive(Debug, PartialEq, Drop)]
+pub struct Order {
+    /// The file that is analysed.
+    pub path: String,
+    /// How many workers work at most.
+    pub workers: usize,
+    /// After this many steps the analysis is stopped.
+    pub budget: u64,
+    /// Whether to say what it took.
+    pub stats: bool,
+}
+
+impl Order {
+    /// The order of words that match.
+    pub fn of(alloc: Global, words: &ArgMatches<'_>) -> Result<Order, AllocError> {
+        Ok(Order {
+            path: String::from_str(alloc, words.get_str("file").unwrap_or(""))?,
+            workers: words.get_one::<usize>("workers").unwrap_or(1),
+            budget: words.get_one::<u64>("steps").unwrap_or(MOST_PROGRAM_STEPS),
+            stats: words.get_flag("stats"),
+        })
+    }
+}
