@@ -3,8 +3,12 @@
 
 use clap::builder::ValueParser;
 use clap::{Arg, ArgAction, value_parser};
-use lvish_rules::{MOST_PROGRAM_STEPS, MOST_WORKERS};
 use std::alloc::Global;
+
+/// The file that is analysed.
+pub fn file<'a>(alloc: Global, help: &'a str) -> Arg<'a> {
+    needed(alloc, "file", "FILE", help)
+}
 
 /// A word that has to be there.
 pub fn needed<'a>(alloc: Global, name: &'a str, value: &'a str, help: &'a str) -> Arg<'a> {
@@ -15,23 +19,26 @@ pub fn needed<'a>(alloc: Global, name: &'a str, value: &'a str, help: &'a str) -
         .required(true)
 }
 
-pub fn workers<'a>(alloc: Global) -> Arg<'a> {
+/// How many workers work, 1 unless it is there.
+pub fn workers<'a>(alloc: Global, most: usize) -> Arg<'a> {
     Arg::new(alloc, "workers")
         .long("workers")
         .value_name("N")
-        .help("Let up to N workers work, 1 to 8")
-        .value_parser(value_parser!(u64).range(1..=MOST_WORKERS as i64))
+        .help("Let up to N workers work")
+        .value_parser(value_parser!(u64).range(1..=most as i64))
         .default_value("1")
 }
 
-pub fn steps<'a>(alloc: Global) -> Arg<'a> {
+/// After how many steps the analysis is stopped.
+pub fn steps<'a>(alloc: Global, most: u64) -> Arg<'a> {
     Arg::new(alloc, "steps")
         .long("steps")
         .value_name("N")
         .help("Stop after N steps; without it, after as many as a run may have")
-        .value_parser(value_parser!(u64).range(0..=MOST_PROGRAM_STEPS as i64))
+        .value_parser(value_parser!(u64).range(0..=most as i64))
 }
 
+/// Whether to say what it took.
 pub fn stats<'a>(alloc: Global) -> Arg<'a> {
     Arg::new(alloc, "stats")
         .long("stats")

@@ -1,5 +1,4 @@
 use clap::ArgMatches;
-use lvish_rules::MOST_PROGRAM_STEPS;
 use std::alloc::{AllocError, Global};
 
 /// What words ask of any analysis of a file.
@@ -16,12 +15,12 @@ pub struct Order {
 }
 
 impl Order {
-    /// The order of words that match.
-    pub fn of(alloc: Global, words: &ArgMatches<'_>) -> Result<Order, AllocError> {
+    /// The order of words that match; without a number of steps, with as many as there may be.
+    pub fn of(alloc: Global, words: &ArgMatches<'_>, most: u64) -> Result<Order, AllocError> {
         Ok(Order {
             path: String::from_str(alloc, words.get_str("file").unwrap_or(""))?,
             workers: words.get_one::<usize>("workers").unwrap_or(1),
-            budget: words.get_one::<u64>("steps").unwrap_or(MOST_PROGRAM_STEPS),
+            budget: words.get_one::<u64>("steps").unwrap_or(most),
             stats: words.get_flag("stats"),
         })
     }

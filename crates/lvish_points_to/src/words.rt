@@ -2,6 +2,7 @@
 
 use clap::Command;
 use lvish_console::{Order, UsageFault, arguments, refusal};
+use lvish_rules::{MOST_PROGRAM_STEPS, MOST_WORKERS};
 use std::alloc::{AllocError, Global};
 use std::convert::AsStr;
 
@@ -9,7 +10,7 @@ use std::convert::AsStr;
 pub fn order_of<S: AsStr>(alloc: Global, words: &[S]) -> Result<Order, UsageFault> {
     let command = program(alloc)?;
     match command.try_get_matches_from(words) {
-        Ok(matches) => Ok(Order::of(alloc, &matches)?),
+        Ok(matches) => Ok(Order::of(alloc, &matches, MOST_PROGRAM_STEPS)?),
         Err(error) => Err(refusal(alloc, &error)),
     }
 }
@@ -21,9 +22,9 @@ fn program<'a>(alloc: Global) -> Result<Command<'a>, AllocError> {
         .no_binary_name(true)
         .about("Prints who points to whom: Andersen's analysis of a list of facts")
         .after_help(HELP)
-        .arg(arguments::needed(alloc, "file", "FILE", "The facts"))?
-        .arg(arguments::workers(alloc))?
-        .arg(arguments::steps(alloc))?
+        .arg(arguments::file(alloc, "The facts"))?
+        .arg(arguments::workers(alloc, MOST_WORKERS))?
+        .arg(arguments::steps(alloc, MOST_PROGRAM_STEPS))?
         .arg(arguments::stats(alloc))
 }
 

@@ -71,7 +71,7 @@ pub fn perform<H: AllocGlobal + Threads + Wait + Sync, R: Read, W: Write>(
 
 /// Writes what is reached.
 fn write_reached<W: Write>(writer: &mut W, reached: &Reached) -> Outcome
-    ensures { IsWritten (W.contents writer.old) (W.contents writer.new) reached.now.is_whole reached.now.text.items result }
+    ensures { IsWritten (W.contents writer.old) (W.contents writer.new) reached.now.is_whole reached.now.text.items reached.now.count result }
 {
     let stats = Stats {
         steps: reached.steps,

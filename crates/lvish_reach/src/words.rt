@@ -2,6 +2,7 @@
 
 use clap::{ArgMatches, Command};
 use lvish_console::{Order, UsageFault, arguments, refusal};
+use lvish_rules::{MOST_PROGRAM_STEPS, MOST_WORKERS};
 use std::alloc::{AllocError, Global};
 use std::convert::AsStr;
 
@@ -26,7 +27,7 @@ pub fn order_of<S: AsStr>(alloc: Global, words: &[S]) -> Result<ReachOrder, Usag
 fn asked(alloc: Global, words: &ArgMatches<'_>) -> Result<ReachOrder, AllocError> {
     Ok(ReachOrder {
         root: String::from_str(alloc, words.get_str("root").unwrap_or(""))?,
-        order: Order::of(alloc, words)?,
+        order: Order::of(alloc, words, MOST_PROGRAM_STEPS)?,
     })
 }
 
@@ -37,10 +38,10 @@ fn program<'a>(alloc: Global) -> Result<Command<'a>, AllocError> {
         .no_binary_name(true)
         .about("Prints which nodes a list of edges reaches from a root")
         .after_help(HELP)
-        .arg(arguments::needed(alloc, "file", "FILE", "The edges"))?
+        .arg(arguments::file(alloc, "The edges"))?
         .arg(arguments::needed(alloc, "root", "ROOT", "The name of the node to begin at"))?
-        .arg(arguments::workers(alloc))?
-        .arg(arguments::steps(alloc))?
+        .arg(arguments::workers(alloc, MOST_WORKERS))?
+        .arg(arguments::steps(alloc, MOST_PROGRAM_STEPS))?
         .arg(arguments::stats(alloc))
 }
 
