@@ -20,11 +20,11 @@ pub fn needed<'a>(alloc: Global, name: &'a str, value: &'a str, help: &'a str) -
 }
 
 /// How many workers work, 1 unless it is there.
-pub fn workers<'a>(alloc: Global, most: usize) -> Arg<'a> {
+pub fn workers<'a>(alloc: Global, most: usize, help: &'a str) -> Arg<'a> {
     Arg::new(alloc, "workers")
         .long("workers")
         .value_name("N")
-        .help("Let up to N workers work")
+        .help(help)
         .value_parser(value_parser!(u64).range(1..=most as i64))
         .default_value("1")
 }
