@@ -3,7 +3,7 @@ ghost use Rattle.lvish_reaching.specs.Edges.{IsAccepted};
 ghost use Rattle.lvish_reaching.specs.Answers.{IsAnswer, IsRefused};
 
 use crate::fault::ReachFault;
-use crate::listing::{Listing, listing};
+use crate::listing::{Listed, listing};
 use crate::reading::read_graph;
 use lvish_facts::Node;
 use lvish_facts::laws::gathers;
@@ -59,7 +59,7 @@ pub fn reach_answer<H: Threads + Wait + Sync>(
         unreachable!()
     };
     let nodes = set.events(alloc)?;
-    let Listing { text, count } = listing(alloc, &analysis.rules, nodes.as_slice())?;
+    let Listed { text, count } = listing(alloc, &analysis.rules, nodes.as_slice())?;
     Ok(Reached {
         text,
         is_whole: answer.is_whole(),
