@@ -2,7 +2,7 @@ use clap::ArgMatches;
 use std::alloc::{AllocError, Global};
 
 /// What words ask of any analysis of a file.
-#[derive(Debug, PartialEq, Drop)]
+#[derive(Debug, Drop)]
 pub struct Order {
     /// The file that is analysed.
     pub path: String,

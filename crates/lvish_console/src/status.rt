@@ -1,7 +1,7 @@
 use std::alloc::AllocError;
 
 /// How a program ends.
-#[derive(Debug, PartialEq, Drop)]
+#[derive(Debug, Drop)]
 pub enum Status {
     /// All that follows is printed, or help.
     Done,

@@ -2,7 +2,7 @@ use std::alloc::AllocError;
 use thiserror::Error;
 
 /// Why the words are no order.
-#[derive(Debug, PartialEq, Drop, Error)]
+#[derive(Debug, Drop, Error)]
 pub enum UsageFault {
     /// Help was asked for: this is it.
     #[error("{0}")]

@@ -7,7 +7,7 @@ use std::alloc::{AllocError, Global};
 use std::convert::AsStr;
 
 /// What the words ask for.
-#[derive(Debug, PartialEq, Drop)]
+#[derive(Drop)]
 pub struct ReachOrder {
     /// The name of the node that the walk begins at.
     pub root: String,
