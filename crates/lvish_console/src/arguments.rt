@@ -20,22 +20,22 @@ pub fn needed<'a>(alloc: Global, name: &'a str, value: &'a str, help: &'a str) -
 }
 
 /// How many workers work, 1 unless it is there.
-pub fn workers<'a>(alloc: Global, most: usize, help: &'a str) -> Arg<'a> {
+pub fn workers<'a>(alloc: Global, most: i64, help: &'a str) -> Arg<'a> {
     Arg::new(alloc, "workers")
         .long("workers")
         .value_name("N")
         .help(help)
-        .value_parser(value_parser!(u64).range(1..=most as i64))
+        .value_parser(value_parser!(u64).range(1..=most))
         .default_value("1")
 }
 
 /// After how many steps the analysis is stopped.
-pub fn steps<'a>(alloc: Global, most: u64) -> Arg<'a> {
+pub fn steps<'a>(alloc: Global, most: i64) -> Arg<'a> {
     Arg::new(alloc, "steps")
         .long("steps")
         .value_name("N")
         .help("Stop after N steps; without it, after as many as a run may have")
-        .value_parser(value_parser!(u64).range(0..=most as i64))
+        .value_parser(value_parser!(u64).range(0..=most))
 }
 
 /// Whether to say what it took.

@@ -23,8 +23,12 @@ fn program<'a>(alloc: Global) -> Result<Command<'a>, AllocError> {
         .about("Prints who points to whom: Andersen's analysis of a list of facts")
         .after_help(HELP)
         .arg(arguments::file(alloc, "The facts"))?
-        .arg(arguments::workers(alloc, MOST_WORKERS, "Let up to N workers work, 1 to 8"))?
-        .arg(arguments::steps(alloc, MOST_PROGRAM_STEPS))?
+        .arg(arguments::workers(
+            alloc,
+            MOST_WORKERS as i64,
+            "Let up to N workers work, 1 to 8",
+        ))?
+        .arg(arguments::steps(alloc, MOST_PROGRAM_STEPS as i64))?
         .arg(arguments::stats(alloc))
 }
 

@@ -40,8 +40,12 @@ fn program<'a>(alloc: Global) -> Result<Command<'a>, AllocError> {
         .after_help(HELP)
         .arg(arguments::file(alloc, "The edges"))?
         .arg(arguments::needed(alloc, "root", "ROOT", "The name of the node to begin at"))?
-        .arg(arguments::workers(alloc, MOST_WORKERS, "Let up to N workers walk, 1 to 8"))?
-        .arg(arguments::steps(alloc, MOST_PROGRAM_STEPS))?
+        .arg(arguments::workers(
+            alloc,
+            MOST_WORKERS as i64,
+            "Let up to N workers walk, 1 to 8",
+        ))?
+        .arg(arguments::steps(alloc, MOST_PROGRAM_STEPS as i64))?
         .arg(arguments::stats(alloc))
 }
 

@@ -1,4 +1,4 @@
-use Rattle.std.proofs.Common.{◌↔◌, ◌∙◌, List, Contains, length, sym, ap, subst}
+use Rattle.std.proofs.Common.{◌↔◌, ◌∙◌, List, Contains, length, sym, ap, subst, arith}
 use Rattle.std.specs.Borrow.{Bor}
 use Rattle.std.proofs.lemmas.List.{length-map}
 use Rattle.lvish_facts.specs.declared.node.Node.{Node}
@@ -13,7 +13,7 @@ returns c =
     record {
       names = names_in sorted;
       spelled = c.in_ok-lines_with.ensures ∙ ap (λ (refs : List (Bor Word)). lines_with (names_in refs)) c.as_slice-2.ensures.value;
-      counted = c.len.ensures ∙ sym (length-map sorted (λ (ref : Bor Word). ref.now));
+      counted = omega (arith, c.len.ensures, c.in_ok-sorted.sorted.ok.0, length-map sorted (λ (ref : Bor Word). ref.now));
       rising = c.in_ok-sorted.ensures.rising;
       of_nodes = λ name.
           let same = c.in_ok-sorted.ensures.same name in
