@@ -12,7 +12,7 @@ use Rattle.lvish_pointing.specs.declared.fact.Fact.{Fact}
 use Rattle.lvish_pointing.specs.Solutions.{IsSolution, IsInEvery}
 use Rattle.lvish_pointing.specs.Numbers.{name_at, named, AreInside}
 use Rattle.lvish_pointing.specs.Pointing.{pointing}
-use Rattle.lvish_pointing.specs.Answers.{Row, Says, IsOrdered, IsAnswer, lines_with}
+use Rattle.lvish_pointing.specs.Answers.{Row, Says, IsOrdered, IsAnswer, lines_with, pointed}
 use Rattle.lvish_pointing.specs.Facts.{facts_of}
 use Rattle.lvish_pointing.specs.Rows.{rows_of}
 use Rattle.lvish_pointing.proofs.Least.{Held, held_within, held_inside, held_solves}
@@ -62,11 +62,12 @@ module _ {S : Type 0} (only : Node → S) (items : S → List Node) (one : (x : 
     rows_exact p x every = pairs_say rows p x (every (pairs_of rows) rows_solve)
 
   -- the text of the rows is an answer to the input
-  pub is_answer : (input text : List ℕ) (is_whole : Bool) → map (named names) facts ≡ facts_of input → text ≡ lines_with rows → ((s : S) → IsStrictlySortedBy node_cmp (items s))
-      → HasOnly items (pointing only (length names) facts) states → (is_whole ≡ true → HasExactly items (pointing only (length names) facts) states) → IsAnswer input is_whole text
-  is_answer input text is_whole is spelled ascend has all = record {
+  pub is_answer : (input text : List ℕ) (count : ℕ) (is_whole : Bool) → map (named names) facts ≡ facts_of input → text ≡ lines_with rows → count ≡ pointed rows → ((s : S) → IsStrictlySortedBy node_cmp (items s))
+      → HasOnly items (pointing only (length names) facts) states → (is_whole ≡ true → HasExactly items (pointing only (length names) facts) states) → IsAnswer input is_whole text count
+  is_answer input text count is_whole is spelled counted ascend has all = record {
     rows = rows;
     spelled = spelled;
+    counted = counted;
     rising = rows_rise items names states names_rise;
     ordered = each_ordered has ascend;
     sound = λ p x says. subst (λ (fs : List (Fact Word)). IsInEvery fs p x) is (rows_sound has p x says);
@@ -75,8 +76,8 @@ module _ {S : Type 0} (only : Node → S) (items : S → List Node) (one : (x : 
 
 -- the same, for facts over as many names
 pub answered : {S : Type 0} (only : Node → S) (items : S → List Node) → ((x : Node) → items (only x) ≡ x ∷ []) → ((s : S) → IsStrictlySortedBy node_cmp (items s)) → (names : List Word) → IsStrictlySortedBy (slice_cmp nat_cmp) names
-    → (count : ℕ) → count ≡ length names → (facts : List (Fact Node)) → AreInside count facts → (states : List S) (input text : List ℕ) (is_whole : Bool) → map (named names) facts ≡ facts_of input → text ≡ lines_with (rows_of items names states (length names))
-    → HasOnly items (pointing only count facts) states → (is_whole ≡ true → HasExactly items (pointing only count facts) states) → IsAnswer input is_whole text
-answered only items one ascend names rise count same facts inside states input text is_whole is spelled has all =
-    is_answer only items one names rise facts (subst (λ n. AreInside n facts) same inside) states input text is_whole is spelled ascend
+    → (count : ℕ) → count ≡ length names → (facts : List (Fact Node)) → AreInside count facts → (states : List S) (input text : List ℕ) (many : ℕ) (is_whole : Bool) → map (named names) facts ≡ facts_of input → text ≡ lines_with (rows_of items names states (length names)) → many ≡ pointed (rows_of items names states (length names))
+    → HasOnly items (pointing only count facts) states → (is_whole ≡ true → HasExactly items (pointing only count facts) states) → IsAnswer input is_whole text many
+answered only items one ascend names rise count same facts inside states input text many is_whole is spelled counted has all =
+    is_answer only items one names rise facts (subst (λ n. AreInside n facts) same inside) states input text many is_whole is spelled counted ascend
     (subst (λ n. HasOnly items (pointing only n facts) states) same has) (λ w. subst (λ n. HasExactly items (pointing only n facts) states) same (all w))

@@ -7,3 +7,4 @@ pub mod Lines
 pub mod Texts
 pub mod Searched
 pub mod Gathered
+pub mod Counted

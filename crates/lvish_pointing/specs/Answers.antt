@@ -1,6 +1,6 @@
 -- Who points to whom, as a text.
-use Rattle.std.specs.Prelude.{◌≡◌, ℕ, Bool, true, List, [], ◌∷◌, ◌++◌, Contains}
-use Rattle.std.specs.List.{flat_map}
+use Rattle.std.specs.Prelude.{◌≡◌, ℕ, Bool, true, List, [], ◌∷◌, ◌++◌, length, Contains}
+use Rattle.std.specs.List.{flat_map, sum_by}
 use Rattle.std.specs.List.Sorted.{IsStrictlySortedBy}
 use Rattle.std.specs.Ordering.{nat_cmp, on}
 use Rattle.std.specs.Cmp.Lexicographic.{slice_cmp}
@@ -22,6 +22,10 @@ line_with row = row.pointer ++ 58 ∷ (flat_map (λ name. 32 ∷ name) row.targe
 abbrev pub lines_with : List Row → List ℕ
 lines_with rows = flat_map line_with rows
 
+-- how many names are pointed to, counted at each that points to them
+abbrev pub pointed : List Row → ℕ
+pointed rows = sum_by (λ row. length row.targets) rows
+
 -- the row has names, in the order of their bytes, each once
 pub record IsOrdered (row : Row) : Type 0 where
   pub some : row.targets ≡ [] → ⊥
@@ -34,10 +38,11 @@ pub record Says (rows : List Row) (p x : Word) : Type 0 where
   pub of : row.pointer ≡ p
   pub names : Contains row.targets x
 
--- the text has who points to whom in every solution, in the order of their bytes, each once; and all of these, where it is whole
-pub record IsAnswer (input : List ℕ) (is_whole : Bool) (text : List ℕ) : Type 0 where
+-- the text has who points to whom in every solution, in the order of their bytes, each once, this many names at their pointers; and all of these, where it is whole
+pub record IsAnswer (input : List ℕ) (is_whole : Bool) (text : List ℕ) (count : ℕ) : Type 0 where
   pub rows : List Row
   pub spelled : text ≡ lines_with rows
+  pub counted : count ≡ pointed rows
   pub rising : IsStrictlySortedBy (on (λ row. row.pointer) (slice_cmp nat_cmp)) rows
   pub ordered : (row : Row) → Contains rows row → IsOrdered row
   pub sound : (p x : Word) → Says rows p x → IsInEvery (facts_of input) p x

@@ -3,7 +3,7 @@ ghost use Rattle.lvish_pointing.specs.Facts.{IsAccepted};
 ghost use Rattle.lvish_pointing.specs.Answers.{IsAnswer, IsRefused};
 
 use crate::fault::PointFault;
-use crate::listing::{count_pairs, listing};
+use crate::listing::{Listed, listing};
 use crate::numbering::{constraints_of, names_of};
 use crate::reading::read_facts;
 use lvish_rules::{MOST_PROGRAM_STEPS, MOST_WORKERS, Ruled, solve};
@@ -42,7 +42,7 @@ pub fn points_answer<H: Threads + Wait + Sync>(
     requires few { workers ≤ MOST_WORKERS }
     ensures accepted { IfOk result (λ _. IsAccepted text.now) }
     // What is said holds in every solution; and if it is whole, all that does is said.
-    ensures answer { IfOk result (λ r. IsAnswer text.now r.is_whole r.text.items) }
+    ensures answer { IfOk result (λ r. IsAnswer text.now r.is_whole r.text.items r.count) }
     // It is whole, or all steps are used up.
     ensures spent { IfOk result (λ r. r.is_whole ≡ false → (r.steps ≡ budget) ⊎ (r.steps ≡ MOST_PROGRAM_STEPS)) }
     ensures refused { IfErr result (IsRefused text.now) }
@@ -51,10 +51,11 @@ pub fn points_answer<H: Threads + Wait + Sync>(
     let names = names_of(alloc, facts.as_slice())?;
     let constraints = constraints_of(alloc, names.as_slice(), facts.as_slice())?;
     let answer = solve(rt, alloc, &Ruled { rules: constraints }, workers, budget)?;
+    let Listed { text, count } = listing(alloc, names.as_slice(), &answer)?;
     Ok(Pointed {
-        text: listing(alloc, names.as_slice(), &answer)?,
+        text,
         is_whole: answer.is_whole(),
-        count: count_pairs(&answer),
+        count,
         steps: answer.steps(),
     })
 }

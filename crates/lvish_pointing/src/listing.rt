@@ -1,7 +1,7 @@
 ghost use Rattle.std.specs.Prelude.{◌≡◌, ◌++◌, IfOk, OnOk, length};
 ghost use Rattle.lvish_lattice.specs.GrowSet.{items_of};
 ghost use Rattle.lvish_facts.specs.Names.{names_in};
-ghost use Rattle.lvish_pointing.specs.Answers.{lines_with};
+ghost use Rattle.lvish_pointing.specs.Answers.{lines_with, pointed};
 ghost use Rattle.lvish_pointing.specs.Numbers.{name_at};
 ghost use Rattle.lvish_pointing.specs.Rows.{rows_of, row_of};
 
@@ -42,30 +42,30 @@ fn put_row(
     Ok(())
 }
 
-/// How many names are pointed to, counted at each that points to them.
-pub fn count_pairs(answer: &Answer<GrowSet<Node>>) -> usize {
-    let mut count: usize = 0;
-    for relation in 0..answer.relations() {
-        if let Some(targets) = answer.state(relation) {
-            count = count.saturating_add(targets.len());
-        }
-    }
-    count
+/// Who points to whom, a line for each that points to anything.
+#[derive(Drop)]
+pub struct Listed {
+    pub text: Vec<u8>,
+    /// How many names are pointed to, counted at each that points to them.
+    pub count: usize,
 }
 
-/// Who points to whom, a line for each that points to anything.
+/// Who points to whom by the answer, over these names.
 pub fn listing(
     alloc: Global,
     names: &[&[u8]],
     answer: &Answer<GrowSet<Node>>,
-) -> Result<Vec<u8>, AllocError>
-    ensures { IfOk result (λ text. text.items ≡ lines_with (rows_of items_of (names_in names.now) answer.now.states (length (names_in names.now)))) }
+) -> Result<Listed, AllocError>
+    ensures text { IfOk result (λ l. l.text.items ≡ lines_with (rows_of items_of (names_in names.now) answer.now.states (length (names_in names.now)))) }
+    ensures counted { IfOk result (λ l. l.count ≡ pointed (rows_of items_of (names_in names.now) answer.now.states (length (names_in names.now)))) }
 {
     let mut text = Vec::new(alloc);
+    let mut count = 0;
     for number in 0..names.len() {
         if let Some(targets) = answer.state(number) {
             put_row(&mut text, names, Node { number }, targets)?;
+            count += targets.len();
         }
     }
-    Ok(text)
+    Ok(Listed { text, count })
 }

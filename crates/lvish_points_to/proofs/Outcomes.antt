@@ -17,13 +17,16 @@ module _ (given : Option (List ℕ)) (old : Option (List ℕ)) where
   refused input read fault.Memory is = Keeps-refl old
   refused input read fault.NoThread is = Keeps-refl old
 
-  pub written : (new : Option (List ℕ)) (is_whole : Bool) (text : List ℕ) → IsAnswerTo given is_whole text → (outcome : Outcome) → IsWritten old new is_whole text outcome → Performs given old new outcome
-  written new is_whole text is (Whole stats) h = (text, subst (λ b. IsAnswerTo given b text) h.0 is, h.1)
-  written new is_whole text is (Stopped stats) h = (text, subst (λ b. IsAnswerTo given b text) h.0 is, h.1)
-  written new is_whole text is Unwritten h = (is_whole, text, is, h)
-  written new is_whole text is (Line number expected) h = absurd h
-  written new is_whole text is Unreadable h = absurd h
-  written new is_whole text is Empty h = absurd h
-  written new is_whole text is Erring h = absurd h
-  written new is_whole text is Memory h = absurd h
-  written new is_whole text is NoThread h = absurd h
+  same_answer : (text : List ℕ) (a b : Bool) (m n : ℕ) → a ≡ b → m ≡ n → IsAnswerTo given a text m → IsAnswerTo given b text n
+  same_answer text a b m n e f is = subst (λ w. IsAnswerTo given w text n) e (subst (λ k. IsAnswerTo given a text k) f is)
+
+  pub written : (new : Option (List ℕ)) (is_whole : Bool) (text : List ℕ) (count : ℕ) → IsAnswerTo given is_whole text count → (outcome : Outcome) → IsWritten old new is_whole text count outcome → Performs given old new outcome
+  written new is_whole text count is (Whole stats) h = (text, same_answer text is_whole true count stats.facts h.0 h.1 is, h.2)
+  written new is_whole text count is (Stopped stats) h = (text, same_answer text is_whole false count stats.facts h.0 h.1 is, h.2)
+  written new is_whole text count is Unwritten h = (is_whole, text, count, is, h)
+  written new is_whole text count is (Line number expected) h = absurd h
+  written new is_whole text count is Unreadable h = absurd h
+  written new is_whole text count is Empty h = absurd h
+  written new is_whole text count is Erring h = absurd h
+  written new is_whole text count is Memory h = absurd h
+  written new is_whole text count is NoThread h = absurd h

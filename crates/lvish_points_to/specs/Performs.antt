@@ -10,17 +10,17 @@ use Rattle.lvish_pointing.specs.Answers.{IsAnswer}
 use Rattle.lvish_points_to.specs.declared.performing.Outcome.{Outcome}
 use Rattle.lvish_points_to.specs.declared.performing.Outcome.TheVariants.{Whole, Stopped, Line, Unreadable, Empty, Erring, Memory, NoThread, Unwritten}
 
--- the text answers the bytes that were read, which are those that the reader gave
-pub record IsAnswerTo (given : Option (List ℕ)) (is_whole : Bool) (text : List ℕ) : Type 0 where
+-- the text names as many as are pointed to, and answers the bytes that were read, which are those that the reader gave
+pub record IsAnswerTo (given : Option (List ℕ)) (is_whole : Bool) (text : List ℕ) (count : ℕ) : Type 0 where
   pub input : List ℕ
   pub read : IfSome given (λ bytes. input ≡ bytes)
   pub accepted : IsAccepted input
-  pub answer : IsAnswer input is_whole text
+  pub answer : IsAnswer input is_whole text count
 
 module _ (given : Option (List ℕ)) (old new : Option (List ℕ)) where
   -- the answer was written, and nothing else
-  abbrev pub Writes : Bool → Type 0
-  Writes is_whole = (text : List ℕ) × IsAnswerTo given is_whole text × Appends old new text
+  abbrev pub Writes : Bool → ℕ → Type 0
+  Writes is_whole count = (text : List ℕ) × IsAnswerTo given is_whole text count × Appends old new text
 
   -- nothing was written, since this is missing on this line of the bytes that were read
   abbrev pub Refuses : ℕ → Expected → Type 0
@@ -32,15 +32,15 @@ module _ (given : Option (List ℕ)) (old new : Option (List ℕ)) where
 
   -- from a reader that gives `given`, the writer comes from `old` to `new`
   abbrev pub Performs : Outcome → Type 0
-  Performs (Whole stats) = Writes true
-  Performs (Stopped stats) = Writes false
+  Performs (Whole stats) = Writes true stats.facts
+  Performs (Stopped stats) = Writes false stats.facts
   Performs (Line number expected) = Refuses number expected
   Performs Unreadable = Keeps old new
   Performs Empty = RefusesEmpty
   Performs Erring = Keeps old new
   Performs Memory = Keeps old new
   Performs NoThread = Keeps old new
-  Performs Unwritten = (is_whole : Bool) × (text : List ℕ) × IsAnswerTo given is_whole text × TakesFront old new text
+  Performs Unwritten = (is_whole : Bool) × (text : List ℕ) × (count : ℕ) × IsAnswerTo given is_whole text count × TakesFront old new text
 
 -- ---- its parts
 
@@ -52,9 +52,9 @@ outcome_of (fault.Erring kind) = Erring
 outcome_of fault.Memory = Memory
 outcome_of fault.NoThread = NoThread
 
--- the text was written, and the outcome says whether it is whole; or a front of it was
-abbrev pub IsWritten : Option (List ℕ) → Option (List ℕ) → Bool → List ℕ → Outcome → Type 0
-IsWritten old new is_whole text (Whole stats) = (is_whole ≡ true) × Appends old new text
-IsWritten old new is_whole text (Stopped stats) = (is_whole ≡ false) × Appends old new text
-IsWritten old new is_whole text Unwritten = TakesFront old new text
-IsWritten old new is_whole text outcome = ⊥
+-- the text was written, and the outcome says whether it is whole, and how many names are pointed to; or a front of it was
+abbrev pub IsWritten : Option (List ℕ) → Option (List ℕ) → Bool → List ℕ → ℕ → Outcome → Type 0
+IsWritten old new is_whole text count (Whole stats) = (is_whole ≡ true) × (count ≡ stats.facts) × Appends old new text
+IsWritten old new is_whole text count (Stopped stats) = (is_whole ≡ false) × (count ≡ stats.facts) × Appends old new text
+IsWritten old new is_whole text count Unwritten = TakesFront old new text
+IsWritten old new is_whole text count outcome = ⊥

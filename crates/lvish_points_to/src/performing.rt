@@ -70,7 +70,7 @@ pub fn perform<H: AllocGlobal + Threads + Wait + Sync, R: Read, W: Write>(
 
 /// Writes the answer.
 fn write_pointed<W: Write>(writer: &mut W, pointed: &Pointed) -> Outcome
-    ensures { IsWritten (W.contents writer.old) (W.contents writer.new) pointed.now.is_whole pointed.now.text.items result }
+    ensures { IsWritten (W.contents writer.old) (W.contents writer.new) pointed.now.is_whole pointed.now.text.items pointed.now.count result }
 {
     let stats = Stats {
         steps: pointed.steps,

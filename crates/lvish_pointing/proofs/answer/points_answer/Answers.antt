@@ -6,7 +6,7 @@ use Rattle.lvish_lattice.specs.GrowSet.{items_of, items_ascend}
 use Rattle.lvish_rules.specs.Sets.{only}
 use Rattle.lvish_facts.specs.Names.{names_in}
 use Rattle.lvish_pointing.specs.Numbers.{spelled, names_of}
-use Rattle.lvish_pointing.specs.Answers.{lines_with}
+use Rattle.lvish_pointing.specs.Answers.{lines_with, pointed}
 use Rattle.lvish_pointing.specs.Rows.{rows_of}
 use Rattle.lvish_pointing.proofs.Composed.{answered}
 use Rattle.lvish_pointing.proofs.answer.points_answer.Goals as goal
@@ -23,7 +23,8 @@ returns-clause-answer g c =
     let names = names_in c.as_slice-2.result.now in
     let rise : IsStrictlySortedBy (slice_cmp nat_cmp) names = subst (λ ns. IsStrictlySortedBy (slice_cmp nat_cmp) (names_in ns)) (sym c.as_slice-2.ensures.value) c.in_ok-names.ensures.rising in
     let again = c.as_slice-4.ensures.value ∙ sym c.as_slice-2.ensures.value in
-    let text = c.in_ok-listing.ensures ∙ (λ i. lines_with (rows_of items_of (names_in (again i)) a.states (length (names_in (again i))))) in
+    let text = c.in_ok-text.ensures.text ∙ (λ i. lines_with (rows_of items_of (names_in (again i)) a.states (length (names_in (again i))))) in
+    let counted = c.in_ok-text.ensures.counted ∙ (λ i. pointed (rows_of items_of (names_in (again i)) a.states (length (names_in (again i))))) in
     let facts = c.in_ok-constraints.ensures.named ∙ ap (map spelled) c.as_slice-3.ensures.value ∙ c.in_ok-facts.ensures.facts in
-    answered only items_of (λ x. refl) items_ascend names rise k.names c.in_ok-constraints.ensures.names k.facts k.inside a.states c.args.text.now c.in_ok-listing.field-0.items c.is_whole.result facts text c.in_ok-answer.ensures.sound (λ w.
+    answered only items_of (λ x. refl) items_ascend names rise k.names c.in_ok-constraints.ensures.names k.facts k.inside a.states c.args.text.now c.in_ok-text.field-0.text.items c.in_ok-text.field-0.count c.is_whole.result facts text counted c.in_ok-answer.ensures.sound (λ w.
     c.in_ok-answer.ensures.exact (sym c.is_whole.ensures ∙ w))
