@@ -62,7 +62,8 @@ module _ {S : Type 0} (only : Node → S) (items : S → List Node) (one : (x : 
     rows_exact p x every = pairs_say rows p x (every (pairs_of rows) rows_solve)
 
   -- the text of the rows is an answer to the input
-  pub is_answer : (input text : List ℕ) (count : ℕ) (is_whole : Bool) → map (named names) facts ≡ facts_of input → text ≡ lines_with rows → count ≡ pointed rows → ((s : S) → IsStrictlySortedBy node_cmp (items s))
+  pub is_answer : (input text : List ℕ) (count : ℕ) (is_whole : Bool) → map (named names) facts ≡ facts_of input
+      → text ≡ lines_with rows → count ≡ pointed rows → ((s : S) → IsStrictlySortedBy node_cmp (items s))
       → HasOnly items (pointing only (length names) facts) states → (is_whole ≡ true → HasExactly items (pointing only (length names) facts) states) → IsAnswer input is_whole text count
   is_answer input text count is_whole is spelled counted ascend has all = record {
     rows = rows;
@@ -75,7 +76,9 @@ module _ {S : Type 0} (only : Node → S) (items : S → List Node) (one : (x : 
   }
 
 -- the same, for facts over as many names
-pub answered : {S : Type 0} (only : Node → S) (items : S → List Node) → ((x : Node) → items (only x) ≡ x ∷ []) → ((s : S) → IsStrictlySortedBy node_cmp (items s)) → (names : List Word) → IsStrictlySortedBy (slice_cmp nat_cmp) names
+pub answered : {S : Type 0} (only : Node → S) (items : S → List Node) → ((x : Node) → items (only x) ≡ x ∷ [])
+    → ((s : S) → IsStrictlySortedBy node_cmp (items s)) → (names : List Word)
+    → IsStrictlySortedBy (slice_cmp nat_cmp) names
     → (count : ℕ) → count ≡ length names → (facts : List (Fact Node)) → AreInside count facts → (states : List S) (input text : List ℕ) (many : ℕ) (is_whole : Bool) → map (named names) facts ≡ facts_of input → text ≡ lines_with (rows_of items names states (length names)) → many ≡ pointed (rows_of items names states (length names))
     → HasOnly items (pointing only count facts) states → (is_whole ≡ true → HasExactly items (pointing only count facts) states) → IsAnswer input is_whole text many
 answered only items one ascend names rise count same facts inside states input text many is_whole is spelled counted has all =

@@ -1,5 +1,5 @@
 -- How many names are pointed to, and that the text has room for their number.
-use Rattle.std.proofs.Common.{◌≡◌, ◌≤◌, ◌+◌, ℕ, suc, List, [], ◌∷◌, ◌++◌, length, slice_get, refl, arith, length-append}
+use Rattle.std.proofs.Common.{◌≡◌, ◌≤◌, ◌+◌, List, [], ◌∷◌, ◌++◌, length, refl, arith, length-append}
 use Rattle.std.specs.List.{flat_map}
 use Rattle.std.proofs.lemmas.List.{length-map}
 use Rattle.std.proofs.lemmas.List.Sums.{sum_by-append, sum_by-cons}
@@ -7,7 +7,7 @@ use Rattle.lvish_facts.specs.declared.node.Node.{Node}
 use Rattle.lvish_facts.specs.Names.{Word}
 use Rattle.lvish_pointing.specs.Numbers.{name_at}
 use Rattle.lvish_pointing.specs.Answers.{Row, line_with, lines_with, pointed}
-use Rattle.lvish_pointing.specs.Rows.{row_of, row_at, rows_of}
+use Rattle.lvish_pointing.specs.Rows.{row_of}
 
 names_fit : (names : List Word) → length names ≤ length (flat_map (λ (name : Word). 32 ∷ name) names)
 names_fit [] = omega arith

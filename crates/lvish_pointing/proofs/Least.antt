@@ -80,13 +80,15 @@ module _ {S : Type 0} (only : Node → S) (events : S → List Node) (one : (x :
         let same : w ≡ k = cc in
         subst (λ (v : Watching). Keeps p v) same keeps
 
-    first_sound : (kind : Kind) (left right : Node) → left.number < count → right.number < count → IsMetAs P kind left right → IsSound (first_as only count kind left right)
+    first_sound : (kind : Kind) (left right : Node) → left.number < count → right.number < count
+        → IsMetAs P kind left right → IsSound (first_as only count kind left right)
     first_sound Address p x h k met = put_sound p x met
     first_sound Copy p q h k met = watch_sound q (Into p) h met
     first_sound Load p q h k met = watch_sound q (Loading p) h met
     first_sound Store p q h k met = watch_sound p (Storing q) k met
 
-    then_sound : (r w : ℕ) (x : Node) (k : Option Watching) → watching_of count w ≡ k → IsSound (Watch r w) → P (node r) x → x.number < count → (m : Move S) → Contains (then_of only count k x) m → IsSound m
+    then_sound : (r w : ℕ) (x : Node) (k : Option Watching) → watching_of count w ≡ k → IsSound (Watch r w)
+        → P (node r) x → x.number < count → (m : Move S) → Contains (then_of only count k x) m → IsSound m
     then_sound r w x None e keeps h lt m c = absurd (omega (arith, c.1))
     then_sound r w x (Some (Into p)) e keeps h lt m c = subst IsSound (of_one _ m c) (put_sound p x (keeps (Into p) e x h))
     then_sound r w x (Some (Loading p)) e keeps h lt m c =
@@ -94,7 +96,8 @@ module _ {S : Type 0} (only : Node → S) (events : S → List Node) (one : (x :
     then_sound r w x (Some (Storing q)) e keeps h lt m c =
         subst IsSound (of_one _ m c) (watch_sound q (Into x) lt (λ y g. keeps (Storing q) e x y h g))
 
-    fired_sound : (r w : ℕ) (x : Node) (b : Bool) → nat_lt x.number count ≡ b → IsSound (Watch r w) → P (node r) x → (m : Move S) → Contains (if b then then_of only count (watching_of count w) x else []) m → IsSound m
+    fired_sound : (r w : ℕ) (x : Node) (b : Bool) → nat_lt x.number count ≡ b → IsSound (Watch r w) → P (node r) x
+        → (m : Move S) → Contains (if b then then_of only count (watching_of count w) x else []) m → IsSound m
     fired_sound r w x true z keeps h m c = then_sound r w x (watching_of count w) refl keeps h (ltb-true x.number count z) m c
     fired_sound r w x false z keeps h m c = absurd (omega (arith, c.1))
 
@@ -130,7 +133,9 @@ module _ {S : Type 0} (only : Node → S) (events : S → List Node) (one : (x :
   put_held p x h = (only x, h, has_one x)
 
   -- what a watch makes of what its pointer points to follows
-  then_follows : (p x : Node) (w : Watching) → (node_of w).number < count → Follows events rules (Watch p.number (number_of count w)) → Held p x → (m : Move S) → Contains (then_of only count (Some w) x) m → Follows events rules m
+  then_follows : (p x : Node) (w : Watching) → (node_of w).number < count
+      → Follows events rules (Watch p.number (number_of count w)) → Held p x → (m : Move S)
+      → Contains (then_of only count (Some w) x) m → Follows events rules m
   then_follows p x w h watch held m c =
       let lt : nat_lt x.number count ≡ true = lt-ltb x.number count (held_inside p x held).1 in
       let is : then_of only count (watching_of count (number_of count w)) x ≡ then_of only count (Some w) x = ap (λ k. then_of only count k x) (found_again count w h) in

@@ -192,7 +192,9 @@ module _ {S : Type 0} (items : S → List Node) (names : List Word) (states : Li
     pub rows_rise : IsStrictlySortedBy by_pointer (rows (length names))
     rows_rise = rows_sorted (length names) (omega arith)
 
-    pub rows_ordered : ((s : S) → IsStrictlySortedBy node_cmp (items s)) → ((k : ℕ) (s : S) → slice_get states k ≡ Some s → (n : Node) → Contains (items s) n → n.number < length names) → (r : Row) → Contains (rows (length names)) r → IsOrdered r
+    pub rows_ordered : ((s : S) → IsStrictlySortedBy node_cmp (items s))
+        → ((k : ℕ) (s : S) → slice_get states k ≡ Some s → (n : Node) → Contains (items s) n
+        → n.number < length names) → (r : Row) → Contains (rows (length names)) r → IsOrdered r
     rows_ordered ascend inside r c =
         let t = rows_there (length names) r c in
         let is = row_is t.0 r t.2 in

@@ -45,7 +45,8 @@ module _ {X : Type 0} (c : X → X → Ordering) where
   unfolding IsStrictlySortedBy
   none_sorted = tt
 
-  pub both_sorted : (xs ys : List X) → IsStrictlySortedBy c xs → IsStrictlySortedBy c ys → ((x y : X) → Contains xs x → Contains ys y → c x y ≡ Less) → IsStrictlySortedBy c (xs ++ ys)
+  pub both_sorted : (xs ys : List X) → IsStrictlySortedBy c xs → IsStrictlySortedBy c ys
+      → ((x y : X) → Contains xs x → Contains ys y → c x y ≡ Less) → IsStrictlySortedBy c (xs ++ ys)
   unfolding IsStrictlySortedBy
   both_sorted [] ys s t h = t
   both_sorted (x ∷ xs) ys s t h = (
@@ -57,17 +58,22 @@ module _ {X : Type 0} (c : X → X → Ordering) where
   )
 
 -- a list of what rises is strictly sorted
-pub map_sorted : {X Y : Type 0} (c : X → X → Ordering) (d : Y → Y → Ordering) (f : X → Y) (xs : List X) → IsStrictlySortedBy c xs → ((a b : X) → Contains xs a → Contains xs b → c a b ≡ Less → d (f a) (f b) ≡ Less) → IsStrictlySortedBy d (map f xs)
+pub map_sorted : {X Y : Type 0} (c : X → X → Ordering) (d : Y → Y → Ordering) (f : X → Y) (xs : List X)
+    → IsStrictlySortedBy c xs → ((a b : X) → Contains xs a → Contains xs b → c a b ≡ Less → d (f a) (f b) ≡ Less)
+    → IsStrictlySortedBy d (map f xs)
 unfolding IsStrictlySortedBy
 map_sorted {X = X} {Y = Y} c d f [] s h = tt
 map_sorted {X = X} {Y = Y} c d f (x ∷ xs) s h = (first xs s.0 (λ y g. h x y (0, omega arith, refl) (suc g.0, omega (arith, g.1), g.2)), map_sorted c d f xs s.1 (λ a b g e. h a b (suc g.0, omega (arith, g.1), g.2) (suc e.0, omega (arith, e.1), e.2)))
   where
-    first : (ys : List X) → AllByRecursion (λ y. c x y ≡ Less) ys → ((y : X) → Contains ys y → c x y ≡ Less → d (f x) (f y) ≡ Less) → AllByRecursion (λ y. d (f x) y ≡ Less) (map f ys)
+    first : (ys : List X) → AllByRecursion (λ y. c x y ≡ Less) ys
+        → ((y : X) → Contains ys y → c x y ≡ Less → d (f x) (f y) ≡ Less)
+        → AllByRecursion (λ y. d (f x) y ≡ Less) (map f ys)
     first [] all g = tt
     first (y ∷ ys) all g = (g y (0, omega arith, refl) all.0, first ys all.1 (λ z e. g z (suc e.0, omega (arith, e.1), e.2)))
 
 -- an element of a strictly sorted list has one number
-pub one_number : {X : Type 0} {c : X → X → Ordering} → IsTotalOrder c → (xs : List X) → IsStrictlySortedBy c xs → (i j : ℕ) (x : X) → slice_get xs i ≡ Some x → slice_get xs j ≡ Some x → i ≡ j
+pub one_number : {X : Type 0} {c : X → X → Ordering} → IsTotalOrder c → (xs : List X) → IsStrictlySortedBy c xs
+    → (i j : ℕ) (x : X) → slice_get xs i ≡ Some x → slice_get xs j ≡ Some x → i ≡ j
 one_number {X} {c} total xs s i j x p q = by (nat_lt i j) refl (nat_lt j i) refl
   where
     never : c x x ≡ Less → ⊥

@@ -41,7 +41,8 @@ module _ {X : Type 0} (c : X → X → Ordering) (total : IsTotalOrder c) where
   rising_search : (xs : List X) → IsStrictlySortedBy c xs → (x : X) → IsNonDecreasingBy (λ y. ordering_index (c y x)) xs
   rising_search xs s x = λ i j d h k. by (nat_lt i j) i j d refl h k
     where
-      by : (b : Bool) → (i j : ℕ) (d : X) → nat_lt i j ≡ b → i ≤ j → j < length xs → ordering_index (c (slice_index_or xs i d) x) ≤ ordering_index (c (slice_index_or xs j d) x)
+      by : (b : Bool) → (i j : ℕ) (d : X) → nat_lt i j ≡ b → i ≤ j → j < length xs
+          → ordering_index (c (slice_index_or xs i d) x) ≤ ordering_index (c (slice_index_or xs j d) x)
       by true i j d z h k =
           index_rises (slice_index_or xs i d) (slice_index_or xs j d) x
           (rises c xs s i j _ _ (ltb-true i j z) (slice_get-get_or xs i d (omega (arith, ltb-true i j z, k))) (slice_get-get_or xs j d k))

@@ -48,7 +48,8 @@ of_each p xs x all (k, h, e) = by (p x) refl
     by true z = z
     by false z = absurd (true≢false (sym all ∙ list_all_at p xs k x h (ap p e ∙ z)))
 
-pub inside_is : (count : ℕ) (facts : List (Fact Node)) (f : Fact Node) → AreInside count facts → Contains facts f → (f.left.number < count) × (f.right.number < count)
+pub inside_is : (count : ℕ) (facts : List (Fact Node)) (f : Fact Node) → AreInside count facts → Contains facts f
+    → (f.left.number < count) × (f.right.number < count)
 inside_is count facts f all c =
     let both = of_each (is_inside count) facts f all c in (
       ltb-true f.left.number count (and_left (nat_lt f.left.number count) _ both),

@@ -43,7 +43,8 @@ module _ (count number : ℕ) where
   pub watched_inside : (w : Watching) → watching_of count number ≡ Some w → (node_of w).number < count
   watched_inside w e = by (nat_lt number count) refl (nat_lt number (count + count)) refl (nat_lt number (count + count + count)) refl e
     where
-      by : (c : Bool) → nat_lt number count ≡ c → (a : Bool) → nat_lt number (count + count) ≡ a → (b : Bool) → nat_lt number (count + count + count) ≡ b → by_tests c a b ≡ Some w → (node_of w).number < count
+      by : (c : Bool) → nat_lt number count ≡ c → (a : Bool) → nat_lt number (count + count) ≡ a → (b : Bool)
+          → nat_lt number (count + count + count) ≡ b → by_tests c a b ≡ Some w → (node_of w).number < count
       by true z a y b x e =
           let is : Into (record { number = number }) ≡ w = cc in
           subst (λ v. (node_of v).number < count) is (ltb-true number count z)
@@ -62,7 +63,8 @@ module _ {S : Type 0} (only : Node → S) (count : ℕ) where
   first_named Load p q h k = k
   first_named Store p q h k = h
 
-  then_named : (w : Option Watching) (number : ℕ) (x : Node) (m : Move S) → watching_of count number ≡ w → x.number < count → Contains (then_of only count w x) m → relation_of m < count
+  then_named : (w : Option Watching) (number : ℕ) (x : Node) (m : Move S) → watching_of count number ≡ w
+      → x.number < count → Contains (then_of only count w x) m → relation_of m < count
   then_named None number x m e h c = absurd (omega (arith, c.1))
   then_named (Some (Into p)) number x m e h c = subst (λ (m : Move S). relation_of m < count) (of_one _ m c) (watched_inside count number (Into p) e)
   then_named (Some (Loading p)) number x m e h c = subst (λ (m : Move S). relation_of m < count) (of_one _ m c) h
@@ -77,6 +79,7 @@ pointing_named {S} only c = record {
   fired = λ watch x m h. by watch x m (nat_lt x.number c.names) refl h;
 }
   where
-    by : (watch : ℕ) (x : Node) (m : Move S) (b : Bool) → nat_lt x.number c.names ≡ b → Contains (if b then then_of only c.names (watching_of c.names watch) x else []) m → relation_of m < c.names
+    by : (watch : ℕ) (x : Node) (m : Move S) (b : Bool) → nat_lt x.number c.names ≡ b
+        → Contains (if b then then_of only c.names (watching_of c.names watch) x else []) m → relation_of m < c.names
     by watch x m true z h = then_named only c.names (watching_of c.names watch) watch x m refl (ltb-true x.number c.names z) h
     by watch x m false z h = absurd (omega (arith, h.1))

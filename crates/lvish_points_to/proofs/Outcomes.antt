@@ -20,7 +20,9 @@ module _ (given : Option (List ℕ)) (old : Option (List ℕ)) where
   same_answer : (text : List ℕ) (a b : Bool) (m n : ℕ) → a ≡ b → m ≡ n → IsAnswerTo given a text m → IsAnswerTo given b text n
   same_answer text a b m n e f is = subst (λ w. IsAnswerTo given w text n) e (subst (λ k. IsAnswerTo given a text k) f is)
 
-  pub written : (new : Option (List ℕ)) (is_whole : Bool) (text : List ℕ) (count : ℕ) → IsAnswerTo given is_whole text count → (outcome : Outcome) → IsWritten old new is_whole text count outcome → Performs given old new outcome
+  pub written : (new : Option (List ℕ)) (is_whole : Bool) (text : List ℕ) (count : ℕ)
+      → IsAnswerTo given is_whole text count → (outcome : Outcome) → IsWritten old new is_whole text count outcome
+      → Performs given old new outcome
   written new is_whole text count is (Whole stats) h = (text, same_answer text is_whole true count stats.facts h.0 h.1 is, h.2)
   written new is_whole text count is (Stopped stats) h = (text, same_answer text is_whole false count stats.facts h.0 h.1 is, h.2)
   written new is_whole text count is Unwritten h = (is_whole, text, count, is, h)

@@ -11,7 +11,8 @@ use Rattle.lvish_reach.specs.declared.performing.Outcome.TheVariants.{Whole, Sto
 use Rattle.lvish_reach.specs.Performs.{IsAnswerTo, Performs, IsWritten, outcome_of}
 
 module _ (given : Option (List ℕ)) (root : Word) (old : Option (List ℕ)) where
-  pub refused : (input : List ℕ) → IfSome given (λ bytes. input ≡ bytes) → (why : ReachFault) → IsRefused input why → Performs given root old old (outcome_of why)
+  pub refused : (input : List ℕ) → IfSome given (λ bytes. input ≡ bytes) → (why : ReachFault) → IsRefused input why
+      → Performs given root old old (outcome_of why)
   refused input read (fault.Alone number) is = (input, read, is, Keeps-refl old)
   refused input read fault.Empty is = (input, read, is, Keeps-refl old)
   refused input read (fault.Erring kind) is = Keeps-refl old
@@ -21,7 +22,9 @@ module _ (given : Option (List ℕ)) (root : Word) (old : Option (List ℕ)) whe
   same_answer : (text : List ℕ) (a b : Bool) (m n : ℕ) → a ≡ b → m ≡ n → IsAnswerTo given root a text m → IsAnswerTo given root b text n
   same_answer text a b m n e f is = subst (λ w. IsAnswerTo given root w text n) e (subst (λ k. IsAnswerTo given root a text k) f is)
 
-  pub written : (new : Option (List ℕ)) (is_whole : Bool) (text : List ℕ) (count : ℕ) → IsAnswerTo given root is_whole text count → (outcome : Outcome) → IsWritten old new is_whole text count outcome → Performs given root old new outcome
+  pub written : (new : Option (List ℕ)) (is_whole : Bool) (text : List ℕ) (count : ℕ)
+      → IsAnswerTo given root is_whole text count → (outcome : Outcome)
+      → IsWritten old new is_whole text count outcome → Performs given root old new outcome
   written new is_whole text count is (Whole stats) h = (text, same_answer text is_whole true count stats.facts h.0 h.1 is, h.2)
   written new is_whole text count is (Stopped stats) h = (text, same_answer text is_whole false count stats.facts h.0 h.1 is, h.2)
   written new is_whole text count is Unwritten h = (is_whole, text, count, is, h)

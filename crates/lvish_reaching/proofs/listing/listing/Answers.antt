@@ -1,4 +1,4 @@
-use Rattle.std.proofs.Common.{◌↔◌, ◌∙◌, List, Contains, length, sym, ap, subst, arith}
+use Rattle.std.proofs.Common.{◌↔◌, ◌∙◌, List, Contains, sym, ap, subst, arith}
 use Rattle.std.specs.Borrow.{Bor}
 use Rattle.std.proofs.lemmas.List.{length-map}
 use Rattle.lvish_facts.specs.declared.node.Node.{Node}
