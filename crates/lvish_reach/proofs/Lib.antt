@@ -1,2 +1,1 @@
-pub mod Moved
 pub mod Outcomes

@@ -1,4 +1,4 @@
--- What comes of a reader, of an answer and of its writing.
+-- What comes of an answer and of its writing.
 use Rattle.std.proofs.Common.{◌≡◌, ℕ, Bool, List, Option, subst}
 use Rattle.std.specs.Prelude.{IfSome}
 use Rattle.std.proofs.KnownBytes.{Keeps-refl}
@@ -8,34 +8,29 @@ use Rattle.lvish_reaching.specs.declared.fault.ReachFault.{ReachFault}
 use Rattle.lvish_reaching.specs.declared.fault.ReachFault.TheVariants as fault
 use Rattle.lvish_reach.specs.declared.performing.Outcome.{Outcome}
 use Rattle.lvish_reach.specs.declared.performing.Outcome.TheVariants.{Whole, Stopped, Alone, Unreadable, Empty, Erring, Memory, NoThread, Unwritten}
-use Rattle.lvish_reach.specs.Performs.{IsAnswerTo, Performs, IsUnread, IsWritten, outcome_of}
+use Rattle.lvish_reach.specs.Performs.{IsAnswerTo, Performs, IsWritten, outcome_of}
 
 module _ (given : Option (List ℕ)) (root : Word) (old : Option (List ℕ)) where
-  pub unread : (outcome : Outcome) → IsUnread outcome → Performs given root old old outcome
-  unread Unreadable h = Keeps-refl old
-  unread Memory h = Keeps-refl old
-  unread (Whole stats) h = absurd h
-  unread (Stopped stats) h = absurd h
-  unread (Alone number) h = absurd h
-  unread Empty h = absurd h
-  unread Erring h = absurd h
-  unread NoThread h = absurd h
-  unread Unwritten h = absurd h
-
-  pub refused : (input : List ℕ) → IfSome given (λ bytes. input ≡ bytes) → (why : ReachFault) → IsRefused input why → Performs given root old old (outcome_of why)
+  pub refused : (input : List ℕ) → IfSome given (λ bytes. input ≡ bytes) → (why : ReachFault) → IsRefused input why
+      → Performs given root old old (outcome_of why)
   refused input read (fault.Alone number) is = (input, read, is, Keeps-refl old)
   refused input read fault.Empty is = (input, read, is, Keeps-refl old)
   refused input read (fault.Erring kind) is = Keeps-refl old
   refused input read fault.Memory is = Keeps-refl old
   refused input read fault.NoThread is = Keeps-refl old
 
-  pub written : (new : Option (List ℕ)) (is_whole : Bool) (text : List ℕ) → IsAnswerTo given root is_whole text → (outcome : Outcome) → IsWritten old new is_whole text outcome → Performs given root old new outcome
-  written new is_whole text is (Whole stats) h = (text, subst (λ b. IsAnswerTo given root b text) h.0 is, h.1)
-  written new is_whole text is (Stopped stats) h = (text, subst (λ b. IsAnswerTo given root b text) h.0 is, h.1)
-  written new is_whole text is Unwritten h = (is_whole, text, is, h)
-  written new is_whole text is (Alone number) h = absurd h
-  written new is_whole text is Unreadable h = absurd h
-  written new is_whole text is Empty h = absurd h
-  written new is_whole text is Erring h = absurd h
-  written new is_whole text is Memory h = absurd h
-  written new is_whole text is NoThread h = absurd h
+  same_answer : (text : List ℕ) (a b : Bool) (m n : ℕ) → a ≡ b → m ≡ n → IsAnswerTo given root a text m → IsAnswerTo given root b text n
+  same_answer text a b m n e f is = subst (λ w. IsAnswerTo given root w text n) e (subst (λ k. IsAnswerTo given root a text k) f is)
+
+  pub written : (new : Option (List ℕ)) (is_whole : Bool) (text : List ℕ) (count : ℕ)
+      → IsAnswerTo given root is_whole text count → (outcome : Outcome)
+      → IsWritten old new is_whole text count outcome → Performs given root old new outcome
+  written new is_whole text count is (Whole stats) h = (text, same_answer text is_whole true count stats.facts h.0 h.1 is, h.2)
+  written new is_whole text count is (Stopped stats) h = (text, same_answer text is_whole false count stats.facts h.0 h.1 is, h.2)
+  written new is_whole text count is Unwritten h = (is_whole, text, count, is, h)
+  written new is_whole text count is (Alone number) h = absurd h
+  written new is_whole text count is Unreadable h = absurd h
+  written new is_whole text count is Empty h = absurd h
+  written new is_whole text count is Erring h = absurd h
+  written new is_whole text count is Memory h = absurd h
+  written new is_whole text count is NoThread h = absurd h

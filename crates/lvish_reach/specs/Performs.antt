@@ -1,6 +1,7 @@
 -- What the program does with a reader and a writer, by what comes of it.
-use Rattle.std.specs.Prelude.{◌≡◌, ◌≤◌, ℕ, Bool, true, false, List, length, take, Option, IfSome}
+use Rattle.std.specs.Prelude.{◌≡◌, ℕ, Bool, true, false, List, Option, IfSome}
 use Rattle.std.specs.Io.KnownBytes.{Appends, Keeps}
+use Rattle.lvish_console.specs.Writing.{TakesFront}
 use Rattle.lvish_facts.specs.Names.{Word}
 use Rattle.lvish_reaching.specs.Edges.{IsAccepted, IsEmpty, IsFirstAlone}
 use Rattle.lvish_reaching.specs.Answers.{IsAnswer}
@@ -9,21 +10,17 @@ use Rattle.lvish_reaching.specs.declared.fault.ReachFault.TheVariants as fault
 use Rattle.lvish_reach.specs.declared.performing.Outcome.{Outcome}
 use Rattle.lvish_reach.specs.declared.performing.Outcome.TheVariants.{Whole, Stopped, Alone, Unreadable, Empty, Erring, Memory, NoThread, Unwritten}
 
--- the writer took a front of the text and nothing else
-abbrev pub TakesFront : Option (List ℕ) → Option (List ℕ) → List ℕ → Type 0
-TakesFront old new text = (n : ℕ) × (n ≤ length text) × Appends old new (take n text)
-
--- the text answers the bytes that were read, which are those that the reader gave
-pub record IsAnswerTo (given : Option (List ℕ)) (root : Word) (is_whole : Bool) (text : List ℕ) : Type 0 where
+-- the text has as many names, and answers the bytes that were read, which are those that the reader gave
+pub record IsAnswerTo (given : Option (List ℕ)) (root : Word) (is_whole : Bool) (text : List ℕ) (count : ℕ) : Type 0 where
   pub input : List ℕ
   pub read : IfSome given (λ bytes. input ≡ bytes)
   pub accepted : IsAccepted input
-  pub answer : IsAnswer input root is_whole text
+  pub answer : IsAnswer input root is_whole text count
 
 module _ (given : Option (List ℕ)) (root : Word) (old new : Option (List ℕ)) where
   -- the answer was written, and nothing else
-  abbrev pub Writes : Bool → Type 0
-  Writes is_whole = (text : List ℕ) × IsAnswerTo given root is_whole text × Appends old new text
+  abbrev pub Writes : Bool → ℕ → Type 0
+  Writes is_whole count = (text : List ℕ) × IsAnswerTo given root is_whole text count × Appends old new text
 
   -- nothing was written, since this line of the bytes that were read has one word alone
   abbrev pub Refuses : ℕ → Type 0
@@ -35,23 +32,17 @@ module _ (given : Option (List ℕ)) (root : Word) (old new : Option (List ℕ))
 
   -- from a reader that gives `given`, the writer comes from `old` to `new`
   abbrev pub Performs : Outcome → Type 0
-  Performs (Whole stats) = Writes true
-  Performs (Stopped stats) = Writes false
+  Performs (Whole stats) = Writes true stats.facts
+  Performs (Stopped stats) = Writes false stats.facts
   Performs (Alone number) = Refuses number
   Performs Unreadable = Keeps old new
   Performs Empty = RefusesEmpty
   Performs Erring = Keeps old new
   Performs Memory = Keeps old new
   Performs NoThread = Keeps old new
-  Performs Unwritten = (is_whole : Bool) × (text : List ℕ) × IsAnswerTo given root is_whole text × TakesFront old new text
+  Performs Unwritten = (is_whole : Bool) × (text : List ℕ) × (count : ℕ) × IsAnswerTo given root is_whole text count × TakesFront old new text
 
 -- ---- its parts
-
--- what comes of a reader that failed
-abbrev pub IsUnread : Outcome → Type 0
-IsUnread Unreadable = Unit {0}
-IsUnread Memory = Unit {0}
-IsUnread outcome = ⊥
 
 -- what comes of an input without an answer
 abbrev pub outcome_of : ReachFault → Outcome
@@ -61,9 +52,9 @@ outcome_of (fault.Erring kind) = Erring
 outcome_of fault.Memory = Memory
 outcome_of fault.NoThread = NoThread
 
--- the text was written, and the outcome says whether it is whole; or a front of it was
-abbrev pub IsWritten : Option (List ℕ) → Option (List ℕ) → Bool → List ℕ → Outcome → Type 0
-IsWritten old new is_whole text (Whole stats) = (is_whole ≡ true) × Appends old new text
-IsWritten old new is_whole text (Stopped stats) = (is_whole ≡ false) × Appends old new text
-IsWritten old new is_whole text Unwritten = TakesFront old new text
-IsWritten old new is_whole text outcome = ⊥
+-- the text was written, and the outcome says whether it is whole, and how many names it has; or a front of it was
+abbrev pub IsWritten : Option (List ℕ) → Option (List ℕ) → Bool → List ℕ → ℕ → Outcome → Type 0
+IsWritten old new is_whole text count (Whole stats) = (is_whole ≡ true) × (count ≡ stats.facts) × Appends old new text
+IsWritten old new is_whole text count (Stopped stats) = (is_whole ≡ false) × (count ≡ stats.facts) × Appends old new text
+IsWritten old new is_whole text count Unwritten = TakesFront old new text
+IsWritten old new is_whole text count outcome = ⊥

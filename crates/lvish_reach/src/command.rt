@@ -1,9 +1,6 @@
-use crate::order::{Order, UsageFault};
 use crate::performing::{Outcome, perform};
-use crate::stats::Stats;
-use crate::status::Status;
-use crate::words::order_of;
-use crate::writing::write_text;
+use crate::words::{ReachOrder, order_of};
+use lvish_console::{Stats, Status, tell_usage};
 use lvish_rules::MOST_WORKERS;
 use std::alloc::{AllocError, Global};
 use std::convert::AsStr;
@@ -22,32 +19,21 @@ pub fn command<R: AllocGlobal + Files + Print + Threads + Wait + Sync, S: AsStr>
     let mut output = io::writer(rt);
     match order_of(rt.alloc(), words) {
         Ok(order) => obey(rt, &order, &mut output),
-        Err(fault) => (tell(&mut output, fault), None),
-    }
-}
-
-/// Writes the help that was asked for. Of words that are refused the status tells.
-fn tell<W: Write>(output: &mut W, fault: UsageFault) -> Status {
-    match fault {
-        UsageFault::Help(text) => match write_text(output, text.as_bytes()) {
-            Ok(()) => Status::Done,
-            Err(_) => Status::Unwritten,
-        },
-        UsageFault::Refused(text) => Status::Usage(text),
-        UsageFault::Memory => Status::Memory,
+        Err(fault) => (tell_usage(&mut output, fault), None),
     }
 }
 
 /// Does what the order asks.
 fn obey<T: AllocGlobal + Files + Threads + Wait + Sync, W: Write>(
     rt: &T,
-    order: &Order,
+    asked: &ReachOrder,
     output: &mut W,
 ) -> (Status, Option<Stats>) {
+    let order = &asked.order;
     let outcome = match fs::open(rt, order.path.as_str()) {
         Ok(mut file) => perform(
             rt,
-            order.root.as_str(),
+            asked.root.as_str(),
             order.workers.clamp(1, MOST_WORKERS),
             order.budget,
             &mut file,
@@ -56,30 +42,22 @@ fn obey<T: AllocGlobal + Files + Threads + Wait + Sync, W: Write>(
         Err(error) if error.kind() == ErrorKind::OutOfMemory => Outcome::Memory,
         Err(_) => Outcome::Unreadable,
     };
-    let (status, stats) = status_of(rt.alloc(), order, outcome);
+    let (status, stats) = status_of(rt.alloc(), order.path.as_str(), outcome);
     (status, if order.stats { stats } else { None })
 }
 
 /// The status of what came of the order, and what it took.
-fn status_of(alloc: Global, order: &Order, outcome: Outcome) -> (Status, Option<Stats>) {
+fn status_of(alloc: Global, path: &str, outcome: Outcome) -> (Status, Option<Stats>) {
     match outcome {
         Outcome::Whole(stats) => (Status::Done, Some(stats)),
         Outcome::Stopped(stats) => (Status::Budget, Some(stats)),
-        Outcome::Alone(line) => refused(alone_text(alloc, order.path.as_str(), line)),
-        Outcome::Empty => refused(empty_text(alloc, order.path.as_str())),
+        Outcome::Alone(line) => (Status::refused(alone_text(alloc, path, line)), None),
+        Outcome::Empty => (Status::refused(empty_text(alloc, path)), None),
         Outcome::Unreadable => (Status::Unreadable, None),
         Outcome::Erring => (Status::Error, None),
         Outcome::Memory => (Status::Memory, None),
         Outcome::NoThread => (Status::NoThread, None),
         Outcome::Unwritten => (Status::Unwritten, None),
-    }
-}
-
-/// That the file is refused, and why.
-fn refused(text: Result<String, AllocError>) -> (Status, Option<Stats>) {
-    match text {
-        Ok(text) => (Status::Refused(text), None),
-        Err(_) => (Status::Memory, None),
     }
 }
 

@@ -1,17 +1,15 @@
-ghost use Rattle.std.specs.Prelude.{◌≡◌, ◌<◌, ◌≤◌, IfOk, IfErr, IfSome};
-ghost use Rattle.lvish_reach.specs.Performs.{Performs, IsUnread, IsWritten, outcome_of};
+ghost use Rattle.std.specs.Prelude.{◌≡◌, ◌<◌, ◌≤◌};
+ghost use Rattle.lvish_reach.specs.Performs.{Performs, IsWritten, outcome_of};
 
-use crate::stats::Stats;
-use crate::writing::write_text;
+use lvish_console::{ReadFault, Stats, read_input, write_text};
 use lvish_reaching::{ReachFault, Reached, reach_answer};
 use lvish_rules::MOST_WORKERS;
-use std::alloc::Global;
-use std::io::{ErrorKind, Read, Write};
+use std::io::{Read, Write};
 use std::sync::Wait;
 use std::thread::Threads;
 
 /// What came of an order.
-#[derive(Clone, Copy, Debug, PartialEq, Eq)]
+#[derive(Clone, Copy)]
 pub enum Outcome {
     /// All that can be reached was written.
     Whole(Stats),
@@ -31,19 +29,6 @@ pub enum Outcome {
     NoThread,
     /// The writer failed.
     Unwritten,
-}
-
-/// The bytes that the reader gives, or that it failed.
-fn read_input<R: Read>(alloc: Global, reader: &mut R) -> Result<Vec<u8>, Outcome>
-    ensures given { IfOk result (λ input. IfSome (R.remaining reader.old) (λ given. input.items ≡ given)) }
-    ensures failed { IfErr result IsUnread }
-{
-    let mut input = Vec::new(alloc);
-    match reader.read_to_end(&mut input) {
-        Ok(_) => Ok(input),
-        Err(error) if error.kind() == ErrorKind::OutOfMemory => Err(Outcome::Memory),
-        Err(_) => Err(Outcome::Unreadable),
-    }
 }
 
 /// What comes of an input without an answer.
@@ -75,7 +60,8 @@ pub fn perform<H: AllocGlobal + Threads + Wait + Sync, R: Read, W: Write>(
     let alloc = rt.alloc();
     let input = match read_input(alloc, reader) {
         Ok(input) => input,
-        Err(outcome) => return outcome,
+        Err(ReadFault::Memory) => return Outcome::Memory,
+        Err(ReadFault::Unreadable) => return Outcome::Unreadable,
     };
     match reach_answer(rt, alloc, input.as_slice(), root, workers, budget) {
         Ok(reached) => write_reached(writer, &reached),
@@ -85,7 +71,7 @@ pub fn perform<H: AllocGlobal + Threads + Wait + Sync, R: Read, W: Write>(
 
 /// Writes what is reached.
 fn write_reached<W: Write>(writer: &mut W, reached: &Reached) -> Outcome
-    ensures { IsWritten (W.contents writer.old) (W.contents writer.new) reached.now.is_whole reached.now.text.items result }
+    ensures { IsWritten (W.contents writer.old) (W.contents writer.new) reached.now.is_whole reached.now.text.items reached.now.count result }
 {
     let stats = Stats {
         steps: reached.steps,

@@ -11,10 +11,13 @@ use Rattle.lvish_reaching.proofs.Walks.{holds_reached, reached_holds, one_name, 
 
 module _ {S : Type 0} (gather : List Node → S) (events : S → List Node) (members : (ns : List Node) (n : Node) → Contains (events (gather ns)) n ↔ Contains ns n) (input : List ℕ) (root : Word) (g : GraphView)
     (is : IsGraphOf g root (edges_of input)) (states : List S) (set : S) (there : slice_get states 0 ≡ Some set) where
-  pub is_answer : (text : List ℕ) (whole : Bool) → IsListing g (events set) text → HasOnly events (walking gather g) states → (whole ≡ true → HasExactly events (walking gather g) states) → IsAnswer input root whole text
-  is_answer text whole l only exactly = record {
+  pub is_answer : (text : List ℕ) (count : ℕ) (whole : Bool) → IsListing g (events set) text count
+      → HasOnly events (walking gather g) states → (whole ≡ true → HasExactly events (walking gather g) states)
+      → IsAnswer input root whole text count
+  is_answer text count whole l only exactly = record {
     names = l.names;
     spelled = l.spelled;
+    counted = l.counted;
     rising = l.rising;
     sound = λ name c.
         let n = (l.of_nodes name).0 c in

@@ -28,7 +28,8 @@ module _ {X : Type 0} (f : X → List Node) (to : Node) where
   abbrev at : List X → ℕ → List Node
   at xs k = list_at (map f xs) k
 
-  pushed_kept : (xs : List X) (place : ℕ) (old w : X) → slice_get xs place ≡ Some old → f w ≡ f old ++ to ∷ [] → (k : ℕ) (n : Node) → Contains (at xs k) n → Contains (at (slice_set xs place w) k) n
+  pushed_kept : (xs : List X) (place : ℕ) (old w : X) → slice_get xs place ≡ Some old → f w ≡ f old ++ to ∷ []
+      → (k : ℕ) (n : Node) → Contains (at xs k) n → Contains (at (slice_set xs place w) k) n
   pushed_kept [] place old w h e k n c = let z : ⊥ = cc in absurd z
   pushed_kept (x ∷ xs) zero old w h e zero n c =
       let s : x ≡ old = cc in
@@ -42,7 +43,9 @@ module _ {X : Type 0} (f : X → List Node) (to : Node) where
   pushed_there (x ∷ xs) zero old w h e = subst (λ (ns : List Node). Contains ns to) (sym e) (Contains-append_right (f old) (to ∷ []) to (0, omega arith, refl))
   pushed_there (x ∷ xs) (suc place) old w h e = pushed_there xs place old w h e
 
-  pushed_only : (xs : List X) (place : ℕ) (old w : X) → slice_get xs place ≡ Some old → f w ≡ f old ++ to ∷ [] → (k : ℕ) (n : Node) → Contains (at (slice_set xs place w) k) n → Contains (at xs k) n ⊎ ((k ≡ place) × (to ≡ n))
+  pushed_only : (xs : List X) (place : ℕ) (old w : X) → slice_get xs place ≡ Some old → f w ≡ f old ++ to ∷ []
+      → (k : ℕ) (n : Node) → Contains (at (slice_set xs place w) k) n → Contains (at xs k) n
+      ⊎ ((k ≡ place) × (to ≡ n))
   pushed_only [] place old w h e k n c = let z : ⊥ = cc in absurd z
   pushed_only (x ∷ xs) zero old w h e zero n c =
       let s : x ≡ old = cc in
@@ -57,11 +60,13 @@ module _ {X : Type 0} (f : X → List Node) (to : Node) where
     | inr d ↦ inr (ap suc d.0, d.1)
   ]
 
-  pub pushed : (xs : List X) (place : ℕ) (old w : X) → slice_get xs place ≡ Some old → f w ≡ f old ++ to ∷ [] → IsPushed (map f xs) (map f (slice_set xs place w)) place to
+  pub pushed : (xs : List X) (place : ℕ) (old w : X) → slice_get xs place ≡ Some old → f w ≡ f old ++ to ∷ []
+      → IsPushed (map f xs) (map f (slice_set xs place w)) place to
   pushed xs place old w h e = record { kept = pushed_kept xs place old w h e; there = pushed_there xs place old w h e; only = pushed_only xs place old w h e }
 
 -- lists with the same look-ups are pushed alike
-pushed_alike : (old mid new : List (List Node)) (place : ℕ) (to : Node) → ((k : ℕ) → list_at mid k ≡ list_at old k) → IsPushed mid new place to → IsPushed old new place to
+pushed_alike : (old mid new : List (List Node)) (place : ℕ) (to : Node) → ((k : ℕ) → list_at mid k ≡ list_at old k)
+    → IsPushed mid new place to → IsPushed old new place to
 pushed_alike old mid new place to same put = record {
   kept = λ k n c. put.kept k n (subst (λ (ns : List Node). Contains ns n) (sym (same k)) c);
   there = put.there;
@@ -96,7 +101,9 @@ names_grown old new name n is next = record {
 }
 
 -- a graph of the same names, where a successor was put
-pushed_edge : (old new : GraphView) (from to : Node) (v w : Word) → new.names ≡ old.names → IsPushed old.next new.next from.number to → IsNamed old.names from v → IsNamed old.names to w → HasEdges old new ((v, w) ∷ [])
+pushed_edge : (old new : GraphView) (from to : Node) (v w : Word) → new.names ≡ old.names
+    → IsPushed old.next new.next from.number to → IsNamed old.names from v → IsNamed old.names to w
+    → HasEdges old new ((v, w) ∷ [])
 pushed_edge old new from to v w names put from_named to_named = record { kept = kept; added = added }
   where
     kept : (m : Node) (u : Word) → IsNamed old.names m u → IsNamed new.names m u
@@ -135,7 +142,9 @@ more_edges a b c xs ys h k = record {
 }
 
 -- the name of the node that the edge leads to is there or comes last, and the node is a successor more
-pub edge_added : (old new : GraphView) (mid : List (List Node)) (from to : Node) (v w : Word) → IsNumbered old.names new.names w to → ((k : ℕ) → list_at mid k ≡ list_at old.next k) → IsPushed mid new.next from.number to
+pub edge_added : (old new : GraphView) (mid : List (List Node)) (from to : Node) (v w : Word)
+    → IsNumbered old.names new.names w to → ((k : ℕ) → list_at mid k ≡ list_at old.next k)
+    → IsPushed mid new.next from.number to
     → IsNamed old.names from v → HasEdges old new ((v, w) ∷ [])
 edge_added old new mid from to v w is same put named =
     let named_all : GraphView = record { names = new.names; next = old.next } in
@@ -143,7 +152,9 @@ edge_added old new mid from to v w is same put named =
     more_edges old named_all new [] ((v, w) ∷ []) (names_grown old named_all w to is refl) more
 
 -- the edges of a line, one word more
-pub line_more : (a b c : GraphView) (first : Word) (others : List Word) (to : Word) → HasEdges a b (edges_on (first ∷ others)) → HasEdges b c ((first, to) ∷ []) → HasEdges a c (edges_on (first ∷ others ++ to ∷ []))
+pub line_more : (a b c : GraphView) (first : Word) (others : List Word) (to : Word)
+    → HasEdges a b (edges_on (first ∷ others)) → HasEdges b c ((first, to) ∷ [])
+    → HasEdges a c (edges_on (first ∷ others ++ to ∷ []))
 line_more a b c first others to h k =
     subst (HasEdges a c) (sym (map-append (λ w. (first, w)) others (to ∷ []))) (more_edges a b c (edges_on (first ∷ others)) ((first, to) ∷ []) h k)
 
@@ -153,7 +164,8 @@ pub line_added : (old mid new : GraphView) (from : Node) (first : Word) (others 
 line_added old mid new from first others is next more = more_edges old mid new [] (edges_on (first ∷ others)) (names_grown old mid first from is next) (more first is.named)
 
 -- names that are referred to, one more
-pub names_more : (refs : List (Bor Word)) (k : ℕ) (ref : Bor Word) → k < length refs → names_in (take (k + 1) refs) ≡ names_in (take k refs) ++ (get_or refs k ref).now ∷ []
+pub names_more : (refs : List (Bor Word)) (k : ℕ) (ref : Bor Word) → k < length refs
+    → names_in (take (k + 1) refs) ≡ names_in (take k refs) ++ (get_or refs k ref).now ∷ []
 names_more refs k ref lt = ap names_in (take_more refs k ref lt) ∙ map-append (λ r. r.now) (take k refs) (get_or refs k ref ∷ [])
 
 pub no_edges : (a : GraphView) → HasEdges a a []

@@ -44,7 +44,8 @@ module _ (lines : List Word) (k : ℕ) (line : Word) (there : slice_get lines k 
 
   module _ (words : List Word) (are : words ≡ words_of line) where
     -- the graph of the lines and of one more
-    pub graph_more : (old new : GraphView) (root : Word) → IsGraphOf old root (edges_in (take k lines)) → HasEdges old new (edges_on words) → IsGraphOf new root (edges_in (take (k + 1) lines))
+    pub graph_more : (old new : GraphView) (root : Word) → IsGraphOf old root (edges_in (take k lines))
+        → HasEdges old new (edges_on words) → IsGraphOf new root (edges_in (take (k + 1) lines))
     graph_more old new root is more =
         subst (IsGraphOf new root) (ap (λ ws. edges_in (take k lines) ++ edges_on ws) are ∙ sym one_more) (more.added root (edges_in (take k lines)) is)
 

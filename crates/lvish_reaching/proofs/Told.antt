@@ -18,7 +18,8 @@ module _ (names : List Word) where
   same_name : (node n : Node) (v w : Word) → node ≡ n → IsNamed names node v → IsNamed names n w → v ≡ w
   same_name node n v w e h k = let both : ◌≡◌ {A = _} (Some v) (Some w) = sym h ∙ ap (λ m. slice_get names m.number) e ∙ k in cc
 
-  pub told_more : (refs : List (Bor Word)) (nodes : List Node) (node : Node) (name : Bor Word) → IsNamed names node name.now → AreTold refs nodes → AreTold (refs ++ name ∷ []) (nodes ++ node ∷ [])
+  pub told_more : (refs : List (Bor Word)) (nodes : List Node) (node : Node) (name : Bor Word)
+      → IsNamed names node name.now → AreTold refs nodes → AreTold (refs ++ name ∷ []) (nodes ++ node ∷ [])
   told_more refs nodes node name named is w =
       let split : names_in (refs ++ name ∷ []) ≡ names_in refs ++ name.now ∷ [] = map-append (λ ref. ref.now) refs (name ∷ []) in (
         λ c. elim (Contains-append_cases (names_in refs) (name.now ∷ []) w (subst (λ (l : List Word). Contains l w) split c)) [
@@ -31,7 +32,8 @@ module _ (names : List Word) where
         ]),
       )
 
-  pub told_none : (refs : List (Bor Word)) (nodes : List Node) (node : Node) → slice_get names node.number ≡ None → AreTold refs nodes → AreTold refs (nodes ++ node ∷ [])
+  pub told_none : (refs : List (Bor Word)) (nodes : List Node) (node : Node) → slice_get names node.number ≡ None
+      → AreTold refs nodes → AreTold refs (nodes ++ node ∷ [])
   told_none refs nodes node none is w = (
     λ c. let n = (is w).0 c in (n.0, Contains-append_left nodes (node ∷ []) n.0 n.1, n.2),
     λ n. elim (Contains-append_cases nodes (node ∷ []) n.0 n.1) [

@@ -1,5 +1,5 @@
 -- What is reached, as a text.
-use Rattle.std.specs.Prelude.{◌≡◌, ◌↔◌, ℕ, Bool, true, List, Contains}
+use Rattle.std.specs.Prelude.{◌≡◌, ◌↔◌, ℕ, Bool, true, List, length, Contains}
 use Rattle.std.specs.List.Sorted.{IsStrictlySortedBy}
 use Rattle.std.specs.Ordering.{nat_cmp}
 use Rattle.std.specs.Cmp.Lexicographic.{slice_cmp}
@@ -10,17 +10,19 @@ use Rattle.lvish_reaching.specs.declared.fault.ReachFault.TheVariants.{Alone, Em
 use Rattle.lvish_reaching.specs.Edges.{edges_of, IsAccepted, IsEmpty, IsFirstAlone, IsReachable}
 use Rattle.lvish_reaching.specs.Graphs.{GraphView}
 
--- the text has the names of the nodes, sorted by their bytes, each once
-pub record IsListing (g : GraphView) (nodes : List Node) (text : List ℕ) : Type 0 where
+-- the text has the names of the nodes, this many, sorted by their bytes, each once
+pub record IsListing (g : GraphView) (nodes : List Node) (text : List ℕ) (count : ℕ) : Type 0 where
   pub names : List Word
   pub spelled : text ≡ lines_with names
+  pub counted : count ≡ length names
   pub rising : IsStrictlySortedBy (slice_cmp nat_cmp) names
   pub of_nodes : (name : Word) → Contains names name ↔ ((n : Node) × Contains nodes n × IsNamed g.names n name)
 
--- the text has names that the edges of the input reach from the root, sorted by their bytes, each once; and all of these, where it is whole
-pub record IsAnswer (input : List ℕ) (root : Word) (is_whole : Bool) (text : List ℕ) : Type 0 where
+-- the text has names that the edges of the input reach from the root, this many, sorted by their bytes, each once; and all of these, where it is whole
+pub record IsAnswer (input : List ℕ) (root : Word) (is_whole : Bool) (text : List ℕ) (count : ℕ) : Type 0 where
   pub names : List Word
   pub spelled : text ≡ lines_with names
+  pub counted : count ≡ length names
   pub rising : IsStrictlySortedBy (slice_cmp nat_cmp) names
   pub sound : (name : Word) → Contains names name → IsReachable (edges_of input) root name
   pub exact : is_whole ≡ true → (name : Word) → IsReachable (edges_of input) root name → Contains names name

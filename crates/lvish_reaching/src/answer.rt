@@ -3,7 +3,7 @@ ghost use Rattle.lvish_reaching.specs.Edges.{IsAccepted};
 ghost use Rattle.lvish_reaching.specs.Answers.{IsAnswer, IsRefused};
 
 use crate::fault::ReachFault;
-use crate::listing::listing;
+use crate::listing::{Listed, listing};
 use crate::reading::read_graph;
 use lvish_facts::Node;
 use lvish_facts::laws::gathers;
@@ -45,7 +45,7 @@ pub fn reach_answer<H: Threads + Wait + Sync>(
     requires few { workers ≤ MOST_WORKERS }
     ensures accepted { IfOk result (λ _. IsAccepted text.now) }
     // The names are those of what can be reached: all where the answer is whole, else some.
-    ensures answer { IfOk result (λ r. IsAnswer text.now root.now r.is_whole r.text.items) }
+    ensures answer { IfOk result (λ r. IsAnswer text.now root.now r.is_whole r.text.items r.count) }
     // It is whole, or all steps are used up.
     ensures spent { IfOk result (λ r. r.is_whole ≡ false → (r.steps ≡ budget) ⊎ (r.steps ≡ MOST_PROGRAM_STEPS)) }
     ensures refused { IfErr result (IsRefused text.now) }
@@ -59,10 +59,11 @@ pub fn reach_answer<H: Threads + Wait + Sync>(
         unreachable!()
     };
     let nodes = set.events(alloc)?;
+    let Listed { text, count } = listing(alloc, &analysis.rules, nodes.as_slice())?;
     Ok(Reached {
-        text: listing(alloc, &analysis.rules, nodes.as_slice())?,
+        text,
         is_whole: answer.is_whole(),
-        count: nodes.len(),
+        count,
         steps: answer.steps(),
     })
 }

@@ -24,11 +24,22 @@ fn names_of<'a>(
     Ok(names)
 }
 
-/// The names of the nodes, each on a line of its own, sorted by their bytes.
-pub fn listing(alloc: Global, graph: &Graph<'_>, nodes: &[Node]) -> Result<Vec<u8>, AllocError>
-    ensures { IfOk result (λ text. IsListing graph.now nodes.now text.items) }
+/// Names, each on a line of its own, sorted by their bytes.
+#[derive(Drop)]
+pub struct Listed {
+    pub text: Vec<u8>,
+    /// How many names there are.
+    pub count: usize,
+}
+
+/// The names of the nodes.
+pub fn listing(alloc: Global, graph: &Graph<'_>, nodes: &[Node]) -> Result<Listed, AllocError>
+    ensures { IfOk result (λ l. IsListing graph.now nodes.now l.text.items l.count) }
 {
     let names = names_of(alloc, graph, nodes)?;
     let sorted = sorted(alloc, names.as_slice())?;
-    lines_with(alloc, sorted.as_slice())
+    Ok(Listed {
+        text: lines_with(alloc, sorted.as_slice())?,
+        count: sorted.len(),
+    })
 }

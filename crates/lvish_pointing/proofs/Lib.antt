@@ -1,0 +1,10 @@
+pub mod Least
+pub mod Rising
+pub mod Named
+pub mod Listed
+pub mod Composed
+pub mod Lines
+pub mod Texts
+pub mod Searched
+pub mod Gathered
+pub mod Counted
