@@ -3,7 +3,7 @@ use Rattle.std.proofs.lemmas.Bool.{ltb-false}
 use Rattle.std.proofs.lemmas.Int.{to_z-of_z}
 use Rattle.std.proofs.lemmas.Option.{slice_get_past, slice_get_read}
 use Rattle.lvish_why.specs.Why.{kind_at}
-use Rattle.lvish_why.proofs.asked.kind_of.Goals as goal
+use Rattle.lvish_why.proofs.question.kind_of.Goals as goal
 
 pub returns-in-Some : goal.returns-in-Some
 returns-in-Some c =

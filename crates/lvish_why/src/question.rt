@@ -9,8 +9,8 @@ const HIGHEST: i64 = 1000;
 
 /// An event that is asked for: its variable, by its number, and its key and number. The key is that of a
 /// map or a tally or the side of a pair, and else 0.
-#[derive(Clone, Copy, Debug, PartialEq, Eq)]
-pub struct Asked {
+#[derive(Clone, Copy)]
+pub struct Question {
     pub variable: usize,
     pub key: i64,
     pub number: i64,
@@ -75,7 +75,7 @@ pub fn can_be(event: Event) -> bool {
     }
 }
 
-impl Asked {
+impl Question {
     /// The event, of one of the variables of these kinds; `None` where there is no such variable, or the key
     /// is no side of a pair.
     pub fn event(self, kinds: &[VariableKind]) -> Option<Event>
