@@ -1,11 +1,13 @@
 //! Faults that a text needn't have, as they may be given.
 
-use lvish_script::Fault;
+use lvish_explain::explain;
+use lvish_script::{Fault, ScriptFault};
+use std::test::Fail;
 
 /// A text, a fault and its line, and what is told of it.
-pub type Given = (&'static [u8], Fault, usize, &'static str);
+type Given = (&'static [u8], Fault, usize, &'static str);
 
-pub const GIVEN: [Given; 8] = [
+const GIVEN: [Given; 8] = [
     (
         b"",
         Fault::TooLong,
@@ -55,3 +57,17 @@ pub const GIVEN: [Given; 8] = [
         "a.lvish:18446744073709551615: a block or procedure is open at the end\n",
     ),
 ];
+
+#[test]
+fn any_fault_of_any_text_is_explained(rt: HostRuntime) -> Result<(), Fail> {
+    let alloc = rt.alloc();
+    for (text, fault, line, explanation) in GIVEN.as_slice() {
+        let fault = ScriptFault {
+            fault: *fault,
+            line: *line,
+        };
+        let told = explain(alloc, "a.lvish", text, fault)?;
+        assert_eq!(rt; str::from_utf8(told.as_slice()), Ok(*explanation));
+    }
+    Ok(())
+}
