@@ -11,7 +11,7 @@ use crate::status::Status;
 use lvish_again::laws::reports_are_core_runs;
 use lvish_run::{MOST_STEPS, RunMeaning, run_picks};
 use lvish_syntax::{Declaration, Script, VariableKind};
-use lvish_why::{Question, Derived, Form, why};
+use lvish_why::{Derived, Form, Question, why};
 use std::alloc::{AllocError, Global};
 
 /// Why words name no event of a script, or no run.
