@@ -1,8 +1,8 @@
 //! What is said of an event that isn't there.
 
+use crate::draft::Draft;
 use crate::page::Page;
 use crate::question::{Question, can_be};
-use crate::said::Said;
 use lvish_code::{Action, Instruction, Routine};
 use lvish_compound::Event;
 use lvish_retrace::Live;
@@ -91,7 +91,7 @@ fn can_put(live: &Live, marked: &[bool]) -> bool {
 }
 
 /// Adds where a task stands that could put the event: it waits there, where the run is at an end.
-fn push_live(page: &Page<'_, '_>, text: &mut Said, live: &Live, stands: &[u8]) {
+fn push_live(page: &Page<'_, '_>, text: &mut Draft, live: &Live, stands: &[u8]) {
     let Some(name) = page.told.names.get(live.task) else {
         return;
     };
@@ -113,7 +113,7 @@ fn stands_in(outcome: &Outcome<Event>) -> &'static [u8] {
 }
 
 /// Which tasks that haven't ended are in procedures that are marked, and where they stand.
-fn push_putting(page: &Page<'_, '_>, text: &mut Said, stands: &[u8], marked: &[bool]) {
+fn push_putting(page: &Page<'_, '_>, text: &mut Draft, stands: &[u8], marked: &[bool]) {
     let mut none = true;
     for live in page.told.live.as_slice() {
         if can_put(live, marked) {
@@ -135,7 +135,7 @@ pub fn absent_text(
     asked: Question,
     event: Option<Event>,
 ) -> Result<Vec<u8>, AllocError> {
-    let mut text = Said::new(alloc);
+    let mut text = Draft::new(alloc);
     page.push_event(&mut text, asked.variable, asked.key, asked.number);
     text.add(b" isn't there\n");
     match event {

@@ -1,13 +1,13 @@
 //! A derivation as a graph for Graphviz.
 
 use crate::derivation::{Node, What};
+use crate::draft::Draft;
 use crate::page::Page;
-use crate::said::Said;
 use crate::words::Row;
 use std::alloc::{AllocError, Global};
 
 /// Adds a node's name: that of a put is the same wherever it stands.
-fn push_name(text: &mut Said, node: Node, place: usize) {
+fn push_name(text: &mut Draft, node: Node, place: usize) {
     match node.what {
         What::Put(put) | What::Again(put) => {
             text.add(b"put");
@@ -21,28 +21,28 @@ fn push_name(text: &mut Said, node: Node, place: usize) {
 }
 
 /// Adds a line of a label, unless it is empty.
-fn push_label_line(text: &mut Said, before: &[u8], part: &Said, after: &[u8]) {
+fn push_label_line(text: &mut Draft, before: &[u8], part: &Draft, after: &[u8]) {
     if !part.is_empty() {
         text.add(before);
-        text.add_said(part);
+        text.add_draft(part);
         text.add(after);
     }
 }
 
 /// Adds the line that draws a node.
-fn push_node(text: &mut Said, node: Node, place: usize, row: &Row) {
+fn push_node(text: &mut Draft, node: Node, place: usize, row: &Row) {
     text.add(b"  ");
     push_name(text, node, place);
     text.add(b" [label=\"");
-    text.add_said(&row.event);
+    text.add_draft(&row.event);
     push_label_line(text, b"\\n", &row.line, b": ");
-    text.add_said(&row.statement);
+    text.add_draft(&row.statement);
     push_label_line(text, b"\\n", &row.who, b"");
     text.add(b"\"]\n");
 }
 
 /// Adds the line that draws an edge to a node from what it follows from.
-fn push_edge(text: &mut Said, nodes: &[Node], node: Node, place: usize) {
+fn push_edge(text: &mut Draft, nodes: &[Node], node: Node, place: usize) {
     let Some(below) = node.below else {
         return;
     };
@@ -58,7 +58,7 @@ fn push_edge(text: &mut Said, nodes: &[Node], node: Node, place: usize) {
 
 /// The graph of a derivation: an edge leads from each event to what follows from it.
 pub fn dot_text(alloc: Global, page: &Page<'_, '_>, nodes: &[Node]) -> Result<Vec<u8>, AllocError> {
-    let mut text = Said::new(alloc);
+    let mut text = Draft::new(alloc);
     text.add(b"digraph why {\n  rankdir=BT\n  node [shape=box]\n");
     for place in 0..nodes.len() {
         let node = nodes[place];

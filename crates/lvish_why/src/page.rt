@@ -1,7 +1,7 @@
 //! What a text says of a run: names, lines and tasks, as they are told.
 
+use crate::draft::Draft;
 use crate::question::declaration_of;
-use crate::said::Said;
 use lvish_checks::{lines_of, words_of};
 use lvish_code::Code;
 use lvish_retrace::{Begin, Standing, Story, ToldProcedure};
@@ -44,7 +44,7 @@ fn names(words: &[&[u8]], behind: usize, name: &[u8]) -> bool {
 }
 
 /// Adds words, one space between them.
-fn push_words(text: &mut Said, words: &[&[u8]]) {
+fn push_words(text: &mut Draft, words: &[&[u8]]) {
     for place in 0..words.len() {
         if place > 0 {
             text.add(b" ");
@@ -89,14 +89,14 @@ impl<'a, 't> Page<'a, 't> {
     }
 
     /// Adds a variable's name.
-    pub fn push_variable(&self, text: &mut Said, variable: usize) {
+    pub fn push_variable(&self, text: &mut Draft, variable: usize) {
         if let Some((name, _)) = declaration_of(self.script, variable) {
             text.add(name.as_bytes());
         }
     }
 
     /// Adds a variable's name and its event's number, behind its key where there are keys.
-    pub fn push_event(&self, text: &mut Said, variable: usize, key: i64, number: i64) {
+    pub fn push_event(&self, text: &mut Draft, variable: usize, key: i64, number: i64) {
         let Some((name, kind)) = declaration_of(self.script, variable) else {
             return;
         };
@@ -110,7 +110,7 @@ impl<'a, 't> Page<'a, 't> {
     }
 
     /// The words of the line of this number; none where memory was refused, which the text notes.
-    fn words(&self, text: &mut Said, line: usize) -> Vec<&'t [u8]> {
+    fn words(&self, text: &mut Draft, line: usize) -> Vec<&'t [u8]> {
         let Some(line) = self.lines.get(line.wrapping_sub(1)) else {
             return Vec::new(text.alloc);
         };
@@ -124,19 +124,19 @@ impl<'a, 't> Page<'a, 't> {
     }
 
     /// Adds the words of the line of this number, one space between them.
-    pub fn push_line(&self, text: &mut Said, line: usize) {
+    pub fn push_line(&self, text: &mut Draft, line: usize) {
         let words = self.words(text, line);
         push_words(text, words.as_slice());
     }
 
     /// Adds `line` and its number.
-    pub fn push_place(&self, text: &mut Said, line: usize) {
+    pub fn push_place(&self, text: &mut Draft, line: usize) {
         text.add(b"line ");
         text.add_count(line as u64);
     }
 
     /// Adds in which line the task of this index was forked, if it was.
-    pub fn push_fork(&self, text: &mut Said, task: usize) {
+    pub fn push_fork(&self, text: &mut Draft, task: usize) {
         let Some(Begin::Forked { step, .. }) = self.told.begins.get(task) else {
             return;
         };
@@ -150,7 +150,7 @@ impl<'a, 't> Page<'a, 't> {
     /// Whether a line of the procedure above this one names the local, or this one reads it.
     fn is_named(
         &self,
-        text: &mut Said,
+        text: &mut Draft,
         procedure: &ToldProcedure<'_>,
         local: &[u8],
         line: usize,
@@ -166,7 +166,7 @@ impl<'a, 't> Page<'a, 't> {
     }
 
     /// Adds the locals that the procedure's lines name up to where a task stands, with their values.
-    pub fn push_locals(&self, text: &mut Said, standing: &Standing) {
+    pub fn push_locals(&self, text: &mut Draft, standing: &Standing) {
         let Some(procedure) = self.told.procedures.get(standing.procedure) else {
             return;
         };

@@ -1,8 +1,8 @@
 //! A derivation as an indented tree.
 
 use crate::derivation::Node;
+use crate::draft::Draft;
 use crate::page::Page;
-use crate::said::Said;
 use crate::words::Row;
 use std::alloc::{AllocError, Global};
 
@@ -64,7 +64,7 @@ fn drawn(is_own: bool, is_last: bool) -> &'static str {
 }
 
 /// Adds the lines that lead to the innermost part of a branch.
-fn push_branch(text: &mut Said, branch: &[usize], last: &[bool]) {
+fn push_branch(text: &mut Draft, branch: &[usize], last: &[bool]) {
     for number in (0..branch.len()).rev() {
         let is_last = is_set(last, branch[number]);
         text.add(drawn(number == 0, is_last).as_bytes());
@@ -72,7 +72,7 @@ fn push_branch(text: &mut Said, branch: &[usize], last: &[bool]) {
 }
 
 /// Adds so many spaces.
-fn push_spaces(text: &mut Said, count: usize) {
+fn push_spaces(text: &mut Draft, count: usize) {
     for _ in 0..count {
         text.add(b" ");
     }
@@ -108,16 +108,16 @@ fn widest(nodes: &[Node], rows: &[Row]) -> usize {
 }
 
 /// Adds a column behind three spaces, unless it is empty.
-fn push_column(text: &mut Said, column: &Said) {
+fn push_column(text: &mut Draft, column: &Draft) {
     if !column.is_empty() {
         text.add(b"   ");
-        text.add_said(column);
+        text.add_draft(column);
     }
 }
 
 /// Adds a row behind what leads to it.
-fn push_row(text: &mut Said, node: Node, row: &Row, widest: usize) {
-    text.add_said(&row.event);
+fn push_row(text: &mut Draft, node: Node, row: &Row, widest: usize) {
+    text.add_draft(&row.event);
     push_column(text, &row.statement);
     if !row.line.is_empty() {
         push_spaces(text, widest.saturating_sub(width_of(node, row)));
@@ -136,7 +136,7 @@ pub fn tree_text(
     let rows = rows_of(alloc, page, nodes)?;
     let last = last_ones(alloc, nodes)?;
     let widest = widest(nodes, rows.as_slice());
-    let mut text = Said::new(alloc);
+    let mut text = Draft::new(alloc);
     for place in 0..nodes.len() {
         let branch = branch(alloc, nodes, place)?;
         push_branch(&mut text, branch.as_slice(), last.as_slice());

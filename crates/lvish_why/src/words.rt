@@ -1,17 +1,17 @@
 //! What is said of a part of a derivation.
 
 use crate::derivation::{Node, What};
+use crate::draft::Draft;
 use crate::page::Page;
-use crate::said::Said;
 use lvish_compound::Event;
 use std::alloc::Global;
 
 /// What stands in the columns of a row: the event, the statement, its line, and who made it.
 pub struct Row {
-    pub event: Said,
-    pub statement: Said,
-    pub line: Said,
-    pub who: Said,
+    pub event: Draft,
+    pub statement: Draft,
+    pub line: Draft,
+    pub who: Draft,
 }
 
 // Written out, so that it is proved once, and not at each exit of a function that owns one.
@@ -30,10 +30,10 @@ impl Row {
     /// Nothing said.
     fn new(alloc: Global) -> Row {
         Row {
-            event: Said::new(alloc),
-            statement: Said::new(alloc),
-            line: Said::new(alloc),
-            who: Said::new(alloc),
+            event: Draft::new(alloc),
+            statement: Draft::new(alloc),
+            line: Draft::new(alloc),
+            who: Draft::new(alloc),
         }
     }
 }
@@ -56,7 +56,7 @@ impl<'a, 't> Page<'a, 't> {
     }
 
     /// Says which event the put at this place brought.
-    fn fill_event(&self, text: &mut Said, place: usize) {
+    fn fill_event(&self, text: &mut Draft, place: usize) {
         if let Some(put) = self.told.brought.get(place) {
             let Event { key, number, .. } = put.event;
             self.push_event(text, put.variable, key, number);

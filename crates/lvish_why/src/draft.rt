@@ -4,16 +4,16 @@ use std::alloc::{AllocError, Global};
 
 /// A text that grows. Once a growth was refused it takes nothing more, and says so at its end: so whoever
 /// writes it asks once, and not at each piece.
-pub struct Said {
+pub struct Draft {
     pub alloc: Global,
     bytes: Vec<u8>,
     is_whole: bool,
 }
 
 // Written out, so that it is proved once, and not at each exit of a function that owns one.
-impl Drop for Said {
+impl Drop for Draft {
     fn drop(self) {
-        let Said {
+        let Draft {
             alloc: _,
             bytes: _,
             is_whole: _,
@@ -21,9 +21,9 @@ impl Drop for Said {
     }
 }
 
-impl Said {
-    pub fn new(alloc: Global) -> Said {
-        Said {
+impl Draft {
+    pub fn new(alloc: Global) -> Draft {
+        Draft {
             alloc,
             bytes: Vec::new(alloc),
             is_whole: true,
@@ -69,7 +69,7 @@ impl Said {
     }
 
     /// Adds another text, or that a growth of it was refused.
-    pub fn add_said(&mut self, other: &Said) {
+    pub fn add_draft(&mut self, other: &Draft) {
         self.add(other.bytes.as_slice());
         if !other.is_whole {
             self.fail();
@@ -91,7 +91,7 @@ impl Said {
     ///
     /// `AllocError` where a growth was refused.
     pub fn into_bytes(self) -> Result<Vec<u8>, AllocError> {
-        let Said {
+        let Draft {
             alloc: _,
             bytes,
             is_whole,
