@@ -1,7 +1,7 @@
 //! A text that grows.
 
 ghost use Rattle.std.specs.Prelude.{◌≡◌, ℕ, List, [], ◌∷◌, IfOk, IsTrue, map, replicate, string_bytes};
-ghost use Rattle.std.specs.Fmt.{decimal};
+ghost use Rattle.std.specs.Fmt.{decimal, signed_decimal};
 ghost use Rattle.lvish_explain.specs.Draft.{Adds};
 ghost use Rattle.lvish_explain.specs.Text.{shown_byte};
 
@@ -73,6 +73,22 @@ impl Draft {
         if let Err(_) = push_number(self.alloc, &mut self.bytes, number) {
             self.is_whole = false;
         }
+    }
+
+    /// Adds an integer in decimal.
+    pub fn add_integer(&mut self, number: i64)
+        ensures { Adds self.old self.new (signed_decimal number) }
+    {
+        let digits = number.to_string(self.alloc);
+        self.add_asked(digits);
+    }
+
+    /// Adds a count in decimal.
+    pub fn add_count(&mut self, number: u64)
+        ensures { Adds self.old self.new (decimal number) }
+    {
+        let digits = number.to_string(self.alloc);
+        self.add_asked(digits);
     }
 
     /// Adds bytes as they are shown.
