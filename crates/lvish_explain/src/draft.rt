@@ -56,6 +56,16 @@ impl Draft {
         }
     }
 
+    /// Adds another text, or notes that memory was refused to it.
+    pub fn add_draft(&mut self, other: &Draft)
+        ensures { Adds self.old self.new other.now.bytes.items }
+    {
+        self.add(other.bytes.as_slice());
+        if !other.is_whole {
+            self.is_whole = false;
+        }
+    }
+
     /// Adds a text for which memory was asked.
     pub fn add_asked(&mut self, text: Result<String, AllocError>)
         ensures { (bytes : List ℕ) → IfOk text (λ t. string_bytes t ≡ bytes) → Adds self.old self.new bytes }

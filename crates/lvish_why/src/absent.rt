@@ -1,10 +1,10 @@
 //! What is said of an event that isn't there.
 
-use crate::draft::Draft;
-use crate::page::Page;
+use crate::page::{Page, push_task};
 use crate::question::{Question, can_be};
 use lvish_code::{Action, Instruction, Routine};
 use lvish_compound::Event;
+use lvish_explain::Draft;
 use lvish_retrace::Live;
 use lvish_trace::Outcome;
 use std::alloc::{AllocError, Global};
@@ -95,7 +95,7 @@ fn push_live(page: &Page<'_, '_>, text: &mut Draft, live: &Live, stands: &[u8]) 
     let Some(name) = page.told.names.get(live.task) else {
         return;
     };
-    text.add_task(name);
+    push_task(text, name);
     text.add(stands);
     page.push_place(text, live.standing.line);
     text.add(b": ");

@@ -1,9 +1,9 @@
 //! A derivation as a graph for Graphviz.
 
 use crate::derivation::{Node, What};
-use crate::draft::Draft;
 use crate::page::Page;
-use crate::words::Row;
+use crate::words::{Row, is_blank};
+use lvish_explain::Draft;
 use std::alloc::{AllocError, Global};
 
 /// Adds a node's name: that of a put is the same wherever it stands.
@@ -22,7 +22,7 @@ fn push_name(text: &mut Draft, node: Node, place: usize) {
 
 /// Adds a line of a label, unless it is empty.
 fn push_label_line(text: &mut Draft, before: &[u8], part: &Draft, after: &[u8]) {
-    if !part.is_empty() {
+    if !is_blank(part) {
         text.add(before);
         text.add_draft(part);
         text.add(after);

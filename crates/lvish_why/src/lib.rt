@@ -16,7 +16,6 @@ mod absent;
 mod derivation;
 mod derived;
 mod dot;
-mod draft;
 mod form;
 mod page;
 mod premises;

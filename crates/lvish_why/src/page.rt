@@ -1,9 +1,11 @@
 //! What a text says of a run: names, lines and tasks, as they are told.
 
-use crate::draft::Draft;
 use crate::question::declaration_of;
 use lvish_checks::{lines_of, words_of};
 use lvish_code::Code;
+use lvish_compound::Event;
+use lvish_explain::Draft;
+use lvish_names::TaskName;
 use lvish_retrace::{Begin, Standing, Story, ToldProcedure};
 use lvish_syntax::{Script, VariableKind};
 use std::alloc::{AllocError, Global};
@@ -41,6 +43,12 @@ fn names(words: &[&[u8]], behind: usize, name: &[u8]) -> bool {
         }
     }
     false
+}
+
+/// Adds a task's name.
+pub fn push_task(text: &mut Draft, task: &TaskName<Event>) {
+    let name = task.text(text.alloc);
+    text.add_asked(name);
 }
 
 /// Adds words, one space between them.
@@ -103,10 +111,10 @@ impl<'a, 't> Page<'a, 't> {
         text.add(name.as_bytes());
         text.add(b" ");
         if has_keys(kind) {
-            text.add_number(key);
+            text.add_integer(key);
             text.add(b":");
         }
-        text.add_number(number);
+        text.add_integer(number);
     }
 
     /// The words of the line of this number; none where memory was refused, which the text notes.
@@ -181,7 +189,7 @@ impl<'a, 't> Page<'a, 't> {
                 text.add(before);
                 text.add(local);
                 text.add(b" ");
-                text.add_number(*value);
+                text.add_integer(*value);
                 before = b", ";
             }
         }

@@ -1,9 +1,9 @@
 //! A derivation as an indented tree.
 
 use crate::derivation::Node;
-use crate::draft::Draft;
 use crate::page::Page;
-use crate::words::Row;
+use crate::words::{Row, is_blank};
+use lvish_explain::Draft;
 use std::alloc::{AllocError, Global};
 
 /// Whether each part is the last of those below the same one.
@@ -82,9 +82,9 @@ fn push_spaces(text: &mut Draft, count: usize) {
 fn width_of(node: Node, row: &Row) -> usize {
     node.depth
         .saturating_mul(2)
-        .saturating_add(row.event.len())
+        .saturating_add(row.event.bytes.len())
         .saturating_add(3)
-        .saturating_add(row.statement.len())
+        .saturating_add(row.statement.bytes.len())
 }
 
 /// The rows of the parts.
@@ -100,7 +100,7 @@ fn rows_of(alloc: Global, page: &Page<'_, '_>, nodes: &[Node]) -> Result<Vec<Row
 fn widest(nodes: &[Node], rows: &[Row]) -> usize {
     let mut widest = 0;
     for (node, row) in nodes.iter().zip(rows) {
-        if !row.line.is_empty() {
+        if !is_blank(&row.line) {
             widest = width_of(*node, row).max(widest);
         }
     }
@@ -109,7 +109,7 @@ fn widest(nodes: &[Node], rows: &[Row]) -> usize {
 
 /// Adds a column behind three spaces, unless it is empty.
 fn push_column(text: &mut Draft, column: &Draft) {
-    if !column.is_empty() {
+    if !is_blank(column) {
         text.add(b"   ");
         text.add_draft(column);
     }
@@ -119,7 +119,7 @@ fn push_column(text: &mut Draft, column: &Draft) {
 fn push_row(text: &mut Draft, node: Node, row: &Row, widest: usize) {
     text.add_draft(&row.event);
     push_column(text, &row.statement);
-    if !row.line.is_empty() {
+    if !is_blank(&row.line) {
         push_spaces(text, widest.saturating_sub(width_of(node, row)));
     }
     push_column(text, &row.line);

@@ -1,9 +1,9 @@
 //! What is said of a part of a derivation.
 
 use crate::derivation::{Node, What};
-use crate::draft::Draft;
-use crate::page::Page;
+use crate::page::{Page, push_task};
 use lvish_compound::Event;
+use lvish_explain::Draft;
 use std::alloc::Global;
 
 /// What stands in the columns of a row: the event, the statement, its line, and who made it.
@@ -24,6 +24,11 @@ impl Drop for Row {
             who: _,
         } = self;
     }
+}
+
+/// Whether nothing is said; not where memory was refused.
+pub fn is_blank(text: &Draft) -> bool {
+    text.is_whole && text.bytes.is_empty()
 }
 
 impl Row {
@@ -83,7 +88,7 @@ impl<'a, 't> Page<'a, 't> {
         self.push_line(&mut row.statement, step.line);
         self.push_place(&mut row.line, step.line);
         let who = &mut row.who;
-        who.add_task(&put.task);
+        push_task(who, &put.task);
         who.add(b", its put ");
         who.add_count(put.number);
         self.push_fork(who, step.task);
