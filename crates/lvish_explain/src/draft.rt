@@ -5,7 +5,7 @@ ghost use Rattle.std.specs.Fmt.{decimal, signed_decimal};
 ghost use Rattle.lvish_explain.specs.Draft.{Adds};
 ghost use Rattle.lvish_explain.specs.Text.{shown_byte};
 
-use crate::shown::{push_number, push_repeated, push_shown};
+use crate::shown::{push_count, push_integer, push_number, push_repeated, push_shown};
 use std::alloc::{AllocError, Global};
 
 /// A text that grows. It notes where a growth was refused, and says so at its end: so whoever writes it asks
@@ -89,16 +89,18 @@ impl Draft {
     pub fn add_integer(&mut self, number: i64)
         ensures { Adds self.old self.new (signed_decimal number) }
     {
-        let digits = number.to_string(self.alloc);
-        self.add_asked(digits);
+        if let Err(_) = push_integer(self.alloc, &mut self.bytes, number) {
+            self.is_whole = false;
+        }
     }
 
     /// Adds a count in decimal.
     pub fn add_count(&mut self, number: u64)
         ensures { Adds self.old self.new (decimal number) }
     {
-        let digits = number.to_string(self.alloc);
-        self.add_asked(digits);
+        if let Err(_) = push_count(self.alloc, &mut self.bytes, number) {
+            self.is_whole = false;
+        }
     }
 
     /// Adds bytes as they are shown.
