@@ -1,5 +1,3 @@
-pub mod Seen
-pub mod Adds
 pub mod Shape
 pub mod Content
 pub mod Report

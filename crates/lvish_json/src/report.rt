@@ -1,9 +1,8 @@
-ghost use Rattle.std.specs.Prelude.{◌≡◌, IfOk, option_map};
+ghost use Rattle.std.specs.Prelude.{◌≡◌, ◌++◌, IfOk, OnOk, option_map};
 ghost use Rattle.json.specs.Json.{string};
 ghost use Rattle.json.specs.Tree.{json_tokens, members_tokens};
 ghost use Rattle.lvish_names.specs.NameText.{name_text};
 ghost use Rattle.lvish_report.specs.Text.{kind_name, variables_of};
-ghost use Rattle.lvish_json.specs.Adds.{Adds};
 ghost use Rattle.lvish_json.specs.Shape.{members_of, each, count, IsLineOf};
 ghost use Rattle.lvish_json.specs.Report.{outcome_name, error_value, outcome_error, picks_field, report_value};
 
@@ -50,17 +49,18 @@ fn kind_name(kind: ErrorKind) -> &'static str
 }
 
 /// Adds a task's name.
-fn put_task<E: Plain + Numbered>(alloc: Global, text: &mut JsonText, task: &TaskName<E>)
-    ensures { Adds text.old text.new (json_tokens (string (name_text E.key_of E.number_of task.now))) }
+fn put_task<E: Plain + Numbered>(
+    alloc: Global,
+    text: &mut JsonText,
+    task: &TaskName<E>,
+) -> Result<(), AllocError>
+    ensures { OnOk result (text.new ≡ text.old ++ json_tokens (string (name_text E.key_of E.number_of task.now))) }
 {
-    match task.text(alloc) {
-        Ok(name) => text.string(name.as_str()),
-        Err(_) => text.fail(),
-    }
+    let name = task.text(alloc)?;
+    text.string(name.as_str())
 }
 
 /// Adds an error.
-#[tactic(auto, using(crate::proofs::Adding::adds_then))]
 fn put_error<E: Plain + Numbered>(
     alloc: Global,
     text: &mut JsonText,
@@ -68,16 +68,16 @@ fn put_error<E: Plain + Numbered>(
     kind: ErrorKind,
     variable: Option<usize>,
     task: &TaskName<E>,
-)
-    ensures { Adds text.old text.new (json_tokens (error_value (variables_of declarations.now) E.key_of E.number_of kind variable task.now)) }
+) -> Result<(), AllocError>
+    ensures { OnOk result (text.new ≡ text.old ++ json_tokens (error_value (variables_of declarations.now) E.key_of E.number_of kind variable task.now)) }
 {
-    text.begin_object();
-    text.key("kind");
-    text.string(kind_name(kind));
-    text.key("variable");
-    put_name_if_any(text, declarations, variable);
-    text.key("task");
-    put_task(alloc, text, task);
+    text.begin_object()?;
+    text.key("kind")?;
+    text.string(kind_name(kind))?;
+    text.key("variable")?;
+    put_name_if_any(text, declarations, variable)?;
+    text.key("task")?;
+    put_task(alloc, text, task)?;
     text.end_object()
 }
 
@@ -87,8 +87,8 @@ fn put_outcome_error<E: Plain + Numbered>(
     text: &mut JsonText,
     declarations: &[Declaration],
     outcome: &Outcome<E>,
-)
-    ensures { Adds text.old text.new (json_tokens (outcome_error (variables_of declarations.now) E.key_of E.number_of outcome.now)) }
+) -> Result<(), AllocError>
+    ensures { OnOk result (text.new ≡ text.old ++ json_tokens (outcome_error (variables_of declarations.now) E.key_of E.number_of outcome.now)) }
 {
     match outcome {
         Outcome::Ended => text.null(),
@@ -102,25 +102,24 @@ fn put_outcome_error<E: Plain + Numbered>(
 }
 
 /// Adds numbers.
-fn put_counts(text: &mut JsonText, counts: &[u64])
-    ensures { Adds text.old text.new (json_tokens (each count counts.now)) }
+fn put_counts(text: &mut JsonText, counts: &[u64]) -> Result<(), AllocError>
+    ensures { OnOk result (text.new ≡ text.old ++ json_tokens (each count counts.now)) }
 {
-    text.begin_array();
+    text.begin_array()?;
     for number in counts {
-        text.count(*number);
+        text.count(*number)?;
     }
     text.end_array()
 }
 
 /// Adds the picks, where they are asked for, and ends the object.
-#[tactic(auto, using(crate::proofs::Adding::adds_then))]
-fn end_with_picks(text: &mut JsonText, picks: Option<&[u64]>)
-    ensures { Adds text.old text.new (members_tokens (members_of (picks_field (option_map (λ p. p.now) picks.entry)))) }
+fn end_with_picks(text: &mut JsonText, picks: Option<&[u64]>) -> Result<(), AllocError>
+    ensures { OnOk result (text.new ≡ text.old ++ members_tokens (members_of (picks_field (option_map (λ p. p.now) picks.entry)))) }
 {
     match picks {
         Some(picks) => {
-            text.key("picks");
-            put_counts(text, picks);
+            text.key("picks")?;
+            put_counts(text, picks)?;
             text.end_object()
         }
         None => text.end_object(),
@@ -128,32 +127,31 @@ fn end_with_picks(text: &mut JsonText, picks: Option<&[u64]>)
 }
 
 /// Adds all of a report, and the picks where they are asked for.
-#[tactic(auto, using(crate::proofs::Adding::adds_then))]
 pub fn put_report<E: Plain + Numbered>(
     alloc: Global,
     text: &mut JsonText,
     script: &Script,
     report: &Report<Any, E>,
     picks: Option<&[u64]>,
-)
-    ensures { Adds text.old text.new (json_tokens (report_value (variables_of script.now.declarations) E.key_of E.number_of report.now (option_map (λ p. p.now) picks.entry))) }
+) -> Result<(), AllocError>
+    ensures { OnOk result (text.new ≡ text.old ++ json_tokens (report_value (variables_of script.now.declarations) E.key_of E.number_of report.now (option_map (λ p. p.now) picks.entry))) }
 {
     let declarations = script.declarations();
-    text.begin_object();
-    text.key("outcome");
-    text.string(outcome_name(&report.outcome));
-    text.key("error");
-    put_outcome_error(alloc, text, declarations, &report.outcome);
-    text.key("steps");
-    text.count(report.steps);
-    text.key("blocked");
-    text.count(report.blocked);
-    text.key("by_worker");
-    put_counts(text, report.by_worker.as_slice());
-    text.key("freezes");
-    put_names(text, declarations, report.freezes.as_slice());
-    text.key("states");
-    put_states(alloc, text, declarations, report.states.as_slice());
+    text.begin_object()?;
+    text.key("outcome")?;
+    text.string(outcome_name(&report.outcome))?;
+    text.key("error")?;
+    put_outcome_error(alloc, text, declarations, &report.outcome)?;
+    text.key("steps")?;
+    text.count(report.steps)?;
+    text.key("blocked")?;
+    text.count(report.blocked)?;
+    text.key("by_worker")?;
+    put_counts(text, report.by_worker.as_slice())?;
+    text.key("freezes")?;
+    put_names(text, declarations, report.freezes.as_slice())?;
+    text.key("states")?;
+    put_states(alloc, text, declarations, report.states.as_slice())?;
     end_with_picks(text, picks)
 }
 
@@ -173,6 +171,6 @@ pub fn report_json<E: Plain + Numbered>(
     ensures { IfOk result (λ bytes. IsLineOf (report_value (variables_of script.now.declarations) E.key_of E.number_of report.now (option_map (λ p. p.now) picks.entry)) bytes.items) }
 {
     let mut text = JsonText::new(alloc);
-    put_report(alloc, &mut text, script, report, picks);
+    put_report(alloc, &mut text, script, report, picks)?;
     text.into_line()
 }

@@ -1,8 +1,7 @@
-ghost use Rattle.std.specs.Prelude.{◌≡◌};
+ghost use Rattle.std.specs.Prelude.{◌≡◌, ◌++◌, OnOk};
 ghost use Rattle.json.specs.Json.{string, array};
 ghost use Rattle.json.specs.Tree.{json_tokens};
 ghost use Rattle.lvish_report.specs.Text.{variables_of};
-ghost use Rattle.lvish_json.specs.Adds.{Adds};
 ghost use Rattle.lvish_json.specs.Shape.{items_of};
 ghost use Rattle.lvish_json.specs.Content.{kind_text};
 ghost use Rattle.lvish_json.specs.Report.{state_value, state_values};
@@ -12,38 +11,35 @@ use crate::text::JsonText;
 use lvish_compound::Any;
 use lvish_report::FinalState;
 use lvish_syntax::{Declaration, Identifier, VariableKind};
-use std::alloc::Global;
+use std::alloc::{AllocError, Global};
 
 /// Adds a kind.
-fn put_kind(alloc: Global, text: &mut JsonText, kind: VariableKind)
-    ensures { Adds text.old text.new (json_tokens (string (kind_text kind))) }
+fn put_kind(alloc: Global, text: &mut JsonText, kind: VariableKind) -> Result<(), AllocError>
+    ensures { OnOk result (text.new ≡ text.old ++ json_tokens (string (kind_text kind))) }
 {
-    match kind_text(alloc, kind) {
-        Ok(words) => text.string(words.as_str()),
-        Err(_) => text.fail(),
-    }
+    let words = kind_text(alloc, kind)?;
+    text.string(words.as_str())
 }
 
 /// Adds a variable's state.
-#[tactic(auto, using(crate::proofs::Adding::adds_then))]
 fn put_state(
     alloc: Global,
     text: &mut JsonText,
     name: &Identifier,
     kind: VariableKind,
     state: &FinalState<Any>,
-)
-    ensures { Adds text.old text.new (json_tokens (state_value (name.now, kind) state.now)) }
+) -> Result<(), AllocError>
+    ensures { OnOk result (text.new ≡ text.old ++ json_tokens (state_value (name.now, kind) state.now)) }
 {
-    text.begin_object();
-    text.key("name");
-    text.string(name.as_str());
-    text.key("kind");
-    put_kind(alloc, text, kind);
-    text.key("frozen");
-    text.boolean(state.frozen);
-    text.key("content");
-    put_content(text, kind, &state.content);
+    text.begin_object()?;
+    text.key("name")?;
+    text.string(name.as_str())?;
+    text.key("kind")?;
+    put_kind(alloc, text, kind)?;
+    text.key("frozen")?;
+    text.boolean(state.frozen)?;
+    text.key("content")?;
+    put_content(text, kind, &state.content)?;
     text.end_object()
 }
 
@@ -53,15 +49,15 @@ pub fn put_states(
     text: &mut JsonText,
     declarations: &[Declaration],
     states: &[FinalState<Any>],
-)
-    ensures { Adds text.old text.new (json_tokens (array (items_of (state_values (variables_of declarations.now) states.now)))) }
+) -> Result<(), AllocError>
+    ensures { OnOk result (text.new ≡ text.old ++ json_tokens (array (items_of (state_values (variables_of declarations.now) states.now)))) }
 {
-    text.begin_array();
+    text.begin_array()?;
     let mut place = 0;
     for i in 0..declarations.len() {
         if let Declaration::Variable(name, kind) = &declarations[i] {
             if let Some(state) = states.get(place) {
-                put_state(alloc, text, name, *kind, state);
+                put_state(alloc, text, name, *kind, state)?;
                 place += 1;
             }
         }
