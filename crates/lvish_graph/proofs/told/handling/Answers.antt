@@ -3,8 +3,8 @@ use Rattle.std.specs.List.{list_any}
 use Rattle.lvish_syntax.specs.Words.{Word}
 use Rattle.lvish_graph.specs.Deeds.{handles}
 use Rattle.lvish_graph.proofs.Loops.{taken_more, left_out}
-use Rattle.lvish_graph.proofs.told.handlers.Goals as goal
-use Rattle.lvish_graph.proofs.told.handlers.Goals.{then-any_handles+in_ok-push, else-any_handles}
+use Rattle.lvish_graph.proofs.told.handling.Goals as goal
+use Rattle.lvish_graph.proofs.told.handling.Goals.{then-any_handles+in_ok-push, else-any_handles}
 
 pub loop-procedure-preserved : goal.loop-procedure-preserved
 loop-procedure-preserved c =
