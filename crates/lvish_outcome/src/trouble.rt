@@ -101,7 +101,6 @@ fn push_operator(text: &mut Draft, operator: Operator)
     }
 }
 
-#[tactic(auto, using(lvish_explain::proofs::Adding::adds_then, lvish_explain::proofs::Adding::adds_none))]
 fn push_sum(text: &mut Draft, sum: Sum, fails: &[u8])
     ensures { Adds text.old text.new (sum_text sum fails.now) }
 {
@@ -127,7 +126,6 @@ fn push_put(text: &mut Draft, spot: &Spot<'_>, number: i64, said: &[u8])
     text.add(said);
 }
 
-#[tactic(auto, using(lvish_explain::proofs::Adding::adds_then, lvish_explain::proofs::Adding::adds_none))]
 fn push_other(text: &mut Draft, spot: &Spot<'_>, number: i64, there: i64)
     ensures { Adds text.old text.new (other_text spot.now number there) }
 {
@@ -140,7 +138,6 @@ fn push_other(text: &mut Draft, spot: &Spot<'_>, number: i64, there: i64)
     text.add(b" is");
 }
 
-#[tactic(auto, using(lvish_explain::proofs::Adding::adds_then, lvish_explain::proofs::Adding::adds_none))]
 fn push_range(text: &mut Draft, spot: &Spot<'_>, number: i64, highest: i64)
     ensures { Adds text.old text.new (range_text spot.now number highest) }
 {
