@@ -83,6 +83,17 @@ def calls_of(question):
     return [Call(program, tuple(it), b"" if it else script, file, script) for it in asked]
 
 
+def shown(line):
+    """Returns a printed line as a row's script has it, with its escapes."""
+    return "".join(chr(it) if 32 <= it <= 126 and it != 92 else f"\\x{it:02x}" for it in line) or "\\n\\"
+
+
+def laid_out(ran):
+    """Returns the lines of a layout, as a row's script has them."""
+    lines = bytes_of(ran.text).split(b"\n")
+    return "".join(f"{shown(it)}\n" for it in lines[:-1]) + (f"{shown(lines[-1])}\\\n" if lines[-1] else "")
+
+
 def answer_to(question, rans):
     """Returns the status and the text that answer a question, by what its calls came to."""
     first = question.words[0] if question.words else ""
@@ -92,6 +103,8 @@ def answer_to(question, rans):
         return 0, ends(rans)
     if first == "said":
         return rans[0].status, rans[0].text + rans[0].said
+    if first == "layout":
+        return rans[0].status, laid_out(rans[0])
     usual = rans[0]
     other = next((it for it in rans if it[:2] != usual[:2]), None)
     text = usual.text
@@ -129,7 +142,13 @@ def run(words, given, folder=None):
         ran = subprocess.run(words, cwd=folder, input=given, capture_output=True, timeout=SECONDS)
     except (OSError, subprocess.TimeoutExpired) as error:
         return Ran(-1, "", str(error))
-    return Ran(ran.returncode, ran.stdout.decode(errors="replace"), ran.stderr.decode(errors="replace"))
+    # (bytes that are no text come back by `bytes_of`)
+    return Ran(ran.returncode, ran.stdout.decode(errors="surrogateescape"), ran.stderr.decode(errors="replace"))
+
+
+def bytes_of(text):
+    """Returns the bytes that a program printed as this text."""
+    return text.encode(errors="surrogateescape")
 
 
 class Calls:
@@ -153,5 +172,10 @@ class Calls:
         return [self.paths[call.program], *call.words]
 
     def make(self, call):
-        """Makes a call, and returns what came of it."""
-        return run(self.words_of(call), call.given, self.folder_of(call))
+        """Makes a call, and returns what came of it. A layout is laid out again, and where that changes it, the change counts."""
+        words, folder = self.words_of(call), self.folder_of(call)
+        if call.words[:1] != ("layout",):
+            return run(words, call.given, folder)
+        ran = run([words[0], "fmt", *words[2:]], call.given, folder)
+        again = run([words[0], "fmt", "-"], bytes_of(ran.text), folder)
+        return ran if again == ran else again

@@ -19,6 +19,8 @@ mod cut;
 pub mod laws;
 mod picks;
 mod place;
+mod text;
 mod walk;
 
 pub use picks::picks_of;
+pub use text::picks_text;

@@ -1,5 +1,6 @@
 -- The lines that the program prints where it prints no report.
-use Rattle.std.specs.Prelude.{ℕ, List, [], ◌∷◌, ◌++◌, Option, Some, None, codes, decimal, flat_map}
+use Rattle.std.specs.Prelude.{ℕ, List, [], ◌∷◌, ◌++◌, Option, Some, None, codes, decimal}
+use Rattle.lvish_again.specs.Text.{picks_text as some_picks_text}
 use Rattle.lvish_json.specs.declared.alike.Alike.{Alike}
 use Rattle.lvish_json.specs.declared.alike.Alike.TheVariants.{Always, Ends, Unknown}
 
@@ -28,4 +29,4 @@ refusal_text number name line = codes "refused " ++ (decimal number ++ (codes " 
 
 -- the picks that make a run again
 abbrev pub picks_text : List ℕ → List ℕ
-picks_text picks = codes "picks" ++ (flat_map (λ n. codes " " ++ decimal n) picks ++ 10 ∷ [])
+picks_text picks = codes "picks" ++ (some_picks_text picks ++ 10 ∷ [])

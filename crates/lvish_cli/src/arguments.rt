@@ -222,8 +222,18 @@ pub fn with_arguments<'a>(
 ) -> Result<Command<'a>, AllocError> {
     let mut command = command;
     for argument in arguments {
-        let arg = Arg::new(alloc, argument.name).help(argument.help);
-        command = command.arg(taking(arg, argument)?)?;
+        command = with_argument(alloc, command, argument)?;
     }
     Ok(command)
+}
+
+/// The command with one argument more.
+fn with_argument<'a>(
+    alloc: Global,
+    command: Command<'a>,
+    argument: &Argument,
+) -> Result<Command<'a>, AllocError> {
+    let arg = Arg::new(alloc, argument.name).help(argument.help);
+    let arg = taking(arg, argument)?;
+    command.arg(arg)
 }

@@ -132,7 +132,7 @@ pub fn kind_of(name: &str) -> Option<CommandKind> {
 pub fn program<'a>(alloc: Global, name: &str) -> Result<Command<'a>, AllocError> {
     let program = without_commands(alloc)?;
     match text_of(name) {
-        Some(text) => program.subcommand(command_of(alloc, &text)?),
+        Some(text) => with_command(alloc, program, &text),
         None => with_all(alloc, program),
     }
 }
@@ -156,9 +156,19 @@ fn without_commands<'a>(alloc: Global) -> Result<Command<'a>, AllocError> {
 fn with_all<'a>(alloc: Global, program: Command<'a>) -> Result<Command<'a>, AllocError> {
     let mut program = program;
     for text in COMMANDS.as_slice() {
-        program = program.subcommand(command_of(alloc, text)?)?;
+        program = with_command(alloc, program, text)?;
     }
     Ok(program)
+}
+
+/// The program with one command more.
+fn with_command<'a>(
+    alloc: Global,
+    program: Command<'a>,
+    text: &CommandText,
+) -> Result<Command<'a>, AllocError> {
+    let command = command_of(alloc, text)?;
+    program.subcommand(command)
 }
 
 /// The command of which this is told.

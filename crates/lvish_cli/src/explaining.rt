@@ -1,17 +1,15 @@
 //! What standard error says of what came of words.
 
-ghost use Rattle.std.specs.Prelude.{IfOk, IfSome, Some};
-ghost use Rattle.lvish_cli.specs.Streams.{text_seen};
+ghost use Rattle.std.specs.Prelude.{IfOk};
 ghost use Rattle.lvish_cli.specs.Explained.{IsWhy};
 
 use crate::performing::Left;
-use crate::reading::read_text;
 use crate::telling::{Telling, painted};
 use lvish_explain::explain;
 use lvish_outcome::explain_outcome;
 use lvish_script::{Fault, read_script};
 use std::alloc::{AllocError, Global};
-use std::io::{Error, Read};
+use std::io::Error;
 
 /// The explanation of a text that is no script, for the file at a path; nothing of a script.
 pub fn why_of_text(alloc: Global, path: &str, text: &[u8]) -> Result<Option<Vec<u8>>, AllocError>
@@ -21,21 +19,6 @@ pub fn why_of_text(alloc: Global, path: &str, text: &[u8]) -> Result<Option<Vec<
         Ok(_script) => Ok(None),
         Err(fault) if fault.fault == Fault::Memory => Err(AllocError),
         Err(fault) => Ok(Some(explain(alloc, path, text, fault)?)),
-    }
-}
-
-/// The explanation of what the reader gives, where that is no script. What can't be read, and what
-/// there is no memory for, has none.
-pub fn why_read<R: Read>(alloc: Global, path: &str, reader: &mut R) -> Option<Vec<u8>>
-    ensures { IfSome result (λ told. IfSome (R.remaining reader.old)
-        (λ given. IsWhy path.now (text_seen given) (Some told))) }
-{
-    let Ok(text) = read_text(alloc, reader) else {
-        return None;
-    };
-    match why_of_text(alloc, path, text.as_slice()) {
-        Ok(told) => told,
-        Err(_) => None,
     }
 }
 

@@ -24,7 +24,7 @@ mod words;
 mod writing;
 
 pub use answering::answer_to;
-pub use explaining::{why_of_text, why_read};
+pub use explaining::why_of_text;
 pub use order::{
     CheckOrder, GraphOrder, NumberWords, Order, PickOrder, Picks, RunOrder, Source, TryOrder,
     UsageFault, WhyOrder,

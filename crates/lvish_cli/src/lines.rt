@@ -49,10 +49,7 @@ pub fn refusal_line(
 pub fn picks_line(alloc: Global, picks: &[u64]) -> Result<String, AllocError>
     ensures { IfOk result (λ text. string_bytes text ≡ picks_text picks.now) }
 {
-    let mut text = String::from_str(alloc, "picks")?;
-    for pick in picks {
-        text.push_str(format!(in alloc; " {pick}")?.as_str())?;
-    }
-    text.push('\n')?;
-    Ok(text)
+    let picks = lvish_again::picks_text(alloc, picks)?;
+    let picks = picks.as_str();
+    format!(in alloc; "picks{picks}\n")
 }

@@ -173,7 +173,7 @@ pub struct GraphOrder {
 }
 
 /// Where the script is.
-#[derive(Debug, PartialEq, Drop)]
+#[derive(Drop)]
 pub enum Source {
     /// In the file at this path.
     File(String),
@@ -182,7 +182,7 @@ pub enum Source {
 }
 
 /// Why the words are no order.
-#[derive(Debug, PartialEq, Drop, Error)]
+#[derive(Debug, Drop, Error)]
 pub enum UsageFault {
     /// Help was asked for: this is it.
     #[error("{0}")]

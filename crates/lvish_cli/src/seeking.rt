@@ -11,7 +11,7 @@ use crate::status::Status;
 use lvish_again::laws::reports_are_core_runs;
 use lvish_run::{MOST_STEPS, RunMeaning, run_picks};
 use lvish_syntax::{Declaration, Script, VariableKind};
-use lvish_why::{Asked, Derived, Form, why};
+use lvish_why::{Derived, Form, Question, why};
 use std::alloc::{AllocError, Global};
 
 /// Why words name no event of a script, or no run.
@@ -48,7 +48,7 @@ fn derived(
     text: &[u8],
     script: &Script,
     asked: &WhyOrder,
-    event: Asked,
+    event: Question,
     picks: &Picks,
 ) -> Result<Output, AllocError>
     requires bounded { asked.now.budget ≤ MOST_STEPS }
@@ -103,7 +103,7 @@ fn misuse(alloc: Global, asked: &WhyOrder, unnamed: Unnamed) -> Result<Output, A
 }
 
 /// The event that an order names, and the numbers behind it.
-fn event_of<'w>(script: &Script, asked: &'w WhyOrder) -> Result<(Asked, &'w [i64]), Unnamed>
+fn event_of<'w>(script: &Script, asked: &'w WhyOrder) -> Result<(Question, &'w [i64]), Unnamed>
     ensures { IfOk result (λ named. IsNamed script.now asked.now named.0 named.1.now) }
 {
     let declarations = script.declarations();
@@ -112,7 +112,7 @@ fn event_of<'w>(script: &Script, asked: &'w WhyOrder) -> Result<(Asked, &'w [i64
     };
     match asked.numbers.as_slice() {
         [key, number, rest @ ..] if has_keys(kind) => Ok((
-            Asked {
+            Question {
                 variable,
                 key: *key,
                 number: *number,
@@ -120,7 +120,7 @@ fn event_of<'w>(script: &Script, asked: &'w WhyOrder) -> Result<(Asked, &'w [i64
             rest,
         )),
         [number, rest @ ..] if !has_keys(kind) => Ok((
-            Asked {
+            Question {
                 variable,
                 key: 0,
                 number: *number,

@@ -6,7 +6,7 @@ ghost use Rattle.lvish_cli.specs.Painted.{IsHeadLength, IsPainted};
 use std::alloc::{AllocError, Global};
 
 /// Where standard error goes.
-#[derive(Clone, Copy, Debug, PartialEq, Eq)]
+#[derive(Clone, Copy)]
 pub enum Hearer {
     /// To a file or a program.
     Stream,

@@ -1,7 +1,9 @@
-//! What no file of rows can show, since it needs readers, writers and files that fail.
+//! What no file of rows can show, since it needs readers, writers and files that fail, or faults that a text
+//! doesn't have.
 
 mod endings;
 mod fakes;
+mod given;
 mod streams;
 
 use fakes::{Refusal, ShortWriter};

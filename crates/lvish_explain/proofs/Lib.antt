@@ -1,3 +1,4 @@
+pub mod Adding
 pub mod Knowing
 pub mod Lines
 pub mod Marks

@@ -5,3 +5,4 @@ pub mod Mark
 pub mod Place
 pub mod Text
 pub mod Explained
+pub mod Draft

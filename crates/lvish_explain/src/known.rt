@@ -8,7 +8,7 @@ use lvish_checks::put_words;
 use std::alloc::{AllocError, Global};
 
 /// What is named: each has its own names.
-#[derive(Clone, Copy, Debug, PartialEq, Eq)]
+#[derive(Clone, Copy, PartialEq, Eq)]
 pub enum Space {
     Variable,
     Pool,

@@ -12,6 +12,7 @@
 //! ```
 #![tactic(auto)]
 
+mod draft;
 mod find;
 mod finding;
 mod forms;
@@ -26,7 +27,7 @@ mod shown;
 mod telling;
 mod word;
 
+pub use draft::Draft;
 pub use mark::{Mark, mark_of};
 pub use place::line_at;
-pub use shown::push_shown;
 pub use telling::{explain, push_place, push_quote};

@@ -7,7 +7,7 @@ ghost use Rattle.lvish_explain.specs.Mark.{word_columns, mark_of, mark_at, first
 use std::alloc::{AllocError, Global};
 
 /// The bytes of a line under which the carets stand.
-#[derive(Clone, Copy, Debug, PartialEq, Eq)]
+#[derive(Clone, Copy)]
 pub struct Mark {
     /// Where they begin, from 1.
     pub column: usize,

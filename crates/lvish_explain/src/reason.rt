@@ -4,7 +4,7 @@ ghost use Rattle.lvish_explain.specs.Reasons.{sentence_of, space_meant};
 use crate::known::Space;
 
 /// What is wrong, more closely than the fault says.
-#[derive(Clone, Copy, Debug, PartialEq, Eq)]
+#[derive(Clone, Copy)]
 pub enum Reason {
     TooLong,
     NotAscii,

@@ -1,7 +1,7 @@
 //! Bytes written behind what a text has.
 
 ghost use Rattle.std.specs.Prelude.{◌≡◌, ◌++◌, OnOk, map, replicate};
-ghost use Rattle.std.specs.Fmt.{decimal};
+ghost use Rattle.std.specs.Fmt.{decimal, signed_decimal};
 ghost use Rattle.lvish_explain.specs.Text.{shown_byte};
 
 use std::alloc::{AllocError, Global};
@@ -41,6 +41,22 @@ pub fn push_repeated(text: &mut Vec<u8>, byte: u8, times: usize) -> Result<(), A
 
 /// A number in decimal.
 pub fn push_number(alloc: Global, text: &mut Vec<u8>, number: usize) -> Result<(), AllocError>
+    ensures { OnOk result (text.new.items ≡ text.old.items ++ decimal number) }
+{
+    let digits = number.to_string(alloc)?;
+    text.extend_from_slice(digits.as_bytes())
+}
+
+/// An integer in decimal.
+pub fn push_integer(alloc: Global, text: &mut Vec<u8>, number: i64) -> Result<(), AllocError>
+    ensures { OnOk result (text.new.items ≡ text.old.items ++ signed_decimal number) }
+{
+    let digits = number.to_string(alloc)?;
+    text.extend_from_slice(digits.as_bytes())
+}
+
+/// A count in decimal.
+pub fn push_count(alloc: Global, text: &mut Vec<u8>, number: u64) -> Result<(), AllocError>
     ensures { OnOk result (text.new.items ≡ text.old.items ++ decimal number) }
 {
     let digits = number.to_string(alloc)?;

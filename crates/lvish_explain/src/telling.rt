@@ -1,7 +1,9 @@
-ghost use Rattle.std.specs.Prelude.{◌≡◌, ◌++◌, IfOk, OnOk, map};
+ghost use Rattle.std.specs.Prelude.{◌≡◌, IfOk, map};
+ghost use Rattle.lvish_explain.specs.Draft.{Adds};
 ghost use Rattle.lvish_explain.specs.Text.{column_text, line_text, place_text, quote_text, explanation};
 ghost use Rattle.lvish_explain.specs.Explained.{IsExplained, mark_on, hint_with};
 
+use crate::draft::Draft;
 use crate::find::find;
 use crate::hint::{Hint, push_hint};
 use crate::known::Known;
@@ -9,69 +11,62 @@ use crate::mark::{Mark, first_foreign, mark_of};
 use crate::near::near_name;
 use crate::place::line_at;
 use crate::reason::Reason;
-use crate::shown::{push_number, push_repeated, push_shown};
 use lvish_checks::{Fault, ScriptFault, lines_of, words_of};
 use std::alloc::{AllocError, Global};
 
 /// The column in which the carets begin.
-fn push_column(alloc: Global, text: &mut Vec<u8>, mark: Option<Mark>) -> Result<(), AllocError>
-    ensures { OnOk result (text.new.items ≡ text.old.items ++ column_text mark) }
+#[tactic(auto, using(crate::proofs::Adding::adds_then, crate::proofs::Adding::adds_none))]
+fn push_column(text: &mut Draft, mark: Option<Mark>)
+    ensures { Adds text.old text.new (column_text mark) }
 {
     match mark {
-        None => Ok(()),
+        None => {}
         Some(mark) => {
-            text.push(b':')?;
-            push_number(alloc, text, mark.column)
+            text.add(b":");
+            text.add_number(mark.column);
         }
     }
 }
 
 /// The line, unless it is the whole text, and the column.
-fn push_line_number(
-    alloc: Global,
-    text: &mut Vec<u8>,
-    number: usize,
-    mark: Option<Mark>,
-) -> Result<(), AllocError>
-    ensures { OnOk result (text.new.items ≡ text.old.items ++ line_text number mark) }
+#[tactic(auto, using(crate::proofs::Adding::adds_then, crate::proofs::Adding::adds_none))]
+fn push_line_number(text: &mut Draft, number: usize, mark: Option<Mark>)
+    ensures { Adds text.old text.new (line_text number mark) }
 {
     if number == 0 {
-        return Ok(());
+        return;
     }
-    text.push(b':')?;
-    push_number(alloc, text, number)?;
-    push_column(alloc, text, mark)
+    text.add(b":");
+    text.add_number(number);
+    push_column(text, mark);
 }
 
 /// The place: the file, the line and the column.
-pub fn push_place(
-    alloc: Global,
-    text: &mut Vec<u8>,
-    file: &str,
-    number: usize,
-    mark: Option<Mark>,
-) -> Result<(), AllocError>
-    ensures { OnOk result (text.new.items ≡ text.old.items ++ place_text file.now number mark) }
+#[tactic(auto, using(crate::proofs::Adding::adds_then, crate::proofs::Adding::adds_none))]
+pub fn push_place(text: &mut Draft, file: &str, number: usize, mark: Option<Mark>)
+    ensures { Adds text.old text.new (place_text file.now number mark) }
 {
-    text.extend_from_slice(file.as_bytes())?;
-    push_line_number(alloc, text, number, mark)?;
-    text.extend_from_slice(b": ")
+    text.add(file.as_bytes());
+    push_line_number(text, number, mark);
+    text.add(b": ");
 }
 
 /// The line as it stands, with the carets under it.
-pub fn push_quote(text: &mut Vec<u8>, line: &[u8], mark: Option<Mark>) -> Result<(), AllocError>
-    ensures { OnOk result (text.new.items ≡ text.old.items ++ quote_text line.now mark) }
+#[tactic(auto, using(crate::proofs::Adding::adds_then, crate::proofs::Adding::adds_none))]
+pub fn push_quote(text: &mut Draft, line: &[u8], mark: Option<Mark>)
+    ensures { Adds text.old text.new (quote_text line.now mark) }
 {
-    let Some(mark) = mark else {
-        return Ok(());
-    };
-    text.extend_from_slice(b"    ")?;
-    push_shown(text, line)?;
-    text.extend_from_slice(b"\n    ")?;
-    push_repeated(text, b' ', mark.column.saturating_sub(1))?;
-    push_repeated(text, b'^', mark.length)?;
-    text.push(b'\n')?;
-    Ok(())
+    match mark {
+        None => {}
+        Some(mark) => {
+            text.add(b"    ");
+            text.add_shown(line);
+            text.add(b"\n    ");
+            text.add_repeated(b' ', mark.column.saturating_sub(1));
+            text.add_repeated(b'^', mark.length);
+            text.add(b"\n");
+        }
+    }
 }
 
 /// Where the carets stand: under the first byte that no script has, or under the word that was found.
@@ -90,7 +85,28 @@ fn mark_on(
     }
 }
 
+/// What was found, behind what a text has.
+#[tactic(auto, using(crate::proofs::Adding::adds_then, crate::proofs::Adding::adds_none))]
+fn push_explanation(
+    text: &mut Draft,
+    file: &str,
+    number: usize,
+    line: &[u8],
+    mark: Option<Mark>,
+    reason: Reason,
+    hint: &Hint<'_>,
+)
+    ensures { Adds text.old text.new (explanation file.now number line.now mark reason hint.now) }
+{
+    push_place(text, file, number, mark);
+    text.add(reason.sentence().as_bytes());
+    text.add(b"\n");
+    push_quote(text, line, mark);
+    push_hint(text, hint);
+}
+
 /// The text of what was found.
+#[tactic(auto, using(crate::proofs::Adding::all_added))]
 fn tell(
     alloc: Global,
     file: &str,
@@ -102,13 +118,9 @@ fn tell(
 ) -> Result<Vec<u8>, AllocError>
     ensures { IfOk result (λ text. text.items ≡ explanation file.now number line.now mark reason hint.now) }
 {
-    let mut text = Vec::new(alloc);
-    push_place(alloc, &mut text, file, number, mark)?;
-    text.extend_from_slice(reason.sentence().as_bytes())?;
-    text.push(b'\n')?;
-    push_quote(&mut text, line, mark)?;
-    push_hint(alloc, &mut text, hint)?;
-    Ok(text)
+    let mut text = Draft::new(alloc);
+    push_explanation(&mut text, file, number, line, mark, reason, hint);
+    text.into_bytes()
 }
 
 /// The declared name that is near, or else what was found.

@@ -1,8 +1,8 @@
 -- Loops that push what each item of a list gives, or the items that pass a test.
-use Rattle.std.proofs.Common.{◌≡◌, ℕ, ◌+◌, ◌<◌, ◌≤◌, Bool, true, false, List, [], ◌∷◌, ◌++◌, take, length, get_or, sym, ap, subst, ◌∙◌, append_assoc}
+use Rattle.std.proofs.Common.{◌≡◌, ℕ, ◌+◌, ◌<◌, ◌≤◌, Bool, true, false, List, [], ◌∷◌, ◌++◌, take, map, length, get_or, sym, ap, subst, ◌∙◌, append_assoc}
 use Rattle.std.specs.Prelude.{filter, if◌then◌else◌}
 use Rattle.std.specs.List.{flat_map}
-use Rattle.std.proofs.lemmas.List.{append-nil, take_more, take_all}
+use Rattle.std.proofs.lemmas.List.{append-nil, take_more, take_all, map-append}
 use Rattle.std.proofs.lemmas.List.Elements.{filter_more}
 use Rattle.std.proofs.lemmas.Grind.{flat_map-append}
 
@@ -16,6 +16,12 @@ module _ {X Y : Type 0} (f : X → List Y) (xs : List X) (i : ℕ) (x : X) (lt :
   pub joined_more : (old ys zs new : List Y) → ys ≡ old ++ flat_map f (take i xs) → zs ≡ ys ++ new → new ≡ f x → zs ≡ old ++ flat_map f (take (i + 1) xs)
   joined_more old ys zs new h more e =
       more ∙ ap (λ u. ys ++ u) e ∙ ap (λ u. u ++ f x) h ∙ append_assoc old (flat_map f (take i xs)) (f x) ∙ ap (λ u. old ++ u) (sym last)
+
+-- an item of each
+pub mapped_more : {X Y : Type 0} (f : X → Y) (xs : List X) (i : ℕ) (x : X) → i < length xs → x ≡ get_or xs i x → (old ys zs : List Y) (y : Y) → ys ≡ old ++ map f (take i xs) → zs ≡ ys ++ y ∷ [] → y ≡ f x → zs ≡ old ++ map f (take (i + 1) xs)
+mapped_more f xs i x lt is old ys zs y h more e =
+    more ∙ ap (λ u. u ++ y ∷ []) h ∙ ap (λ v. (old ++ map f (take i xs)) ++ v ∷ []) (e ∙ ap f is) ∙ append_assoc old (map f (take i xs)) (f (get_or xs i x) ∷ [])
+    ∙ ap (λ u. old ++ u) (sym (ap (map f) (take_more xs i x lt) ∙ map-append f (take i xs) (get_or xs i x ∷ [])))
 
 -- the items that pass
 module _ {X : Type 0} (f : X → Bool) (xs : List X) (i : ℕ) (x : X) (lt : i < length xs) (is : x ≡ get_or xs i x) (ys : List X) (h : ys ≡ filter f (take i xs)) where

@@ -7,7 +7,7 @@ ghost use Rattle.std.specs.List.{flat_map};
 ghost use Rattle.lvish_graph.specs.Dot.{node, target_node, variable_node, pool_node, procedure_node, node_line, edge_line, plain_edge_line, declaration_lines, procedure_line, verb_edges, pool_edges, deeds_edges, procedure_edges, graph_dot};
 
 use crate::deed::{Deed, deeds_of};
-use crate::names::{pool_names, procedure_names};
+use crate::names::pool_names;
 use crate::told::{handlers, targets};
 use crate::verb::{VERBS, Verb};
 use lvish_syntax::{Declaration, Identifier, Procedure, Script};
@@ -162,8 +162,7 @@ fn push_pool_edges(
 ) -> Result<(), AllocError>
     ensures { OnOk result (string_bytes text.new ≡ string_bytes text.old ++ pool_edges script.now deeds.now from.now pool.now) }
 {
-    let procedures = procedure_names(alloc, script.procedures())?;
-    let names = handlers(alloc, procedures.as_slice(), deeds, pool)?;
+    let names = handlers(alloc, script, deeds, pool)?;
     let pool = pool_node(alloc, pool)?;
     let adder = from.as_str();
     let label = format!(in alloc; "{adder} handles")?;

@@ -5,7 +5,7 @@ ghost use Rattle.std.specs.List.{flat_map};
 ghost use Rattle.lvish_graph.specs.Text.{spaced, line_text, verb_line, pool_head, pool_line, deeds_text, procedure_text, graph_text};
 
 use crate::deed::{Deed, deeds_of};
-use crate::names::{pool_names, procedure_names};
+use crate::names::pool_names;
 use crate::told::{handlers, targets};
 use crate::verb::{VERBS, Verb};
 use lvish_syntax::{Identifier, Procedure, Script};
@@ -60,8 +60,7 @@ fn push_pool_line(
 ) -> Result<(), AllocError>
     ensures { OnOk result (string_bytes text.new ≡ string_bytes text.old ++ pool_line script.now deeds.now pool.now) }
 {
-    let procedures = procedure_names(alloc, script.procedures())?;
-    let names = handlers(alloc, procedures.as_slice(), deeds, pool)?;
+    let names = handlers(alloc, script, deeds, pool)?;
     let head = pool_head(alloc, pool)?;
     push_line(text, head.as_str(), names.as_slice())
 }

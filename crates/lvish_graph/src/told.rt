@@ -3,10 +3,11 @@
 
 ghost use Rattle.std.specs.Prelude.{◌≡◌, filter, IfOk};
 ghost use Rattle.std.specs.List.{list_any};
+ghost use Rattle.lvish_syntax.specs.Sound.{procedure_names};
 ghost use Rattle.lvish_graph.specs.Deeds.{does, handles, targets, handlers};
 
 use crate::deed::Deed;
-use crate::names::names_for;
+use crate::names::{names_for, procedure_names};
 use crate::verb::Verb;
 use lvish_syntax::{Identifier, Identifiers, Script};
 use std::alloc::{AllocError, Global};
@@ -76,8 +77,8 @@ pub fn targets(
     Ok(Identifiers::from(told))
 }
 
-/// The procedures that the deeds have run by handlers of this pool.
-pub fn handlers(
+/// Those of these procedures that the deeds have run by handlers of this pool.
+fn handling(
     alloc: Global,
     procedures: &[Identifier],
     deeds: &[Deed],
@@ -92,4 +93,17 @@ pub fn handlers(
         }
     }
     Ok(Identifiers::from(told))
+}
+
+/// The procedures that the deeds have run by handlers of this pool.
+pub fn handlers(
+    alloc: Global,
+    script: &Script,
+    deeds: &[Deed],
+    pool: &Identifier,
+) -> Result<Identifiers, AllocError>
+    ensures { IfOk result (λ told. told ≡ handlers (procedure_names script.now.procedures) deeds.now pool.now) }
+{
+    let procedures = procedure_names(alloc, script.procedures())?;
+    handling(alloc, procedures.as_slice(), deeds, pool)
 }

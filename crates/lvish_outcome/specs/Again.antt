@@ -1,5 +1,5 @@
 -- The command that makes a run again.
-use Rattle.std.specs.Prelude.{◌≡◌, ◌⊎◌, ℕ, List, [], ◌∷◌, ◌++◌, codes, flat_map}
+use Rattle.std.specs.Prelude.{◌≡◌, ◌⊎◌, ℕ, List, [], ◌∷◌, ◌++◌, codes}
 use Rattle.std.specs.Fmt.{decimal}
 use Rattle.lvish_compound.specs.declared.any.Any.{Any}
 use Rattle.lvish_compound.specs.declared.event.Event.{Event}
@@ -12,13 +12,7 @@ use Rattle.lvish_trace.specs.Traced.{labels_of}
 use Rattle.lvish_report.specs.declared.report.Report.{Report}
 use Rattle.lvish_run.specs.Picked.{IsPicked}
 use Rattle.lvish_run.specs.Scripts.{script_machine}
-
--- a pick behind a space
-abbrev pub pick_text : ℕ → List ℕ
-pick_text n = codes " " ++ decimal n
-
-abbrev pub picks_text : List ℕ → List ℕ
-picks_text picks = flat_map pick_text picks
+use Rattle.lvish_again.specs.Text.{picks_text}
 
 -- the budget, where it is used up
 abbrev pub steps_text : Outcome Event → ℕ → List ℕ

@@ -13,6 +13,8 @@ use Rattle.lvish_outcome.specs.declared.wait.Wait.{Wait}
 use Rattle.lvish_outcome.specs.declared.told.ErrorTold.{ErrorTold}
 use Rattle.lvish_outcome.specs.declared.told.BlockedTold.{BlockedTold}
 use Rattle.lvish_outcome.specs.declared.told.LineCount.{LineCount}
+use Rattle.lvish_outcome.specs.declared.saying.Saying.{Saying}
+use Rattle.lvish_outcome.specs.declared.saying.Saying.TheVariants.{Does, Waits, Made}
 use Rattle.lvish_outcome.specs.Trouble.{trouble_text}
 use Rattle.lvish_outcome.specs.Wait.{wait_text}
 use Rattle.lvish_outcome.specs.Standing.{task_text, standing_text}
@@ -37,6 +39,12 @@ waits_text n t w = if n == 1 then one_waits t (wait_text w) else many_wait n t (
 -- that so many steps were made
 abbrev pub made_text : ℕ → List ℕ
 made_text n = if n == 1 then codes "1 step was made here" else decimal n ++ codes " steps were made here"
+
+-- what is said of a place
+abbrev pub saying_text : Saying → List ℕ
+saying_text (Does t trouble) = does_text t.now trouble.now
+saying_text (Waits n t wait) = waits_text n t.now wait.now
+saying_text (Made n) = made_text n
 
 -- a place, what is said of it, and the line with carets
 abbrev pub marked_text : List ℕ → ℕ → List ℕ → Option Mark → List ℕ → List ℕ

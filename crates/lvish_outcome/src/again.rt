@@ -1,9 +1,9 @@
 //! The command that makes a run again.
 
-ghost use Rattle.std.specs.Prelude.{◌≡◌, ◌++◌, IfOk, OnOk, string_bytes};
-ghost use Rattle.lvish_outcome.specs.Again.{pick_text, picks_text, steps_text, again_text, IsAgain, IsAgainAfter};
+ghost use Rattle.std.specs.Prelude.{◌≡◌, IfOk, OnOk, string_bytes};
+ghost use Rattle.lvish_outcome.specs.Again.{steps_text, again_text, IsAgain, IsAgainAfter};
 
-use lvish_again::picks_of;
+use lvish_again::{picks_of, picks_text};
 use lvish_compound::{Any, Event};
 use lvish_report::Report;
 use lvish_syntax::Script;
@@ -13,25 +13,6 @@ use std::alloc::{AllocError, Global};
 /// The most steps of a run whose picks are told. Each is asked for among all steps that can be made, so
 /// that of long runs they take long, and fill the screen.
 const MOST_STEPS: u64 = 10_000;
-
-/// A pick, behind others.
-fn push_pick(alloc: Global, text: &mut String, pick: u64) -> Result<(), AllocError>
-    ensures { OnOk result (string_bytes text.new ≡ string_bytes text.old ++ pick_text pick) }
-{
-    let pick = format!(in alloc; " {pick}")?;
-    text.push_str(pick.as_str())
-}
-
-/// Picks, each behind a space.
-fn picks_text(alloc: Global, picks: &[u64]) -> Result<String, AllocError>
-    ensures { IfOk result (λ t. string_bytes t ≡ picks_text picks.now) }
-{
-    let mut text = String::new(alloc);
-    for pick in picks {
-        push_pick(alloc, &mut text, *pick)?;
-    }
-    Ok(text)
-}
 
 /// The budget, where it is used up: a run that is made again has to stop there too.
 fn steps_text(alloc: Global, report: &Report<Any, Event>) -> Result<String, AllocError>

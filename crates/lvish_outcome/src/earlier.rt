@@ -1,11 +1,14 @@
 //! An earlier step on which an error rests.
 
-ghost use Rattle.std.specs.Prelude.{◌≡◌, IfOk, string_bytes};
+ghost use Rattle.std.specs.Prelude.{[], ◌∷◌, ◌++◌, codes};
+ghost use Rattle.std.specs.Fmt.{decimal};
+ghost use Rattle.lvish_explain.specs.Draft.{Adds};
 ghost use Rattle.lvish_outcome.specs.Earlier.{earlier_text};
 
+use crate::standing::push_task;
 use lvish_compound::Event;
+use lvish_explain::Draft;
 use lvish_names::TaskName;
-use std::alloc::{AllocError, Global};
 
 /// An earlier step on which an error rests: the task, its line, and the number of the step, from 1.
 #[derive(Clone, Copy)]
@@ -19,17 +22,35 @@ pub enum Earlier<'a> {
 
 impl Earlier<'_> {
     /// Its line; nothing where there is none.
-    pub fn text(&self, alloc: Global) -> Result<String, AllocError>
-        ensures { IfOk result (λ t. string_bytes t ≡ earlier_text self.now) }
+    #[tactic(auto, using(lvish_explain::proofs::Adding::adds_then, lvish_explain::proofs::Adding::adds_none))]
+    pub fn push(&self, text: &mut Draft)
+        ensures { Adds text.old text.new (earlier_text self.now) }
     {
         match self {
-            Earlier::Nothing => Ok(String::new(alloc)),
+            Earlier::Nothing => {}
             Earlier::Put(task, line, step) => {
-                format!(in alloc; "there: {task} put it at line {line}, in step {step}\n")
+                text.add(b"there: ");
+                push_task(text, task);
+                text.add(b" put it at line ");
+                push_step(text, *line, *step);
             }
             Earlier::Froze(task, line, step) => {
-                format!(in alloc; "frozen: {task} did it at line {line}, in step {step}\n")
+                text.add(b"frozen: ");
+                push_task(text, task);
+                text.add(b" did it at line ");
+                push_step(text, *line, *step);
             }
         }
     }
+}
+
+/// A line, and the number of a step.
+#[tactic(auto, using(lvish_explain::proofs::Adding::adds_then, lvish_explain::proofs::Adding::adds_none))]
+fn push_step(text: &mut Draft, line: usize, step: usize)
+    ensures { Adds text.old text.new (decimal line ++ (codes ", in step " ++ (decimal step ++ 10 ∷ []))) }
+{
+    text.add_number(line);
+    text.add(b", in step ");
+    text.add_number(step);
+    text.add(b"\n");
 }

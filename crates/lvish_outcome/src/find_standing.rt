@@ -16,6 +16,21 @@ fn name_at<'t>(procedures: &[ToldProcedure<'t>], number: usize) -> &'t [u8] {
     }
 }
 
+/// Locals of these names, as far as they have values.
+fn push_values<'t>(
+    locals: &mut Vec<LocalText<'t>>,
+    names: &[&'t [u8]],
+    values: &[i64],
+) -> Result<(), AllocError> {
+    for place in 0..names.len() {
+        if place < values.len() {
+            let (name, value) = (names[place], values[place]);
+            locals.push(LocalText { name, value })?;
+        }
+    }
+    Ok(())
+}
+
 /// The locals of the procedure with this number, with their values.
 fn locals_of<'t>(
     alloc: Global,
@@ -26,18 +41,20 @@ fn locals_of<'t>(
     let Some(procedure) = procedures.get(stand.procedure) else {
         return Ok(locals);
     };
-    for (name, value) in procedure
-        .locals
-        .as_slice()
-        .iter()
-        .zip(stand.values.as_slice())
-    {
-        locals.push(LocalText {
-            name,
-            value: *value,
-        })?;
-    }
+    push_values(
+        &mut locals,
+        procedure.locals.as_slice(),
+        stand.values.as_slice(),
+    )?;
     Ok(locals)
+}
+
+/// Whether the last of the calls stands in this line.
+fn ends_at(calls: &[CallText<'_>], line: usize) -> bool {
+    match calls.last() {
+        Some(last) => last.line == line,
+        None => false,
+    }
 }
 
 /// A call, behind others.
@@ -46,20 +63,18 @@ fn push_call<'t>(
     procedure: &'t [u8],
     line: usize,
 ) -> Result<(), AllocError> {
-    match calls.last_mut() {
-        Some(last) if last.line == line => {
+    if ends_at(calls.as_slice(), line) {
+        if let Some(last) = calls.last_mut() {
             last.times = last.times.saturating_add(1);
-            Ok(())
         }
-        _ => {
-            calls.push(CallText {
-                procedure,
-                line,
-                times: 1,
-            })?;
-            Ok(())
-        }
+        return Ok(());
     }
+    calls.push(CallText {
+        procedure,
+        line,
+        times: 1,
+    })?;
+    Ok(())
 }
 
 /// The calls, the innermost first.
@@ -69,7 +84,8 @@ fn calls_of<'t>(
     stand: &Standing,
 ) -> Result<Vec<CallText<'t>>, AllocError> {
     let mut calls = Vec::new(alloc);
-    for call in stand.calls.as_slice().iter().rev() {
+    for place in (0..stand.calls.len()).rev() {
+        let call = stand.calls[place];
         push_call(&mut calls, name_at(procedures, call.procedure), call.line)?;
     }
     Ok(calls)

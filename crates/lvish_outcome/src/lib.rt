@@ -23,6 +23,7 @@ mod find_standing;
 mod find_trouble;
 mod find_wait;
 mod outcome;
+mod saying;
 mod so_far;
 mod spot;
 mod spots;

@@ -1,7 +1,9 @@
 //! What a run came to.
 
-ghost use Rattle.std.specs.Prelude.{◌≡◌, ◌⊎◌, ◌↔◌, [], IfOk, IsTrue, length, map, string_bytes};
+ghost use Rattle.std.specs.Prelude.{◌≡◌, ◌⊎◌, ◌↔◌, ◌++◌, [], IfOk, IsTrue, length, map};
+ghost use Rattle.lvish_explain.specs.Draft.{Adds};
 ghost use Rattle.lvish_report.specs.Text.{variables_of};
+ghost use Rattle.lvish_outcome.specs.Telling.{steps_texts};
 ghost use Rattle.lvish_outcome.specs.Outcome.{unended, left_text, budget_head, budget_text, AreCountedTexts, IsErrorText, IsBlockedText, IsBudgetText, IsPart, IsDone, IsOutcomePart, IsExplained};
 
 use crate::again::push_again;
@@ -14,6 +16,7 @@ use crate::told::LineCount;
 use lvish_calculus::{ErrorKind, Meaning};
 use lvish_checks::lines_of;
 use lvish_compound::{Any, Event};
+use lvish_explain::Draft;
 use lvish_names::TaskName;
 use lvish_report::Report;
 use lvish_retrace::{Story, Told, ToldStep, retrace};
@@ -89,34 +92,59 @@ fn lines_of_steps(alloc: Global, steps: &[ToldStep]) -> Result<Vec<usize>, Alloc
     Ok(lines)
 }
 
-fn unended(blocked: u64) -> &'static str
-    ensures { result.now ≡ unended blocked }
+#[tactic(auto, using(lvish_explain::proofs::Adding::adds_then, lvish_explain::proofs::Adding::adds_none))]
+fn push_unended(text: &mut Draft, blocked: u64)
+    ensures { Adds text.old text.new (unended blocked) }
 {
     if blocked == 1 {
-        "task hasn't ended"
+        text.add(b"task hasn't ended");
     } else {
-        "tasks haven't ended"
+        text.add(b"tasks haven't ended");
     }
 }
 
 /// How many tasks haven't ended.
-fn left_text(alloc: Global, blocked: u64) -> Result<String, AllocError>
-    ensures { IfOk result (λ t. string_bytes t ≡ left_text blocked) }
+#[tactic(auto, using(lvish_explain::proofs::Adding::adds_then, lvish_explain::proofs::Adding::adds_none))]
+fn push_left(text: &mut Draft, blocked: u64)
+    ensures { Adds text.old text.new (left_text blocked) }
 {
-    let unended = unended(blocked);
-    format!(in alloc; "{blocked} {unended}\n")
+    text.add_count(blocked);
+    text.add(b" ");
+    push_unended(text, blocked);
+    text.add(b"\n");
 }
 
 /// That the budget is used up.
-fn budget_head(alloc: Global, file: &str, steps: u64, blocked: u64) -> Result<String, AllocError>
-    ensures { IfOk result (λ t. string_bytes t ≡ budget_head file.now steps blocked) }
+#[tactic(auto, using(lvish_explain::proofs::Adding::adds_then, lvish_explain::proofs::Adding::adds_none))]
+fn push_budget_head(text: &mut Draft, file: &str, steps: u64, blocked: u64)
+    ensures { Adds text.old text.new (budget_head file.now steps blocked) }
 {
-    let left = left_text(alloc, blocked)?;
-    let left = left.as_str();
-    format!(in alloc; "{file}: the budget of {steps} steps is used up, and {left}")
+    text.add(file.as_bytes());
+    text.add(b": the budget of ");
+    text.add_count(steps);
+    text.add(b" steps is used up, and ");
+    push_left(text, blocked);
 }
 
-/// The text of a budget that is used up: the lines where most steps were made, and the states so far.
+/// That a budget is used up, the lines where most steps were made, and the states so far.
+#[tactic(auto, using(lvish_explain::proofs::Adding::adds_then, lvish_explain::proofs::Adding::adds_none))]
+fn push_budget(
+    text: &mut Draft,
+    file: &str,
+    lines: &[&[u8]],
+    most: &[LineCount],
+    states: &str,
+    report: &Report<Any, Event>,
+)
+    ensures { Adds text.old text.new ((budget_head file.now report.now.steps report.now.blocked ++ steps_texts file.now (map (λ l. l.now) lines.now) most.now) ++ states.now) }
+{
+    push_budget_head(text, file, report.steps, report.blocked);
+    push_all_steps(text, file, lines, most);
+    text.add(states.as_bytes());
+}
+
+/// The text of a budget that is used up.
+#[tactic(auto, using(lvish_explain::proofs::Adding::all_added))]
 fn budget_text(
     alloc: Global,
     file: &str,
@@ -128,10 +156,9 @@ fn budget_text(
     ensures { IfOk result (λ t. t.items ≡ budget_text file.now (map (λ l. l.now) lines.now) (variables_of script.now.declarations) most.now report.now) }
 {
     let states = states_text(alloc, script, report)?;
-    let mut text = budget_head(alloc, file, report.steps, report.blocked)?.into_bytes();
-    push_all_steps(alloc, &mut text, file, lines, most)?;
-    text.extend_from_slice(states.as_bytes())?;
-    Ok(text)
+    let mut text = Draft::new(alloc);
+    push_budget(&mut text, file, lines, most, states.as_str(), report);
+    text.into_bytes()
 }
 
 /// The same of these steps; nothing where they aren't all counted.

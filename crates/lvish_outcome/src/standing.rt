@@ -1,11 +1,13 @@
 //! Where a task stands.
 
-ghost use Rattle.std.specs.Prelude.{◌≡◌, ◌++◌, IfOk, OnOk, string_bytes};
-ghost use Rattle.lvish_outcome.specs.Standing.{local_text, locals_text, in_text, times_text, called_line, called_lines, at_text, standing_text};
+ghost use Rattle.std.specs.Prelude.{codes};
+ghost use Rattle.std.specs.List.{flat_map};
+ghost use Rattle.lvish_explain.specs.Draft.{Adds};
+ghost use Rattle.lvish_outcome.specs.Standing.{task_text, local_text, locals_text, in_text, times_text, called_line, called_lines, at_text, standing_text};
 
 use lvish_compound::Event;
+use lvish_explain::Draft;
 use lvish_names::TaskName;
-use std::alloc::{AllocError, Global};
 
 /// A local, and its value.
 #[derive(Clone, Copy)]
@@ -45,109 +47,112 @@ impl Drop for StandingText<'_> {
     }
 }
 
-/// A local behind a comma, or another piece of text.
-fn push_local(
-    alloc: Global,
-    text: &mut Vec<u8>,
-    before: &str,
-    local: &LocalText<'_>,
-) -> Result<(), AllocError>
-    ensures { OnOk result (text.new.items ≡ text.old.items ++ local_text before.now local.now) }
+/// The name of a task.
+pub fn push_task(text: &mut Draft, task: &TaskName<Event>)
+    ensures { Adds text.old text.new (task_text task.now) }
 {
-    let value = local.value;
-    let value = format!(in alloc; " {value}")?;
-    text.extend_from_slice(before.as_bytes())?;
-    text.extend_from_slice(local.name)?;
-    text.extend_from_slice(value.as_bytes())
+    let name = task.text(text.alloc);
+    text.add_asked(name);
+}
+
+/// A local behind a comma, or another piece of text.
+#[tactic(auto, using(lvish_explain::proofs::Adding::adds_then, lvish_explain::proofs::Adding::adds_none))]
+fn push_local(text: &mut Draft, before: &[u8], local: &LocalText<'_>)
+    ensures { Adds text.old text.new (local_text before.now local.now) }
+{
+    text.add(before);
+    text.add(local.name);
+    text.add(b" ");
+    text.add_integer(local.value);
+}
+
+/// Locals behind others.
+#[tactic(auto, using(lvish_explain::proofs::Adding::adds_then, lvish_explain::proofs::Adding::adds_none))]
+fn push_more_locals(text: &mut Draft, locals: &[LocalText<'_>])
+    ensures { Adds text.old text.new (flat_map (local_text (codes ", ")) locals.now) }
+{
+    for local in locals {
+        push_local(text, b", ", local);
+    }
 }
 
 /// The locals, if there are any.
-fn push_locals(
-    alloc: Global,
-    text: &mut Vec<u8>,
-    locals: &[LocalText<'_>],
-) -> Result<(), AllocError>
-    ensures { OnOk result (text.new.items ≡ text.old.items ++ locals_text locals.now) }
+#[tactic(auto, using(lvish_explain::proofs::Adding::adds_then, lvish_explain::proofs::Adding::adds_none))]
+fn push_locals(text: &mut Draft, locals: &[LocalText<'_>])
+    ensures { Adds text.old text.new (locals_text locals.now) }
 {
-    let [first, rest @ ..] = locals else {
-        return Ok(());
-    };
-    push_local(alloc, text, ", with ", first)?;
-    for local in rest {
-        push_local(alloc, text, ", ", local)?;
+    match locals {
+        [] => {}
+        [first, rest @ ..] => {
+            push_local(text, b", with ", first);
+            push_more_locals(text, rest);
+        }
     }
-    Ok(())
 }
 
 /// The procedure and the line.
-fn push_in(
-    alloc: Global,
-    text: &mut Vec<u8>,
-    procedure: &[u8],
-    line: usize,
-) -> Result<(), AllocError>
-    ensures { OnOk result (text.new.items ≡ text.old.items ++ in_text procedure.now line) }
+#[tactic(auto, using(lvish_explain::proofs::Adding::adds_then, lvish_explain::proofs::Adding::adds_none))]
+fn push_in(text: &mut Draft, procedure: &[u8], line: usize)
+    ensures { Adds text.old text.new (in_text procedure.now line) }
 {
-    let line = format!(in alloc; ", line {line}")?;
-    text.extend_from_slice(b"in ")?;
-    text.extend_from_slice(procedure)?;
-    text.extend_from_slice(line.as_bytes())
+    text.add(b"in ");
+    text.add(procedure);
+    text.add(b", line ");
+    text.add_number(line);
 }
 
 /// How often, where that is more than once.
-fn times_text(alloc: Global, times: usize) -> Result<String, AllocError>
-    ensures { IfOk result (λ t. string_bytes t ≡ times_text times) }
+#[tactic(auto, using(lvish_explain::proofs::Adding::adds_then, lvish_explain::proofs::Adding::adds_none))]
+fn push_times(text: &mut Draft, times: usize)
+    ensures { Adds text.old text.new (times_text times) }
 {
     if times <= 1 {
-        return Ok(String::new(alloc));
+        return;
     }
-    format!(in alloc; ", {times} times")
+    text.add(b", ");
+    text.add_number(times);
+    text.add(b" times");
 }
 
 /// The line of a call.
-#[tactic(auto, unfolding(crate::specs::Standing::called_line))]
-fn push_called(alloc: Global, text: &mut Vec<u8>, call: &CallText<'_>) -> Result<(), AllocError>
-    ensures { OnOk result (text.new.items ≡ text.old.items ++ called_line call.now) }
+#[tactic(auto, using(lvish_explain::proofs::Adding::adds_then, lvish_explain::proofs::Adding::adds_none), unfolding(crate::specs::Standing::called_line))]
+fn push_called(text: &mut Draft, call: &CallText<'_>)
+    ensures { Adds text.old text.new (called_line call.now) }
 {
-    let times = times_text(alloc, call.times)?;
-    text.extend_from_slice(b"called: ")?;
-    push_in(alloc, text, call.procedure, call.line)?;
-    text.extend_from_slice(times.as_bytes())?;
-    text.push(b'\n')?;
-    Ok(())
+    text.add(b"called: ");
+    push_in(text, call.procedure, call.line);
+    push_times(text, call.times);
+    text.add(b"\n");
 }
 
 /// The lines of calls.
-fn push_calls(alloc: Global, text: &mut Vec<u8>, calls: &[CallText<'_>]) -> Result<(), AllocError>
-    ensures { OnOk result (text.new.items ≡ text.old.items ++ called_lines calls.now) }
+#[tactic(auto, using(lvish_explain::proofs::Adding::adds_then, lvish_explain::proofs::Adding::adds_none))]
+fn push_calls(text: &mut Draft, calls: &[CallText<'_>])
+    ensures { Adds text.old text.new (called_lines calls.now) }
 {
     for call in calls {
-        push_called(alloc, text, call)?;
+        push_called(text, call);
     }
-    Ok(())
 }
 
 /// The task, its procedure and its line.
-fn push_at(alloc: Global, text: &mut Vec<u8>, standing: &StandingText<'_>) -> Result<(), AllocError>
-    ensures { OnOk result (text.new.items ≡ text.old.items ++ at_text standing.now) }
+#[tactic(auto, using(lvish_explain::proofs::Adding::adds_then, lvish_explain::proofs::Adding::adds_none))]
+fn push_at(text: &mut Draft, standing: &StandingText<'_>)
+    ensures { Adds text.old text.new (at_text standing.now) }
 {
-    let task = standing.task;
-    let at = format!(in alloc; "at: {task}, ")?;
-    text.extend_from_slice(at.as_bytes())?;
-    push_in(alloc, text, standing.procedure, standing.line)
+    text.add(b"at: ");
+    push_task(text, standing.task);
+    text.add(b", ");
+    push_in(text, standing.procedure, standing.line);
 }
 
 /// Where the task stands, and a line for each call.
-#[tactic(auto, unfolding(crate::specs::Standing::standing_text))]
-pub fn push_standing(
-    alloc: Global,
-    text: &mut Vec<u8>,
-    standing: &StandingText<'_>,
-) -> Result<(), AllocError>
-    ensures { OnOk result (text.new.items ≡ text.old.items ++ standing_text standing.now) }
+#[tactic(auto, using(lvish_explain::proofs::Adding::adds_then, lvish_explain::proofs::Adding::adds_none), unfolding(crate::specs::Standing::standing_text))]
+pub fn push_standing(text: &mut Draft, standing: &StandingText<'_>)
+    ensures { Adds text.old text.new (standing_text standing.now) }
 {
-    push_at(alloc, text, standing)?;
-    push_locals(alloc, text, standing.locals.as_slice())?;
-    text.push(b'\n')?;
-    push_calls(alloc, text, standing.calls.as_slice())
+    push_at(text, standing);
+    push_locals(text, standing.locals.as_slice());
+    text.add(b"\n");
+    push_calls(text, standing.calls.as_slice());
 }

@@ -1,12 +1,15 @@
 //! What went wrong in the last step of a run.
 
-ghost use Rattle.std.specs.Prelude.{◌≡◌, IfOk, string_bytes};
-ghost use Rattle.lvish_outcome.specs.Trouble.{kind_of, operator_sign, sum_text, other_text, total_text, frozen_text, late_text, takes_text, range_text, trouble_text};
+ghost use Rattle.std.specs.Prelude.{◌≡◌, ◌++◌, codes};
+ghost use Rattle.std.specs.Fmt.{signed_decimal};
+ghost use Rattle.lvish_explain.specs.Draft.{Adds};
+ghost use Rattle.lvish_outcome.specs.Spot.{spot_text};
+ghost use Rattle.lvish_outcome.specs.Trouble.{kind_of, operator_sign, sum_text, other_text, range_text, trouble_text};
 
 use crate::spot::Spot;
 use lvish_calculus::ErrorKind;
+use lvish_explain::Draft;
 use lvish_syntax::Operator;
-use std::alloc::{AllocError, Global};
 
 /// Two numbers, and what combines them.
 #[derive(Clone, Copy)]
@@ -56,95 +59,93 @@ impl Trouble<'_> {
     }
 
     /// What the task does, behind its name.
-    pub fn text(&self, alloc: Global) -> Result<String, AllocError>
-        ensures { IfOk result (λ t. string_bytes t ≡ trouble_text self.now) }
+    #[tactic(auto, using(lvish_explain::proofs::Adding::adds_then, lvish_explain::proofs::Adding::adds_none))]
+    pub fn push(&self, text: &mut Draft)
+        ensures { Adds text.old text.new (trouble_text self.now) }
     {
         match self {
-            Trouble::Other(spot, number, there) => other_text(alloc, spot, *number, *there),
-            Trouble::Total(spot, number) => total_text(alloc, spot, *number),
-            Trouble::Frozen(spot, number) => frozen_text(alloc, spot, *number),
-            Trouble::Late(spot) => late_text(alloc, spot),
-            Trouble::Overflow(sum) => sum_text(alloc, *sum, "which is outside 64 bits"),
-            Trouble::Zero(sum) => sum_text(alloc, *sum, "where the divisor is 0"),
-            Trouble::Range(spot, number, highest) => range_text(alloc, spot, *number, *highest),
-            Trouble::Frames => format!(in alloc; "calls in its 64th frame, which is the last"),
-            Trouble::Parts => format!(in alloc; "starts a task whose name would have 65 parts"),
+            Trouble::Other(spot, number, there) => push_other(text, spot, *number, *there),
+            Trouble::Total(spot, number) => push_put(
+                text,
+                spot,
+                *number,
+                b", and the total would be above 10000",
+            ),
+            Trouble::Frozen(spot, number) => push_put(text, spot, *number, b", which is frozen"),
+            Trouble::Late(spot) => {
+                text.add(b"adds a handler to ");
+                spot.push(text);
+                text.add(b", which is frozen");
+            }
+            Trouble::Overflow(sum) => push_sum(text, *sum, b"which is outside 64 bits"),
+            Trouble::Zero(sum) => push_sum(text, *sum, b"where the divisor is 0"),
+            Trouble::Range(spot, number, highest) => push_range(text, spot, *number, *highest),
+            Trouble::Frames => text.add(b"calls in its 64th frame, which is the last"),
+            Trouble::Parts => text.add(b"starts a task whose name would have 65 parts"),
         }
     }
 }
 
-fn operator_sign(operator: Operator) -> &'static str
-    ensures { result.now ≡ operator_sign operator }
+#[tactic(auto, using(lvish_explain::proofs::Adding::adds_then, lvish_explain::proofs::Adding::adds_none))]
+fn push_operator(text: &mut Draft, operator: Operator)
+    ensures { Adds text.old text.new (operator_sign operator) }
 {
     match operator {
-        Operator::Add => "+",
-        Operator::Subtract => "-",
-        Operator::Multiply => "*",
-        Operator::Divide => "/",
-        Operator::Remainder => "%",
-        Operator::Less => "<",
-        Operator::Equal => "=",
+        Operator::Add => text.add(b"+"),
+        Operator::Subtract => text.add(b"-"),
+        Operator::Multiply => text.add(b"*"),
+        Operator::Divide => text.add(b"/"),
+        Operator::Remainder => text.add(b"%"),
+        Operator::Less => text.add(b"<"),
+        Operator::Equal => text.add(b"="),
     }
 }
 
-fn sum_text(alloc: Global, sum: Sum, fails: &str) -> Result<String, AllocError>
-    ensures { IfOk result (λ t. string_bytes t ≡ sum_text sum fails.now) }
+fn push_sum(text: &mut Draft, sum: Sum, fails: &[u8])
+    ensures { Adds text.old text.new (sum_text sum fails.now) }
 {
-    let Sum { left, right, .. } = sum;
-    let sign = operator_sign(sum.operator);
-    format!(in alloc; "computes {left} {sign} {right}, {fails}")
+    text.add(b"computes ");
+    text.add_integer(sum.left);
+    text.add(b" ");
+    push_operator(text, sum.operator);
+    text.add(b" ");
+    text.add_integer(sum.right);
+    text.add(b", ");
+    text.add(fails);
 }
 
-fn other_text(alloc: Global, spot: &Spot<'_>, number: i64, there: i64) -> Result<String, AllocError>
-    ensures { IfOk result (λ t. string_bytes t ≡ other_text spot.now number there) }
+/// That a number is put, and what is said of that.
+#[tactic(auto, using(lvish_explain::proofs::Adding::adds_then, lvish_explain::proofs::Adding::adds_none))]
+fn push_put(text: &mut Draft, spot: &Spot<'_>, number: i64, said: &[u8])
+    ensures { Adds text.old text.new (codes "puts " ++ (signed_decimal number ++ (codes " into " ++ (spot_text spot.now ++ said.now)))) }
 {
-    let spot = spot.text(alloc)?;
-    let spot = spot.as_str();
-    format!(in alloc; "puts {number} into {spot}, where {there} is")
+    text.add(b"puts ");
+    text.add_integer(number);
+    text.add(b" into ");
+    spot.push(text);
+    text.add(said);
 }
 
-fn total_text(alloc: Global, spot: &Spot<'_>, number: i64) -> Result<String, AllocError>
-    ensures { IfOk result (λ t. string_bytes t ≡ total_text spot.now number) }
+fn push_other(text: &mut Draft, spot: &Spot<'_>, number: i64, there: i64)
+    ensures { Adds text.old text.new (other_text spot.now number there) }
 {
-    let spot = spot.text(alloc)?;
-    let spot = spot.as_str();
-    format!(in alloc; "puts {number} into {spot}, and the total would be above 10000")
+    text.add(b"puts ");
+    text.add_integer(number);
+    text.add(b" into ");
+    spot.push(text);
+    text.add(b", where ");
+    text.add_integer(there);
+    text.add(b" is");
 }
 
-fn frozen_text(alloc: Global, spot: &Spot<'_>, number: i64) -> Result<String, AllocError>
-    ensures { IfOk result (λ t. string_bytes t ≡ frozen_text spot.now number) }
+fn push_range(text: &mut Draft, spot: &Spot<'_>, number: i64, highest: i64)
+    ensures { Adds text.old text.new (range_text spot.now number highest) }
 {
-    let spot = spot.text(alloc)?;
-    let spot = spot.as_str();
-    format!(in alloc; "puts {number} into {spot}, which is frozen")
-}
-
-fn late_text(alloc: Global, spot: &Spot<'_>) -> Result<String, AllocError>
-    ensures { IfOk result (λ t. string_bytes t ≡ late_text spot.now) }
-{
-    let spot = spot.text(alloc)?;
-    let spot = spot.as_str();
-    format!(in alloc; "adds a handler to {spot}, which is frozen")
-}
-
-/// That only numbers from 0 to the highest are taken.
-fn takes_text(alloc: Global, highest: i64) -> Result<String, AllocError>
-    ensures { IfOk result (λ t. string_bytes t ≡ takes_text highest) }
-{
-    format!(in alloc; "which takes 0 to {highest}")
-}
-
-fn range_text(
-    alloc: Global,
-    spot: &Spot<'_>,
-    number: i64,
-    highest: i64,
-) -> Result<String, AllocError>
-    ensures { IfOk result (λ t. string_bytes t ≡ range_text spot.now number highest) }
-{
-    let spot = spot.text(alloc)?;
-    let spot = spot.as_str();
-    let takes = takes_text(alloc, highest)?;
-    let takes = takes.as_str();
-    format!(in alloc; "has {number} for {spot}, {takes}")
+    text.add(b"has ");
+    text.add_integer(number);
+    text.add(b" for ");
+    spot.push(text);
+    text.add(b", ");
+    text.add(b"which takes 0 to ");
+    text.add_integer(highest);
 }

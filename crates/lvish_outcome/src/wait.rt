@@ -1,10 +1,10 @@
 //! What a blocked task waits for.
 
-ghost use Rattle.std.specs.Prelude.{◌≡◌, IfOk, string_bytes};
+ghost use Rattle.lvish_explain.specs.Draft.{Adds};
 ghost use Rattle.lvish_outcome.specs.Wait.{until_text, level_text, pools_text, has_ended, wait_text};
 
 use crate::spot::Spot;
-use std::alloc::{AllocError, Global};
+use lvish_explain::Draft;
 
 /// What a blocked task waits for.
 #[derive(Clone, Copy)]
@@ -28,67 +28,72 @@ pub enum Wait<'a> {
 
 impl Wait<'_> {
     /// Until when it waits.
-    pub fn text(&self, alloc: Global) -> Result<String, AllocError>
-        ensures { IfOk result (λ t. string_bytes t ≡ wait_text self.now) }
+    #[tactic(auto, using(lvish_explain::proofs::Adding::adds_then, lvish_explain::proofs::Adding::adds_none))]
+    pub fn push(&self, text: &mut Draft)
+        ensures { Adds text.old text.new (wait_text self.now) }
     {
         match self {
-            Wait::Any(spot) => until_text(alloc, "until ", spot, " has a number"),
-            Wait::In(spot) => until_text(alloc, "until ", spot, " has one of these numbers"),
-            Wait::Has(spot, number) => level_text(alloc, "until ", spot, " has ", *number),
+            Wait::Any(spot) => push_until(text, b"until ", spot, b" has a number"),
+            Wait::In(spot) => push_until(text, b"until ", spot, b" has one of these numbers"),
+            Wait::Has(spot, number) => push_level(text, b"until ", spot, b" has ", *number),
             Wait::Least(spot, number) => {
-                level_text(alloc, "until ", spot, " is at least ", *number)
+                push_level(text, b"until ", spot, b" is at least ", *number)
             }
             Wait::Total(spot, number) => {
-                level_text(alloc, "until the total of ", spot, " is at least ", *number)
+                push_level(
+                    text,
+                    b"until the total of ",
+                    spot,
+                    b" is at least ",
+                    *number,
+                )
             }
-            Wait::Pools(running) => pools_text(alloc, *running, ""),
-            Wait::OwnPool(running) => pools_text(alloc, *running, ", of which it is one"),
-            Wait::Handlers(spot) => until_text(
-                alloc,
-                "until handlers were handed all of ",
-                spot,
-                "",
-            ),
-            Wait::Other => format!(in alloc; "until this line can go on"),
+            Wait::Pools(running) => push_pools(text, *running, b""),
+            Wait::OwnPool(running) => push_pools(text, *running, b", of which it is one"),
+            Wait::Handlers(spot) => {
+                push_until(text, b"until handlers were handed all of ", spot, b"")
+            }
+            Wait::Other => text.add(b"until this line can go on"),
         }
     }
 }
 
-fn until_text(alloc: Global, until: &str, spot: &Spot<'_>, is: &str) -> Result<String, AllocError>
-    ensures { IfOk result (λ t. string_bytes t ≡ until_text until.now spot.now is.now) }
+#[tactic(auto, using(lvish_explain::proofs::Adding::adds_then, lvish_explain::proofs::Adding::adds_none))]
+fn push_until(text: &mut Draft, until: &[u8], spot: &Spot<'_>, is: &[u8])
+    ensures { Adds text.old text.new (until_text until.now spot.now is.now) }
 {
-    let spot = spot.text(alloc)?;
-    let spot = spot.as_str();
-    format!(in alloc; "{until}{spot}{is}")
+    text.add(until);
+    spot.push(text);
+    text.add(is);
 }
 
-fn level_text(
-    alloc: Global,
-    until: &str,
-    spot: &Spot<'_>,
-    is: &str,
-    number: i64,
-) -> Result<String, AllocError>
-    ensures { IfOk result (λ t. string_bytes t ≡ level_text until.now spot.now is.now number) }
+#[tactic(auto, using(lvish_explain::proofs::Adding::adds_then, lvish_explain::proofs::Adding::adds_none))]
+fn push_level(text: &mut Draft, until: &[u8], spot: &Spot<'_>, is: &[u8], number: i64)
+    ensures { Adds text.old text.new (level_text until.now spot.now is.now number) }
 {
-    let spot = spot.text(alloc)?;
-    let spot = spot.as_str();
-    format!(in alloc; "{until}{spot}{is}{number}")
+    text.add(until);
+    spot.push(text);
+    text.add(is);
+    text.add_integer(number);
 }
 
-fn has_ended(count: usize) -> &'static str
-    ensures { result.now ≡ has_ended count }
+#[tactic(auto, using(lvish_explain::proofs::Adding::adds_then, lvish_explain::proofs::Adding::adds_none))]
+fn push_ended(text: &mut Draft, count: usize)
+    ensures { Adds text.old text.new (has_ended count) }
 {
     if count == 1 {
-        " task of these pools has ended"
+        text.add(b" task of these pools has ended");
     } else {
-        " tasks of these pools have ended"
+        text.add(b" tasks of these pools have ended");
     }
 }
 
-fn pools_text(alloc: Global, running: usize, which: &str) -> Result<String, AllocError>
-    ensures { IfOk result (λ t. string_bytes t ≡ pools_text running which.now) }
+#[tactic(auto, using(lvish_explain::proofs::Adding::adds_then, lvish_explain::proofs::Adding::adds_none))]
+fn push_pools(text: &mut Draft, running: usize, which: &[u8])
+    ensures { Adds text.old text.new (pools_text running which.now) }
 {
-    let ended = has_ended(running);
-    format!(in alloc; "until {running}{ended}{which}")
+    text.add(b"until ");
+    text.add_number(running);
+    push_ended(text, running);
+    text.add(which);
 }

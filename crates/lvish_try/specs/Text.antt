@@ -4,17 +4,14 @@ use Rattle.lvish_compound.specs.declared.any.Any.{Any}
 use Rattle.lvish_compound.specs.declared.event.Event.{Event}
 use Rattle.lvish_syntax.specs.declared.script.Script.{Script}
 use Rattle.lvish_report.specs.declared.report.Report.{Report}
+use Rattle.lvish_again.specs.Text.{picks_text as some_picks_text}
 use Rattle.lvish_try.specs.declared.tried.Found.{Found}
 use Rattle.lvish_try.specs.declared.tried.Tried.{Tried}
 use Rattle.lvish_try.specs.Tried.{shown}
 
--- a pick after others
-abbrev pub pick_text : ℕ → List ℕ
-pick_text n = codes " " ++ decimal n
-
 -- which picks make a run
 abbrev pub picks_text : List ℕ → List ℕ
-picks_text picks = if length picks == 0 then codes "without picks" else codes "by picks" ++ flat_map pick_text picks
+picks_text picks = if length picks == 0 then codes "without picks" else codes "by picks" ++ some_picks_text picks
 
 -- how many of so many runs came to an outcome
 abbrev pub count_text : (count times : ℕ) → List ℕ

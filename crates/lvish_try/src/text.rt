@@ -1,5 +1,5 @@
-ghost use Rattle.std.specs.Prelude.{◌≡◌, ◌++◌, IfOk, OnOk, flat_map, string_bytes};
-ghost use Rattle.lvish_try.specs.Text.{pick_text, picks_text, count_text, report_lines, found_text, head, tried_text};
+ghost use Rattle.std.specs.Prelude.{◌≡◌, ◌++◌, IfOk, OnOk, string_bytes};
+ghost use Rattle.lvish_try.specs.Text.{picks_text, count_text, report_lines, found_text, head, tried_text};
 ghost use Rattle.lvish_try.specs.Tried.{IsShown, AreShown};
 
 use crate::tried::{Found, Tried};
@@ -8,24 +8,6 @@ use lvish_run::{Report, report_text};
 use lvish_syntax::Script;
 use std::alloc::{AllocError, Global};
 
-/// Adds a pick, after a space.
-fn push_pick(alloc: Global, text: &mut String, pick: u64) -> Result<(), AllocError>
-    ensures { OnOk result (string_bytes text.new ≡ string_bytes text.old ++ pick_text pick) }
-{
-    let shown = format!(in alloc; " {pick}")?;
-    text.push_str(shown.as_str())
-}
-
-/// Adds picks, each after a space.
-fn push_some_picks(alloc: Global, text: &mut String, picks: &[u64]) -> Result<(), AllocError>
-    ensures { OnOk result (string_bytes text.new ≡ string_bytes text.old ++ flat_map pick_text picks.now) }
-{
-    for pick in picks {
-        push_pick(alloc, text, *pick)?;
-    }
-    Ok(())
-}
-
 /// Adds which picks make a run.
 fn push_picks(alloc: Global, text: &mut String, picks: &[u64]) -> Result<(), AllocError>
     ensures { OnOk result (string_bytes text.new ≡ string_bytes text.old ++ picks_text picks.now) }
@@ -33,8 +15,9 @@ fn push_picks(alloc: Global, text: &mut String, picks: &[u64]) -> Result<(), All
     if picks.is_empty() {
         return text.push_str("without picks");
     }
+    let picks = lvish_again::picks_text(alloc, picks)?;
     text.push_str("by picks")?;
-    push_some_picks(alloc, text, picks)?;
+    text.push_str(picks.as_str())?;
     Ok(())
 }
 

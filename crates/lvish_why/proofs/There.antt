@@ -19,7 +19,7 @@ use Rattle.lvish_code.specs.Compile.{variable_kinds}
 use Rattle.lvish_retrace.specs.declared.bringer.Bringer.{Bringer}
 use Rattle.lvish_retrace.specs.Brought.{AreBringers, IsPutOf}
 use Rattle.lvish_retrace.specs.Walk.{IsCoreRun}
-use Rattle.lvish_why.specs.declared.asked.Asked.{Asked}
+use Rattle.lvish_why.specs.declared.question.Question.{Question}
 use Rattle.lvish_why.specs.Why.{event_of, kind_at, IsIntroduced, IsNamed, IsThere}
 
 -- what stands at a place is an element
@@ -38,7 +38,7 @@ same_event : {X : Type 0} {x y : X} → Some x ≡ Some y → x ≡ y
 same_event e = cc
 
 -- where a place was found, a put is of the event, and else none
-pub found : (kinds : List VariableKind) (asked : Asked) (bs : List (Bringer Event)) (place : Option ℕ) → MatchOption (event_of kinds asked) (place ≡ None) (λ e. IsPutOf bs asked.variable e place) → IsNamed kinds asked bs (is_some place)
+pub found : (kinds : List VariableKind) (asked : Question) (bs : List (Bringer Event)) (place : Option ℕ) → MatchOption (event_of kinds asked) (place ≡ None) (λ e. IsPutOf bs asked.variable e place) → IsNamed kinds asked bs (is_some place)
 found kinds asked bs place says = by (event_of kinds asked) refl place says
   where
     Asks : Type 0
@@ -105,7 +105,7 @@ module _ {S E R A L K : Type 0} (same : S → S → Bool) (event_same : E → E 
           there = there_at variables v within
 
 -- a variable whose event is asked for is there
-within : (kinds : List VariableKind) (asked : Asked) (e : Event) → event_of kinds asked ≡ Some e → asked.variable < length kinds
+within : (kinds : List VariableKind) (asked : Question) (e : Event) → event_of kinds asked ≡ Some e → asked.variable < length kinds
 within kinds asked e is = by (slice_get kinds asked.variable) refl
   where
     by : (o : Option VariableKind) → slice_get kinds asked.variable ≡ o → asked.variable < length kinds
@@ -115,7 +115,7 @@ within kinds asked e is = by (slice_get kinds asked.variable) refl
 module _ {S R A L K : Type 0} (same : S → S → Bool) (event_same : Event → Event → Bool) (order : Event → Event → Ordering) (bottom : S) (join : S → S → Option S) (events : S → List Event) (answer : R → S → Option A) (f : Functions S Event R A L) (g : Functions S Event R A K)
     (H : HaveSameRuns (machine_of same event_same order bottom join events answer f) (machine_of same event_same order bottom join events answer g)) where
   -- whether one of the puts that are told is of the event tells whether it is introduced
-  pub is_there : (script : Script) (asked : Asked) (kinds : List VariableKind) → kinds ≡ variable_kinds script.declarations → (variables : List (Variable S Event)) → length variables ≡ length kinds → (xs : List (Label Event)) (bs : List (Bringer Event))
+  pub is_there : (script : Script) (asked : Question) (kinds : List VariableKind) → kinds ≡ variable_kinds script.declarations → (variables : List (Variable S Event)) → length variables ≡ length kinds → (xs : List (Label Event)) (bs : List (Bringer Event))
       → AreBringers (machine_of same event_same order bottom join events answer f) variables xs bs → (flag : Bool) → IsNamed kinds asked bs flag → IsThere (machine_of same event_same order bottom join events answer g) script asked xs flag
   is_there script asked kinds are variables many xs bs told flag named = (λ t. to (named.0 t), λ z. named.1 (from z))
     where

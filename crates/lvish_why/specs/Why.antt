@@ -16,7 +16,7 @@ use Rattle.lvish_syntax.specs.declared.kind.VariableKind.TheVariants.{Simple, Ma
 use Rattle.lvish_syntax.specs.declared.script.Script.{Script}
 use Rattle.lvish_code.specs.Compile.{variable_kinds}
 use Rattle.lvish_retrace.specs.declared.bringer.Bringer.{Bringer}
-use Rattle.lvish_why.specs.declared.asked.Asked.{Asked}
+use Rattle.lvish_why.specs.declared.question.Question.{Question}
 
 -- the kind of the events of a cell, a set or a counter
 abbrev pub part_kind : SimpleKind → Kind
@@ -32,7 +32,7 @@ kind_at key (Pair first second) = if int_eq key (pos 1) then Some (part_kind fir
 kind_at key Tally = Some event.Tally
 
 -- the event of this key and number of one of the variables of these kinds; none where there is no such variable or side
-abbrev pub event_of : List VariableKind → Asked → Option Event
+abbrev pub event_of : List VariableKind → Question → Option Event
 event_of kinds asked = option_map (λ kind. record { key = asked.key; kind = kind; number = asked.number }) (option_and_then (kind_at asked.key) (slice_get kinds asked.variable))
 
 module _ {S E R A L : Type 0} (M : Machine S E R A L) where
@@ -41,9 +41,9 @@ module _ {S E R A L : Type 0} (M : Machine S E R A L) where
   IsIntroduced xs v e = (before : List (Label E)) × (after : List (Label E)) × (t : Name E) × (xs ≡ before ++ Act t ∷ after) × Introduces M before t v e
 
 -- whether one of the puts is of the event that is asked for, of variables of these kinds
-abbrev pub IsNamed : List VariableKind → Asked → List (Bringer Event) → Bool → Type 0
+abbrev pub IsNamed : List VariableKind → Question → List (Bringer Event) → Bool → Type 0
 IsNamed kinds asked bs there = IsTrue there ↔ ((e : Event) × (event_of kinds asked ≡ Some e) × ((b : Bringer Event) × IsAmong b bs × (b.variable ≡ asked.variable) × (b.event ≡ e)))
 
 -- whether a step of the script's run introduces the event
-abbrev pub IsThere : {S R A L : Type 0} → Machine S Event R A L → Script → Asked → List (Label Event) → Bool → Type 0
+abbrev pub IsThere : {S R A L : Type 0} → Machine S Event R A L → Script → Question → List (Label Event) → Bool → Type 0
 IsThere M script asked xs there = IsTrue there ↔ ((e : Event) × (event_of (variable_kinds script.declarations) asked ≡ Some e) × IsIntroduced M xs asked.variable e)

@@ -1,9 +1,10 @@
 //! What is said of an event that isn't there.
 
-use crate::asked::{Asked, can_be};
-use crate::page::Page;
+use crate::page::{Page, push_task};
+use crate::question::{Question, can_be};
 use lvish_code::{Action, Instruction, Routine};
 use lvish_compound::Event;
+use lvish_explain::Draft;
 use lvish_retrace::Live;
 use lvish_trace::Outcome;
 use std::alloc::{AllocError, Global};
@@ -50,18 +51,27 @@ fn is_marked(marked: &[bool], procedure: usize) -> bool {
     }
 }
 
+/// Whether one of the instructions does.
+fn one_leads(instructions: &[Instruction], variable: usize, marked: &[bool]) -> bool {
+    for instruction in instructions {
+        if leads(instruction, variable, marked) {
+            return true;
+        }
+    }
+    false
+}
+
 /// Which procedures can come to a put into the variable, or to a task or handler that can.
 fn putting(alloc: Global, routines: &[Routine], variable: usize) -> Result<Vec<bool>, AllocError> {
     let mut marked = Vec::new(alloc);
     marked.resize(routines.len(), false)?;
     for _ in 0..routines.len() {
         for procedure in 0..routines.len() {
-            let instructions = routines[procedure].instructions.as_slice();
-            let found = instructions.iter().any(|instruction| leads(
-                instruction,
+            let found = one_leads(
+                routines[procedure].instructions.as_slice(),
                 variable,
                 marked.as_slice(),
-            ));
+            );
             if found && procedure < marked.len() {
                 marked[procedure] = true;
             }
@@ -72,60 +82,48 @@ fn putting(alloc: Global, routines: &[Routine], variable: usize) -> Result<Vec<b
 
 /// Whether a task is in a procedure that is marked.
 fn can_put(live: &Live, marked: &[bool]) -> bool {
+    for call in live.standing.calls.as_slice() {
+        if is_marked(marked, call.procedure) {
+            return true;
+        }
+    }
     is_marked(marked, live.standing.procedure)
-        || live
-            .standing
-            .calls
-            .as_slice()
-            .iter()
-            .any(|call| is_marked(marked, call.procedure))
 }
 
 /// Adds where a task stands that could put the event: it waits there, where the run is at an end.
-fn push_live(
-    alloc: Global,
-    page: &Page<'_, '_>,
-    text: &mut Vec<u8>,
-    live: &Live,
-    stands: &[u8],
-) -> Result<(), AllocError> {
+fn push_live(page: &Page<'_, '_>, text: &mut Draft, live: &Live, stands: &[u8]) {
     let Some(name) = page.told.names.get(live.task) else {
-        return Ok(());
+        return;
     };
-    page.push_task(alloc, text, name)?;
-    text.extend_from_slice(stands)?;
-    page.push_place(alloc, text, live.standing.line)?;
-    text.extend_from_slice(b": ")?;
-    page.push_line(alloc, text, live.standing.line)?;
-    page.push_locals(alloc, text, &live.standing)?;
-    text.push(b'\n')?;
-    Ok(())
+    push_task(text, name);
+    text.add(stands);
+    page.push_place(text, live.standing.line);
+    text.add(b": ");
+    page.push_line(text, live.standing.line);
+    page.push_locals(text, &live.standing);
+    text.add(b"\n");
 }
 
-/// Which tasks could put an event into the variable that haven't ended, and where they stand.
-fn push_putting(
-    alloc: Global,
-    page: &Page<'_, '_>,
-    text: &mut Vec<u8>,
-    outcome: &Outcome<Event>,
-    variable: usize,
-) -> Result<(), AllocError> {
-    let marked = putting(alloc, page.code.routines(), variable)?;
-    let stands: &[u8] = match outcome {
+/// What stands between such a task and its line.
+fn stands_in(outcome: &Outcome<Event>) -> &'static [u8] {
+    match outcome {
         Outcome::Ended => b" waits in ",
         _ => b" stands in ",
-    };
+    }
+}
+
+/// Which tasks that haven't ended are in procedures that are marked, and where they stand.
+fn push_putting(page: &Page<'_, '_>, text: &mut Draft, stands: &[u8], marked: &[bool]) {
     let mut none = true;
     for live in page.told.live.as_slice() {
-        if can_put(live, marked.as_slice()) {
-            push_live(alloc, page, text, live, stands)?;
+        if can_put(live, marked) {
+            push_live(page, text, live, stands);
             none = false;
         }
     }
     if none {
-        text.extend_from_slice(b"no task is left that could put it\n")?;
+        text.add(b"no task is left that could put it\n");
     }
-    Ok(())
 }
 
 /// That the event isn't there, and which tasks could put it that haven't ended; or that there is no such
@@ -134,17 +132,18 @@ pub fn absent_text(
     alloc: Global,
     page: &Page<'_, '_>,
     outcome: &Outcome<Event>,
-    asked: Asked,
+    asked: Question,
     event: Option<Event>,
 ) -> Result<Vec<u8>, AllocError> {
-    let mut text = Vec::new(alloc);
-    page.push_event(alloc, &mut text, asked.variable, asked.key, asked.number)?;
-    text.extend_from_slice(b" isn't there\n")?;
+    let mut text = Draft::new(alloc);
+    page.push_event(&mut text, asked.variable, asked.key, asked.number);
+    text.add(b" isn't there\n");
     match event {
         Some(event) if can_be(event) => {
-            push_putting(alloc, page, &mut text, outcome, asked.variable)?;
+            let marked = putting(alloc, page.code.routines(), asked.variable)?;
+            push_putting(page, &mut text, stands_in(outcome), marked.as_slice());
         }
-        _ => text.extend_from_slice(NEVER)?,
+        _ => text.add(NEVER),
     }
-    Ok(text)
+    text.into_bytes()
 }

@@ -5,7 +5,7 @@ use lvish_retrace::{Story, put_of};
 use std::alloc::{AllocError, Global};
 
 /// What stands in a derivation.
-#[derive(Clone, Copy, PartialEq, Eq)]
+#[derive(Clone, Copy)]
 pub enum What {
     /// A put, by its place among the puts that brought something.
     Put(usize),

@@ -1,7 +1,7 @@
 //! Why an event is in a variable's content: a derivation, from its put down to the facts.
 //!
 //! ```text
-//! let asked = Asked { variable: 2, key: 0, number: 4 };
+//! let asked = Question { variable: 2, key: 0, number: 4 };
 //! let derived = why(alloc, text, &script, &report, asked, Form::Tree { depth: 10 })?;
 //!
 //! seen 4   put seen l              line 15   main/h1:0:2, its put 1, with node 2, l 4
@@ -13,18 +13,18 @@
 #![tactic(auto)]
 
 mod absent;
-mod asked;
 mod derivation;
 mod derived;
 mod dot;
 mod form;
 mod page;
 mod premises;
+mod question;
 mod telling;
 mod tree;
 mod words;
 
-pub use asked::Asked;
 pub use derived::Derived;
 pub use form::Form;
+pub use question::Question;
 pub use telling::why;

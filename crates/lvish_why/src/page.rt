@@ -1,9 +1,10 @@
 //! What a text says of a run: names, lines and tasks, as they are told.
 
-use crate::asked::declaration_of;
+use crate::question::declaration_of;
 use lvish_checks::{lines_of, words_of};
 use lvish_code::Code;
 use lvish_compound::Event;
+use lvish_explain::Draft;
 use lvish_names::TaskName;
 use lvish_retrace::{Begin, Standing, Story, ToldProcedure};
 use lvish_syntax::{Script, VariableKind};
@@ -29,18 +30,6 @@ impl<'a, 't> Drop for Page<'a, 't> {
     }
 }
 
-/// Adds a number.
-fn push_number(alloc: Global, text: &mut Vec<u8>, number: i64) -> Result<(), AllocError> {
-    let digits = format!(in alloc; "{number}")?;
-    text.extend_from_slice(digits.as_bytes())
-}
-
-/// Adds a count.
-pub fn push_count(alloc: Global, text: &mut Vec<u8>, count: u64) -> Result<(), AllocError> {
-    let digits = format!(in alloc; "{count}")?;
-    text.extend_from_slice(digits.as_bytes())
-}
-
 /// Whether the events of a variable are named by a key too.
 fn has_keys(kind: VariableKind) -> bool {
     !matches!(kind, VariableKind::Simple(_))
@@ -48,7 +37,28 @@ fn has_keys(kind: VariableKind) -> bool {
 
 /// Whether a line has this word behind so many.
 fn names(words: &[&[u8]], behind: usize, name: &[u8]) -> bool {
-    words.iter().skip(behind).any(|word| *word == name)
+    for place in behind..words.len() {
+        if is(words[place], name) {
+            return true;
+        }
+    }
+    false
+}
+
+/// Adds a task's name.
+pub fn push_task(text: &mut Draft, task: &TaskName<Event>) {
+    let name = task.text(text.alloc);
+    text.add_asked(name);
+}
+
+/// Adds words, one space between them.
+fn push_words(text: &mut Draft, words: &[&[u8]]) {
+    for place in 0..words.len() {
+        if place > 0 {
+            text.add(b" ");
+        }
+        text.add(words[place]);
+    }
 }
 
 /// Whether a word is this text.
@@ -87,124 +97,86 @@ impl<'a, 't> Page<'a, 't> {
     }
 
     /// Adds a variable's name.
-    pub fn push_variable(&self, text: &mut Vec<u8>, variable: usize) -> Result<(), AllocError> {
-        match declaration_of(self.script, variable) {
-            Some((name, _)) => text.extend_from_slice(name.as_bytes()),
-            None => Ok(()),
+    pub fn push_variable(&self, text: &mut Draft, variable: usize) {
+        if let Some((name, _)) = declaration_of(self.script, variable) {
+            text.add(name.as_bytes());
         }
     }
 
     /// Adds a variable's name and its event's number, behind its key where there are keys.
-    pub fn push_event(
-        &self,
-        alloc: Global,
-        text: &mut Vec<u8>,
-        variable: usize,
-        key: i64,
-        number: i64,
-    ) -> Result<(), AllocError> {
+    pub fn push_event(&self, text: &mut Draft, variable: usize, key: i64, number: i64) {
         let Some((name, kind)) = declaration_of(self.script, variable) else {
-            return Ok(());
+            return;
         };
-        text.extend_from_slice(name.as_bytes())?;
-        text.push(b' ')?;
+        text.add(name.as_bytes());
+        text.add(b" ");
         if has_keys(kind) {
-            push_number(alloc, text, key)?;
-            text.push(b':')?;
+            text.add_integer(key);
+            text.add(b":");
         }
-        push_number(alloc, text, number)
+        text.add_integer(number);
     }
 
-    /// The words of the line of this number.
-    fn words(&self, alloc: Global, line: usize) -> Result<Vec<&'t [u8]>, AllocError> {
-        match self.lines.get(line.wrapping_sub(1)) {
-            Some(line) => words_of(alloc, line),
-            None => Ok(Vec::new(alloc)),
+    /// The words of the line of this number; none where memory was refused, which the text notes.
+    fn words(&self, text: &mut Draft, line: usize) -> Vec<&'t [u8]> {
+        let Some(line) = self.lines.get(line.wrapping_sub(1)) else {
+            return Vec::new(text.alloc);
+        };
+        match words_of(text.alloc, line) {
+            Ok(words) => words,
+            Err(_) => {
+                text.fail();
+                Vec::new(text.alloc)
+            }
         }
     }
 
     /// Adds the words of the line of this number, one space between them.
-    pub fn push_line(
-        &self,
-        alloc: Global,
-        text: &mut Vec<u8>,
-        line: usize,
-    ) -> Result<(), AllocError> {
-        let words = self.words(alloc, line)?;
-        for number in 0..words.len() {
-            if number > 0 {
-                text.push(b' ')?;
-            }
-            text.extend_from_slice(words[number])?;
-        }
-        Ok(())
+    pub fn push_line(&self, text: &mut Draft, line: usize) {
+        let words = self.words(text, line);
+        push_words(text, words.as_slice());
     }
 
     /// Adds `line` and its number.
-    pub fn push_place(
-        &self,
-        alloc: Global,
-        text: &mut Vec<u8>,
-        line: usize,
-    ) -> Result<(), AllocError> {
-        text.extend_from_slice(b"line ")?;
-        push_count(alloc, text, line as u64)
-    }
-
-    /// Adds a task's name.
-    pub fn push_task(
-        &self,
-        alloc: Global,
-        text: &mut Vec<u8>,
-        task: &TaskName<Event>,
-    ) -> Result<(), AllocError> {
-        let name = task.text(alloc)?;
-        text.extend_from_slice(name.as_str().as_bytes())
+    pub fn push_place(&self, text: &mut Draft, line: usize) {
+        text.add(b"line ");
+        text.add_count(line as u64);
     }
 
     /// Adds in which line the task of this index was forked, if it was.
-    pub fn push_fork(
-        &self,
-        alloc: Global,
-        text: &mut Vec<u8>,
-        task: usize,
-    ) -> Result<(), AllocError> {
+    pub fn push_fork(&self, text: &mut Draft, task: usize) {
         let Some(Begin::Forked { step, .. }) = self.told.begins.get(task) else {
-            return Ok(());
+            return;
         };
         let Some(step) = self.told.steps.get(*step) else {
-            return Ok(());
+            return;
         };
-        text.extend_from_slice(b", forked in ")?;
-        self.push_place(alloc, text, step.line)
+        text.add(b", forked in ");
+        self.push_place(text, step.line);
     }
 
     /// Whether a line of the procedure above this one names the local, or this one reads it.
     fn is_named(
         &self,
-        alloc: Global,
+        text: &mut Draft,
         procedure: &ToldProcedure<'_>,
         local: &[u8],
         line: usize,
-    ) -> Result<bool, AllocError> {
+    ) -> bool {
         for number in procedure.line.saturating_add(1)..line {
-            if names(self.words(alloc, number)?.as_slice(), 1, local) {
-                return Ok(true);
+            let words = self.words(text, number);
+            if names(words.as_slice(), 1, local) {
+                return true;
             }
         }
-        let words = self.words(alloc, line)?;
-        Ok(names(words.as_slice(), unread(words.as_slice()), local))
+        let words = self.words(text, line);
+        names(words.as_slice(), unread(words.as_slice()), local)
     }
 
     /// Adds the locals that the procedure's lines name up to where a task stands, with their values.
-    pub fn push_locals(
-        &self,
-        alloc: Global,
-        text: &mut Vec<u8>,
-        standing: &Standing,
-    ) -> Result<(), AllocError> {
+    pub fn push_locals(&self, text: &mut Draft, standing: &Standing) {
         let Some(procedure) = self.told.procedures.get(standing.procedure) else {
-            return Ok(());
+            return;
         };
         let mut before: &[u8] = b", with ";
         for (local, value) in procedure
@@ -213,14 +185,13 @@ impl<'a, 't> Page<'a, 't> {
             .iter()
             .zip(standing.values.as_slice())
         {
-            if self.is_named(alloc, procedure, local, standing.line)? {
-                text.extend_from_slice(before)?;
-                text.extend_from_slice(local)?;
-                text.push(b' ')?;
-                push_number(alloc, text, *value)?;
+            if self.is_named(text, procedure, local, standing.line) {
+                text.add(before);
+                text.add(local);
+                text.add(b" ");
+                text.add_integer(*value);
                 before = b", ";
             }
         }
-        Ok(())
     }
 }

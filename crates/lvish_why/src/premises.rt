@@ -1,7 +1,7 @@
 //! What a put follows from.
 
 use lvish_compound::{Event, Kind, Place};
-use lvish_retrace::{Act, Begin, Standing, Story};
+use lvish_retrace::{Act, Begin, Call, Standing, Story};
 use std::alloc::{AllocError, Global};
 
 /// What a put follows from.
@@ -105,6 +105,37 @@ fn forkers(
     Ok(found)
 }
 
+/// Adds the event that a task was handed, if it was, and what it has read before this step.
+fn add_task(
+    premises: &mut Vec<Premise>,
+    told: &Story<'_>,
+    task: usize,
+    before: usize,
+) -> Result<(), AllocError> {
+    if let Some(
+        Begin::Handed {
+            variable,
+            event,
+            ..
+        },
+    ) = told.begins.get(task)
+    {
+        let (variable, event) = (*variable, *event);
+        add(premises, Premise::Event { variable, event })?;
+    }
+    add_reads(premises, told, task, before)
+}
+
+/// Adds the events on which an `each` made one of these calls.
+fn add_calls(premises: &mut Vec<Premise>, calls: &[Call]) -> Result<(), AllocError> {
+    for call in calls {
+        if let Some((variable, event)) = call.each {
+            add(premises, Premise::Event { variable, event })?;
+        }
+    }
+    Ok(())
+}
+
 /// What the put of a task follows from, which it made at this step and stood there: the event that it
 /// or the task that forked it was handed, and what they have read before.
 pub fn premises_of(
@@ -116,31 +147,12 @@ pub fn premises_of(
 ) -> Result<Vec<Premise>, AllocError> {
     let mut premises = Vec::new(alloc);
     let tasks = forkers(alloc, told, task, step)?;
-    for (task, before) in tasks.as_slice().iter().rev() {
-        if let Some(
-            Begin::Handed {
-                variable,
-                event,
-                ..
-            },
-        ) = told.begins.get(*task)
-        {
-            add(
-                &mut premises,
-                Premise::Event {
-                    variable: *variable,
-                    event: *event,
-                },
-            )?;
-        }
-        add_reads(&mut premises, told, *task, *before)?;
+    for place in (0..tasks.len()).rev() {
+        let (task, before) = tasks[place];
+        add_task(&mut premises, told, task, before)?;
     }
     if let Some(standing) = standing {
-        for call in standing.calls.as_slice() {
-            if let Some((variable, event)) = call.each {
-                add(&mut premises, Premise::Event { variable, event })?;
-            }
-        }
+        add_calls(&mut premises, standing.calls.as_slice())?;
     }
     Ok(premises)
 }

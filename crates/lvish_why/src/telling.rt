@@ -5,12 +5,12 @@ ghost use Rattle.lvish_retrace.specs.Walk.{IsCoreRun};
 ghost use Rattle.lvish_why.specs.Why.{IsNamed, IsThere};
 
 use crate::absent::absent_text;
-use crate::asked::Asked;
 use crate::derivation::derivation_of;
 use crate::derived::Derived;
 use crate::dot::dot_text;
 use crate::form::Form;
 use crate::page::Page;
+use crate::question::Question;
 use crate::tree::tree_text;
 use lvish_code::Code;
 use lvish_compound::{Any, Event};
@@ -34,7 +34,7 @@ pub fn why(
     text: &[u8],
     script: &Script,
     report: &Report<Any, Event>,
-    asked: Asked,
+    asked: Question,
     form: Form,
 ) -> Result<Option<Derived>, AllocError>
     ensures { IfOk result (λ o. MatchOption o (IsCoreRun (⟦<Script as ScriptMeaning>⟧.machine script.now) (labels_of report.now.trace) → ⊥)
@@ -65,7 +65,7 @@ fn derived(
     report: &Report<Any, Event>,
     code: &Code,
     told: &Story<'_>,
-    asked: Asked,
+    asked: Question,
     form: Form,
 ) -> Result<Derived, AllocError>
     ensures { IfOk result (λ d. IsNamed code.now.kinds asked told.now.brought.items d.is_there) }

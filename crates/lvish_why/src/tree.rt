@@ -2,7 +2,8 @@
 
 use crate::derivation::Node;
 use crate::page::Page;
-use crate::words::Row;
+use crate::words::{Row, is_blank};
+use lvish_explain::Draft;
 use std::alloc::{AllocError, Global};
 
 /// Whether each part is the last of those below the same one.
@@ -51,50 +52,46 @@ fn is_set(flags: &[bool], place: usize) -> bool {
     }
 }
 
-/// Adds the lines that lead to a part.
-fn push_branch(
-    alloc: Global,
-    text: &mut Vec<u8>,
-    nodes: &[Node],
-    last: &[bool],
-    place: usize,
-) -> Result<(), AllocError> {
-    let branch = branch(alloc, nodes, place)?;
+/// The line that leads to a part, or past it: to the part itself or to one below it, where it is the last
+/// or not.
+fn drawn(is_own: bool, is_last: bool) -> &'static str {
+    match (is_own, is_last) {
+        (true, true) => "└ ",
+        (true, false) => "├ ",
+        (false, true) => "  ",
+        (false, false) => "│ ",
+    }
+}
+
+/// Adds the lines that lead to the innermost part of a branch.
+fn push_branch(text: &mut Draft, branch: &[usize], last: &[bool]) {
     for number in (0..branch.len()).rev() {
         let is_last = is_set(last, branch[number]);
-        let drawn = match (number == 0, is_last) {
-            (true, true) => "└ ",
-            (true, false) => "├ ",
-            (false, true) => "  ",
-            (false, false) => "│ ",
-        };
-        text.extend_from_slice(drawn.as_bytes())?;
+        text.add(drawn(number == 0, is_last).as_bytes());
     }
-    Ok(())
 }
 
 /// Adds so many spaces.
-fn push_spaces(text: &mut Vec<u8>, count: usize) -> Result<(), AllocError> {
+fn push_spaces(text: &mut Draft, count: usize) {
     for _ in 0..count {
-        text.push(b' ')?;
+        text.add(b" ");
     }
-    Ok(())
 }
 
 /// How wide a row is before its line.
 fn width_of(node: Node, row: &Row) -> usize {
     node.depth
         .saturating_mul(2)
-        .saturating_add(row.event.len())
+        .saturating_add(row.event.bytes.len())
         .saturating_add(3)
-        .saturating_add(row.statement.len())
+        .saturating_add(row.statement.bytes.len())
 }
 
 /// The rows of the parts.
 fn rows_of(alloc: Global, page: &Page<'_, '_>, nodes: &[Node]) -> Result<Vec<Row>, AllocError> {
     let mut rows = Vec::new(alloc);
     for node in nodes {
-        rows.push(page.row_of(alloc, *node)?)?;
+        rows.push(page.row_of(alloc, *node))?;
     }
     Ok(rows)
 }
@@ -103,32 +100,31 @@ fn rows_of(alloc: Global, page: &Page<'_, '_>, nodes: &[Node]) -> Result<Vec<Row
 fn widest(nodes: &[Node], rows: &[Row]) -> usize {
     let mut widest = 0;
     for (node, row) in nodes.iter().zip(rows) {
-        let width = width_of(*node, row);
-        if !row.line.is_empty() && width > widest {
-            widest = width;
+        if !is_blank(&row.line) {
+            widest = width_of(*node, row).max(widest);
         }
     }
     widest
 }
 
+/// Adds a column behind three spaces, unless it is empty.
+fn push_column(text: &mut Draft, column: &Draft) {
+    if !is_blank(column) {
+        text.add(b"   ");
+        text.add_draft(column);
+    }
+}
+
 /// Adds a row behind what leads to it.
-fn push_row(text: &mut Vec<u8>, node: Node, row: &Row, widest: usize) -> Result<(), AllocError> {
-    text.extend_from_slice(row.event.as_slice())?;
-    if !row.statement.is_empty() {
-        text.extend_from_slice(b"   ")?;
-        text.extend_from_slice(row.statement.as_slice())?;
+fn push_row(text: &mut Draft, node: Node, row: &Row, widest: usize) {
+    text.add_draft(&row.event);
+    push_column(text, &row.statement);
+    if !is_blank(&row.line) {
+        push_spaces(text, widest.saturating_sub(width_of(node, row)));
     }
-    if !row.line.is_empty() {
-        push_spaces(text, widest.saturating_sub(width_of(node, row)))?;
-        text.extend_from_slice(b"   ")?;
-        text.extend_from_slice(row.line.as_slice())?;
-    }
-    if !row.who.is_empty() {
-        text.extend_from_slice(b"   ")?;
-        text.extend_from_slice(row.who.as_slice())?;
-    }
-    text.push(b'\n')?;
-    Ok(())
+    push_column(text, &row.line);
+    push_column(text, &row.who);
+    text.add(b"\n");
 }
 
 /// The tree of a derivation: a row for each part, below the one that follows from it.
@@ -140,12 +136,13 @@ pub fn tree_text(
     let rows = rows_of(alloc, page, nodes)?;
     let last = last_ones(alloc, nodes)?;
     let widest = widest(nodes, rows.as_slice());
-    let mut text = Vec::new(alloc);
-    for (place, row) in rows.as_slice().iter().enumerate() {
-        push_branch(alloc, &mut text, nodes, last.as_slice(), place)?;
-        if let Some(node) = nodes.get(place) {
-            push_row(&mut text, *node, row, widest)?;
+    let mut text = Draft::new(alloc);
+    for place in 0..nodes.len() {
+        let branch = branch(alloc, nodes, place)?;
+        push_branch(&mut text, branch.as_slice(), last.as_slice());
+        if let Some(row) = rows.get(place) {
+            push_row(&mut text, nodes[place], row, widest);
         }
     }
-    Ok(text)
+    text.into_bytes()
 }

@@ -21,33 +21,34 @@ struct OpenedAt {
     takes_else: bool,
 }
 
-/// What is open after a line with this first word.
+/// Whether a line with this first word opens a block where these are open, and then whether that takes an
+/// `else`.
+fn opens(open: &[OpenedAt], first: &[u8]) -> Option<bool> {
+    if is(first, b"proc") {
+        return Some(false);
+    }
+    if open.is_empty() {
+        return None;
+    }
+    if is(first, b"if") {
+        Some(true)
+    } else if is(first, b"while") {
+        Some(false)
+    } else {
+        None
+    }
+}
+
+/// What is open after a line with this first word. A match on words would be proved byte by byte.
 fn step(open: &mut Vec<OpenedAt>, first: &[u8], line: usize) -> Result<(), AllocError> {
-    match first {
-        b"proc" => open.push(OpenedAt {
-            line,
-            takes_else: false,
-        })?,
-        b"if" | b"while" => {
-            if !open.is_empty() {
-                open.push(OpenedAt {
-                    line,
-                    takes_else: is(first, b"if"),
-                })?;
-            }
+    if is(first, b"end") {
+        open.pop();
+    } else if is(first, b"else") {
+        if let Some(block) = open.last_mut() {
+            block.takes_else = false;
         }
-        b"else" => {
-            if let Some(block) = open.pop() {
-                open.push(OpenedAt {
-                    takes_else: false,
-                    ..block
-                })?;
-            }
-        }
-        b"end" => {
-            open.pop();
-        }
-        _ => {}
+    } else if let Some(takes_else) = opens(open.as_slice(), first) {
+        open.push(OpenedAt { line, takes_else })?;
     }
     Ok(())
 }
@@ -69,12 +70,13 @@ fn open_after(alloc: Global, lines: &[&[u8]]) -> Result<Vec<OpenedAt>, AllocErro
 fn misplaced(first: &[u8], innermost: Option<&OpenedAt>) -> Option<Reason>
     ensures { IfSome result (λ reason. fault_of reason ≡ OpenBlock) }
 {
-    match (first, innermost) {
-        (b"proc", Some(_)) => Some(Reason::WithinProcedure),
-        (b"proc", None) => None,
-        (_, None) => Some(Reason::OutsideProcedure),
-        (b"else", Some(block)) if !block.takes_else => Some(Reason::NoIf),
-        _ => None,
+    let is_procedure = is(first, b"proc");
+    match innermost {
+        None if is_procedure => None,
+        None => Some(Reason::OutsideProcedure),
+        Some(_) if is_procedure => Some(Reason::WithinProcedure),
+        Some(block) if is(first, b"else") && !block.takes_else => Some(Reason::NoIf),
+        Some(_) => None,
     }
 }
 

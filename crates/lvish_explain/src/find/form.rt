@@ -57,10 +57,15 @@ fn no_form<'a>(alloc: Global, words: &[&[u8]]) -> Result<Finding<'a>, AllocError
     })
 }
 
+/// Whether a word has another meaning in the two versions.
+fn is_of_versions(word: &[u8]) -> bool {
+    is(word, b"lvish") || is(word, b"tally") || is(word, b"total")
+}
+
 /// The place of the first word that has another meaning in the two versions.
 fn version_place(words: &[&[u8]]) -> usize {
     for k in 0..words.len() {
-        if matches!(words[k], b"lvish" | b"tally" | b"total") {
+        if is_of_versions(words[k]) {
             return k;
         }
     }

@@ -7,7 +7,7 @@ ghost use Rattle.lvish_checks.specs.declared.fault.Fault.TheVariants.{DoubleName
 use crate::find::role::role_at;
 use crate::finding::Finding;
 use crate::hint::Hint;
-use crate::known::{Known, Space, declared, locals, space_of};
+use crate::known::{Known, Space, declared, names_of, space_of};
 use crate::place::{lines_above, words_on};
 use crate::reason::Reason;
 use crate::word::is;
@@ -61,34 +61,16 @@ pub fn double_name<'a>(
     })
 }
 
-/// The names that a line may use.
-#[derive(Drop)]
-struct Names<'a> {
-    variables: Vec<Known<'a>>,
-    pools: Vec<Known<'a>>,
-    procedures: Vec<Known<'a>>,
-    locals: Vec<Known<'a>>,
-}
-
-impl<'a> Names<'a> {
-    /// Those that the line with this number may use.
-    fn gather(alloc: Global, lines: &[&'a [u8]], number: usize) -> Result<Names<'a>, AllocError> {
-        Ok(Names {
-            variables: declared(alloc, lines, Space::Variable)?,
-            pools: declared(alloc, lines, Space::Pool)?,
-            procedures: declared(alloc, lines, Space::Procedure)?,
-            locals: locals(alloc, lines, number)?,
-        })
-    }
-
-    fn of(&self, space: Space) -> &[Known<'a>] {
-        match space {
-            Space::Variable => self.variables.as_slice(),
-            Space::Pool => self.pools.as_slice(),
-            Space::Procedure => self.procedures.as_slice(),
-            Space::Local => self.locals.as_slice(),
-        }
-    }
+/// Whether the line with this number may use the word as a name of the space.
+fn is_known(
+    alloc: Global,
+    lines: &[&[u8]],
+    space: Space,
+    number: usize,
+    word: &[u8],
+) -> Result<bool, AllocError> {
+    let names = names_of(alloc, lines, space, number)?;
+    Ok(named(names.as_slice(), word).is_some())
 }
 
 /// The reason for which no name of a space is known.
@@ -130,15 +112,15 @@ pub fn unknown_name<'a>(
 ) -> Result<Finding<'a>, AllocError>
     ensures { IfOk result (λ found. fault_of found.reason ≡ UnknownName) }
 {
-    let names = Names::gather(alloc, lines, number)?;
     if let [first, _pool, variable] = words {
         if is(first, b"pool") {
-            return Ok(late_variable(names.of(Space::Variable), variable, number));
+            let variables = declared(alloc, lines, Space::Variable)?;
+            return Ok(late_variable(variables.as_slice(), variable, number));
         }
     }
     for k in 1..words.len() {
         if let Some(space) = role_at(words, k) {
-            if named(names.of(space), words[k]).is_none() {
+            if !is_known(alloc, lines, space, number, words[k])? {
                 return Ok(Finding {
                     reason: unknown(space),
                     word: k,

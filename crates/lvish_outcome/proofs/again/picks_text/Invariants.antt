@@ -1,7 +1,0 @@
-use Rattle.std.proofs.Common.{◌≡◌, take, string_bytes}
-use Rattle.std.specs.List.{flat_map}
-use Rattle.lvish_outcome.specs.Again.{pick_text}
-use Rattle.lvish_outcome.proofs.again.picks_text.Given as goal
-
-abbrev pub invariant-loop-pick : goal.invariant-loop-pick
-invariant-loop-pick l = string_bytes l.text ≡ flat_map pick_text (take l.pick-index l.picks)
