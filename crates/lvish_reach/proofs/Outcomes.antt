@@ -1,5 +1,5 @@
 -- What comes of an answer and of its writing.
-use Rattle.std.proofs.Common.{◌≡◌, ℕ, Bool, List, Option, subst}
+use Rattle.std.proofs.Common.{◌≡◌, ℕ, Bool, true, false, List, Option, subst}
 use Rattle.std.specs.Prelude.{IfSome}
 use Rattle.std.proofs.KnownBytes.{Keeps-refl}
 use Rattle.lvish_facts.specs.Names.{Word}
