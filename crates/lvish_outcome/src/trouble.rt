@@ -161,12 +161,10 @@ fn push_other(text: &mut Draft, spot: &Spot<'_>, number: i64, there: i64)
 fn push_takes(text: &mut Draft, highest: i64)
     ensures { Adds text.old text.new (codes ", " ++ takes_text highest) }
 {
-    text.add(b", ");
-    text.add(b"which takes 0 to ");
+    text.add(b", which takes 0 to ");
     text.add_integer(highest);
 }
 
-#[tactic(auto, using(lvish_explain::proofs::Adding::adds_then, lvish_explain::proofs::Adding::adds_none))]
 fn push_range(text: &mut Draft, spot: &Spot<'_>, number: i64, highest: i64)
     ensures { Adds text.old text.new (range_text spot.now number highest) }
 {
