@@ -157,7 +157,6 @@ fn push_other(text: &mut Draft, spot: &Spot<'_>, number: i64, there: i64)
 }
 
 /// That only numbers from 0 to the highest are taken.
-#[tactic(auto, using(lvish_explain::proofs::Adding::adds_then, lvish_explain::proofs::Adding::adds_none))]
 fn push_takes(text: &mut Draft, highest: i64)
     ensures { Adds text.old text.new (codes ", " ++ takes_text highest) }
 {
