@@ -167,51 +167,63 @@ pub const DOT: Argument = Argument {
     takes: Takes::Nothing,
 };
 
+/// An argument that is there or not.
+fn flag<'a>(arg: Arg<'a>, name: &'static str) -> Arg<'a> {
+    arg.long(name).action(ArgAction::SetTrue)
+}
+
+/// A number behind its name, or the usual one.
+fn number<'a>(arg: Arg<'a>, argument: &Argument, usual: &'static str) -> Arg<'a> {
+    arg.long(argument.name)
+        .value_name(argument.value)
+        .default_value(usual)
+}
+
+/// Any number of numbers.
+fn numbers<'a>(arg: Arg<'a>, value: &'static str) -> Arg<'a> {
+    arg.value_name(value).action(ArgAction::Append)
+}
+
+/// Whether to do something.
+fn whether<'a>(arg: Arg<'a>, argument: &Argument) -> Arg<'a> {
+    arg.long(argument.name)
+        .value_name(argument.value)
+        .value_parser(WHETHER.as_slice())
+        .num_args(0..=1)
+        .require_equals(true)
+        .default_missing_value("yes")
+}
+
 /// An argument that takes what one of the data above says.
 fn taking<'a>(arg: Arg<'a>, argument: &Argument) -> Result<Arg<'a>, AllocError> {
-    let Argument { name, value, .. } = *argument;
-    Ok(match argument.takes {
-        Takes::Text => arg
-            .value_name(value)
-            .value_parser(ValueParser::NonEmptyString)
-            .required(true),
-        Takes::Nothing => arg.long(name).action(ArgAction::SetTrue),
-        Takes::NothingWithout(other) => {
-            return arg
-                .long(name)
-                .action(ArgAction::SetTrue)
-                .conflicts_with(other);
-        }
-        Takes::Number(least, most, usual) => arg
-            .long(name)
-            .value_name(value)
-            .value_parser(value_parser!(u64).range(least..=most))
-            .default_value(usual),
-        Takes::AnyNumber(usual) => arg
-            .long(name)
-            .value_name(value)
-            .value_parser(value_parser!(u64))
-            .default_value(usual),
-        Takes::Picks => arg
-            .value_name(value)
-            .value_parser(value_parser!(u64).range(0..=MOST_PICK))
-            .num_args(0..)
-            .action(ArgAction::Append),
-        Takes::Numbers => arg
-            .value_name(value)
-            .value_parser(value_parser!(i64))
-            .num_args(1..)
-            .allow_negative_numbers(true)
-            .action(ArgAction::Append)
-            .required(true),
-        Takes::Whether => arg
-            .long(name)
-            .value_name(value)
-            .value_parser(WHETHER.as_slice())
-            .num_args(0..=1)
-            .require_equals(true)
-            .default_missing_value("yes"),
-    })
+    match argument.takes {
+        Takes::Text => Ok(
+            arg.value_name(argument.value)
+                .value_parser(ValueParser::NonEmptyString)
+                .required(true),
+        ),
+        Takes::Nothing => Ok(flag(arg, argument.name)),
+        Takes::NothingWithout(other) => flag(arg, argument.name).conflicts_with(other),
+        Takes::Number(least, most, usual) => Ok(number(arg, argument, usual).value_parser(
+            value_parser!(u64).range(least..=most),
+        )),
+        Takes::AnyNumber(usual) => Ok(number(arg, argument, usual).value_parser(value_parser!(
+            u64
+        ))),
+        Takes::Picks => Ok(
+            numbers(arg, argument.value)
+                .value_parser(value_parser!(u64).range(0..=MOST_PICK))
+                .num_args(0..),
+        ),
+        Takes::Numbers => Ok(
+            numbers(arg, argument.value)
+                .value_parser(value_parser!(i64))
+                .num_args(1..)
+                .allow_negative_numbers(true)
+                .required(true),
+        ),
+        Takes::Whether => Ok(whether(arg, argument)),
+    }
 }
 
 /// The command with these arguments.

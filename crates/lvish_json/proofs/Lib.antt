@@ -1,4 +1,4 @@
-mod Arrays
+pub mod Adding
 mod StatesLeft
 mod Depths
 mod RetoldText

@@ -1,5 +1,5 @@
 -- The states of variables, one declaration at a time.
-use Rattle.std.proofs.Common.{◌≡◌, ℕ, ◌+◌, ◌<◌, ◌≤◌, List, [], ◌∷◌, ◌++◌, length, drop, get_or, sym, ap, ap₂, ◌∙◌, refl}
+use Rattle.std.proofs.Common.{◌≡◌, ℕ, ◌+◌, ◌<◌, ◌≤◌, List, [], ◌∷◌, ◌++◌, Option, length, drop, get_or, sym, ap, ap₂, subst, ◌∙◌, refl}
 use Rattle.std.proofs.lemmas.List.{drop_more, drop_all}
 use Rattle.json.specs.Token.{Token}
 use Rattle.json.specs.Tree.{json_tokens}
@@ -10,7 +10,8 @@ use Rattle.lvish_syntax.specs.declared.kind.VariableKind.{VariableKind}
 use Rattle.lvish_report.specs.declared.report.FinalState.{FinalState}
 use Rattle.lvish_report.specs.Text.{declared_variable, variables_of}
 use Rattle.lvish_json.specs.Report.{state_value, state_values}
-use Rattle.lvish_json.proofs.Arrays.{closing, item_written}
+use Rattle.lvish_json.specs.Adds.{Adds}
+use Rattle.lvish_json.proofs.Adding.{Leads, leads_more, closing}
 
 -- without a state nothing is told
 no_states : (vs : List (Word × VariableKind)) → state_values vs [] ≡ []
@@ -32,12 +33,12 @@ module _ (ds : List Declaration) (i : ℕ) (d : Declaration) (within : i < lengt
     no_variable own = ap (λ vs. closing (state_values vs (drop place ss))) (variables_from [] own)
 
     -- a variable's state is told, and is the first of those that are left
-    pub state_written : (v : Word × VariableKind) → declared_variable d ≡ v ∷ [] → (s : FinalState Any) → place < length ss → s ≡ get_or ss place s → (old new whole : List Token) → new ≡ old ++ json_tokens (state_value v s)
-        → old ++ left_states ds i ss place ≡ whole → new ++ left_states ds (i + 1) ss (place + 1) ≡ whole
-    state_written v own s there state old new whole grown before =
+    pub state_written : (v : Word × VariableKind) → declared_variable d ≡ v ∷ [] → (s : FinalState Any) → place < length ss → s ≡ get_or ss place s → (old y z : Option (List Token)) (whole : List Token) → Adds y z (json_tokens (state_value v s))
+        → Leads old y (left_states ds i ss place) whole → Leads old z (left_states ds (i + 1) ss (place + 1)) whole
+    state_written v own s there state old y z whole adds leads =
         let here : drop place ss ≡ s ∷ drop (place + 1) ss = drop_more ss place s there ∙ ap (λ t. t ∷ drop (place + 1) ss) (sym state) in
-        item_written (state_value v s) (state_values (variables_of (drop (i + 1) ds)) (drop (place + 1) ss)) old new whole grown
-        (ap (λ js. old ++ closing js) (sym (ap₂ state_values (variables_from (v ∷ []) own) here)) ∙ before)
+        leads_more old y z (json_tokens (state_value v s)) (left_states ds (i + 1) ss (place + 1)) whole
+        (subst (λ js. Leads old y (closing js) whole) (ap₂ state_values (variables_from (v ∷ []) own) here) leads) adds
 
     -- where no state is left, none is told
     pub no_state : length ss ≤ place → left_states ds i ss place ≡ left_states ds (i + 1) ss place

@@ -1,3 +1,5 @@
+pub mod Seen
+pub mod Adds
 pub mod Shape
 pub mod Content
 pub mod Report

@@ -1,5 +1,6 @@
-ghost use Rattle.std.specs.Prelude.{◌≡◌, ◌++◌, IfOk, OnOk};
+ghost use Rattle.std.specs.Prelude.{◌≡◌, ◌++◌, IfOk};
 ghost use Rattle.json.specs.Tree.{json_tokens, members_tokens};
+ghost use Rattle.lvish_json.specs.Adds.{Adds};
 ghost use Rattle.lvish_json.specs.Shape.{members_of, if_any, count, IsLineOf};
 ghost use Rattle.lvish_json.specs.Answers.{fault_value, refusal_value, alike_name, alike_steps, alike_value, ends_field, alike_field, check_value};
 
@@ -9,26 +10,25 @@ use lvish_checks::ScriptFault;
 use std::alloc::{AllocError, Global};
 
 /// Adds a fault.
-fn put_fault(text: &mut JsonText, fault: ScriptFault) -> Result<(), AllocError>
-    ensures { OnOk result (text.new ≡ text.old ++ json_tokens (fault_value fault)) }
+#[tactic(auto, using(crate::proofs::Adding::adds_then))]
+fn put_fault(text: &mut JsonText, fault: ScriptFault)
+    ensures { Adds text.old text.new (json_tokens (fault_value fault)) }
 {
-    text.begin_object()?;
-    text.key("number")?;
-    text.count(fault.fault.number() as u64)?;
-    text.key("name")?;
-    text.string(fault.fault.name())?;
-    text.key("line")?;
-    text.count(fault.line as u64)?;
+    text.begin_object();
+    text.count_member("number", fault.fault.number() as u64);
+    text.text_member("name", fault.fault.name());
+    text.count_member("line", fault.line as u64);
     text.end_object()
 }
 
 /// Adds a refusal.
-fn put_refusal(text: &mut JsonText, fault: ScriptFault) -> Result<(), AllocError>
-    ensures { OnOk result (text.new ≡ text.old ++ json_tokens (refusal_value fault)) }
+#[tactic(auto, using(crate::proofs::Adding::adds_then))]
+fn put_refusal(text: &mut JsonText, fault: ScriptFault)
+    ensures { Adds text.old text.new (json_tokens (refusal_value fault)) }
 {
-    text.begin_object()?;
-    text.key("fault")?;
-    put_fault(text, fault)?;
+    text.begin_object();
+    text.key("fault");
+    put_fault(text, fault);
     text.end_object()
 }
 
@@ -41,13 +41,13 @@ pub fn refusal_json(alloc: Global, fault: ScriptFault) -> Result<Vec<u8>, AllocE
     ensures { IfOk result (λ bytes. IsLineOf (refusal_value fault) bytes.items) }
 {
     let mut text = JsonText::new(alloc);
-    put_refusal(&mut text, fault)?;
+    put_refusal(&mut text, fault);
     text.into_line()
 }
 
 /// Adds a count, or null where there is none.
-fn put_if_any(text: &mut JsonText, number: Option<u64>) -> Result<(), AllocError>
-    ensures { OnOk result (text.new ≡ text.old ++ json_tokens (if_any count number)) }
+fn put_if_any(text: &mut JsonText, number: Option<u64>)
+    ensures { Adds text.old text.new (json_tokens (if_any count number)) }
 {
     match number {
         Some(number) => text.count(number),
@@ -78,25 +78,26 @@ fn alike_steps(alike: Alike) -> Option<u64>
 }
 
 /// Adds what is known of the runs.
-fn put_alike(text: &mut JsonText, alike: Alike) -> Result<(), AllocError>
-    ensures { OnOk result (text.new ≡ text.old ++ json_tokens (alike_value alike)) }
+#[tactic(auto, using(crate::proofs::Adding::adds_then))]
+fn put_alike(text: &mut JsonText, alike: Alike)
+    ensures { Adds text.old text.new (json_tokens (alike_value alike)) }
 {
-    text.begin_object()?;
-    text.key("answer")?;
-    text.string(alike_name(alike))?;
-    text.key("steps")?;
-    put_if_any(text, alike_steps(alike))?;
+    text.begin_object();
+    text.text_member("answer", alike_name(alike));
+    text.key("steps");
+    put_if_any(text, alike_steps(alike));
     text.end_object()
 }
 
 /// Adds what is known of the runs, where it is asked for, and ends the object.
-fn end_with_alike(text: &mut JsonText, alike: Option<Alike>) -> Result<(), AllocError>
-    ensures { OnOk result (text.new ≡ text.old ++ members_tokens (members_of (alike_field alike))) }
+#[tactic(auto, using(crate::proofs::Adding::adds_then))]
+fn end_with_alike(text: &mut JsonText, alike: Option<Alike>)
+    ensures { Adds text.old text.new (members_tokens (members_of (alike_field alike))) }
 {
     match alike {
         Some(alike) => {
-            text.key("alike")?;
-            put_alike(text, alike)?;
+            text.key("alike");
+            put_alike(text, alike);
             text.end_object()
         }
         None => text.end_object(),
@@ -104,17 +105,14 @@ fn end_with_alike(text: &mut JsonText, alike: Option<Alike>) -> Result<(), Alloc
 }
 
 /// Adds after how many steps all runs have ended, where it is asked for, and what comes behind it.
-fn end_with_ends(
-    text: &mut JsonText,
-    ends: Option<Option<u64>>,
-    alike: Option<Alike>,
-) -> Result<(), AllocError>
-    ensures { OnOk result (text.new ≡ text.old ++ members_tokens (members_of (ends_field ends ++ alike_field alike))) }
+#[tactic(auto, using(crate::proofs::Adding::adds_then))]
+fn end_with_ends(text: &mut JsonText, ends: Option<Option<u64>>, alike: Option<Alike>)
+    ensures { Adds text.old text.new (members_tokens (members_of (ends_field ends ++ alike_field alike))) }
 {
     match ends {
         Some(bound) => {
-            text.key("ends")?;
-            put_if_any(text, bound)?;
+            text.key("ends");
+            put_if_any(text, bound);
             end_with_alike(text, alike)
         }
         None => end_with_alike(text, alike),
@@ -122,16 +120,13 @@ fn end_with_ends(
 }
 
 /// Adds a script that was checked.
-fn put_check(
-    text: &mut JsonText,
-    ends: Option<Option<u64>>,
-    alike: Option<Alike>,
-) -> Result<(), AllocError>
-    ensures { OnOk result (text.new ≡ text.old ++ json_tokens (check_value ends alike)) }
+#[tactic(auto, using(crate::proofs::Adding::adds_then))]
+fn put_check(text: &mut JsonText, ends: Option<Option<u64>>, alike: Option<Alike>)
+    ensures { Adds text.old text.new (json_tokens (check_value ends alike)) }
 {
-    text.begin_object()?;
-    text.key("fault")?;
-    text.null()?;
+    text.begin_object();
+    text.key("fault");
+    text.null();
     end_with_ends(text, ends, alike)
 }
 
@@ -149,6 +144,6 @@ pub fn check_json(
     ensures { IfOk result (λ bytes. IsLineOf (check_value ends alike) bytes.items) }
 {
     let mut text = JsonText::new(alloc);
-    put_check(&mut text, ends, alike)?;
+    put_check(&mut text, ends, alike);
     text.into_line()
 }

@@ -1,10 +1,12 @@
-ghost use Rattle.std.specs.Prelude.{◌≡◌, ◌++◌, IfOk, OnOk, option_map};
-ghost use Rattle.json.specs.Json.{string};
+ghost use Rattle.std.specs.Prelude.{◌≡◌, ◌∷◌, ◌++◌, codes, IfOk, option_map};
+ghost use Rattle.json.specs.Json.{string, array};
+ghost use Rattle.json.specs.Token.{key};
 ghost use Rattle.json.specs.Tree.{json_tokens, members_tokens};
 ghost use Rattle.lvish_names.specs.NameText.{name_text};
 ghost use Rattle.lvish_report.specs.Text.{kind_name, variables_of};
-ghost use Rattle.lvish_json.specs.Shape.{members_of, each, count, IsLineOf};
-ghost use Rattle.lvish_json.specs.Report.{outcome_name, error_value, outcome_error, picks_field, report_value};
+ghost use Rattle.lvish_json.specs.Adds.{Adds};
+ghost use Rattle.lvish_json.specs.Shape.{items_of, members_of, each, if_any, count, IsLineOf};
+ghost use Rattle.lvish_json.specs.Report.{outcome_name, state_values, name_value, error_value, outcome_error, picks_field, report_value};
 
 use crate::names::{put_name_if_any, put_names};
 use crate::states::put_states;
@@ -49,18 +51,35 @@ fn kind_name(kind: ErrorKind) -> &'static str
 }
 
 /// Adds a task's name.
-fn put_task<E: Plain + Numbered>(
-    alloc: Global,
-    text: &mut JsonText,
-    task: &TaskName<E>,
-) -> Result<(), AllocError>
-    ensures { OnOk result (text.new ≡ text.old ++ json_tokens (string (name_text E.key_of E.number_of task.now))) }
+fn put_task<E: Plain + Numbered>(alloc: Global, text: &mut JsonText, task: &TaskName<E>)
+    ensures { Adds text.old text.new (json_tokens (string (name_text E.key_of E.number_of task.now))) }
 {
-    let name = task.text(alloc)?;
-    text.string(name.as_str())
+    match task.text(alloc) {
+        Ok(name) => text.string(name.as_str()),
+        Err(_) => text.fail(),
+    }
+}
+
+/// Adds the member with a task's name.
+#[tactic(auto, using(crate::proofs::Adding::adds_then))]
+fn task_member<E: Plain + Numbered>(alloc: Global, text: &mut JsonText, task: &TaskName<E>)
+    ensures { Adds text.old text.new (key (codes "task") ∷ json_tokens (string (name_text E.key_of E.number_of task.now))) }
+{
+    text.key("task");
+    put_task(alloc, text, task)
+}
+
+/// Adds the member with the variable of an error.
+#[tactic(auto, using(crate::proofs::Adding::adds_then))]
+fn variable_member(text: &mut JsonText, declarations: &[Declaration], variable: Option<usize>)
+    ensures { Adds text.old text.new (key (codes "variable") ∷ json_tokens (if_any (name_value (variables_of declarations.now)) variable)) }
+{
+    text.key("variable");
+    put_name_if_any(text, declarations, variable)
 }
 
 /// Adds an error.
+#[tactic(auto, using(crate::proofs::Adding::adds_then))]
 fn put_error<E: Plain + Numbered>(
     alloc: Global,
     text: &mut JsonText,
@@ -68,16 +87,13 @@ fn put_error<E: Plain + Numbered>(
     kind: ErrorKind,
     variable: Option<usize>,
     task: &TaskName<E>,
-) -> Result<(), AllocError>
-    ensures { OnOk result (text.new ≡ text.old ++ json_tokens (error_value (variables_of declarations.now) E.key_of E.number_of kind variable task.now)) }
+)
+    ensures { Adds text.old text.new (json_tokens (error_value (variables_of declarations.now) E.key_of E.number_of kind variable task.now)) }
 {
-    text.begin_object()?;
-    text.key("kind")?;
-    text.string(kind_name(kind))?;
-    text.key("variable")?;
-    put_name_if_any(text, declarations, variable)?;
-    text.key("task")?;
-    put_task(alloc, text, task)?;
+    text.begin_object();
+    text.text_member("kind", kind_name(kind));
+    variable_member(text, declarations, variable);
+    task_member(alloc, text, task);
     text.end_object()
 }
 
@@ -87,8 +103,8 @@ fn put_outcome_error<E: Plain + Numbered>(
     text: &mut JsonText,
     declarations: &[Declaration],
     outcome: &Outcome<E>,
-) -> Result<(), AllocError>
-    ensures { OnOk result (text.new ≡ text.old ++ json_tokens (outcome_error (variables_of declarations.now) E.key_of E.number_of outcome.now)) }
+)
+    ensures { Adds text.old text.new (json_tokens (outcome_error (variables_of declarations.now) E.key_of E.number_of outcome.now)) }
 {
     match outcome {
         Outcome::Ended => text.null(),
@@ -102,28 +118,90 @@ fn put_outcome_error<E: Plain + Numbered>(
 }
 
 /// Adds numbers.
-fn put_counts(text: &mut JsonText, counts: &[u64]) -> Result<(), AllocError>
-    ensures { OnOk result (text.new ≡ text.old ++ json_tokens (each count counts.now)) }
+#[tactic(auto, using(crate::proofs::Adding::place_written))]
+fn put_counts(text: &mut JsonText, counts: &[u64])
+    ensures { Adds text.old text.new (json_tokens (each count counts.now)) }
 {
-    text.begin_array()?;
+    text.begin_array();
     for number in counts {
-        text.count(*number)?;
+        text.count(*number);
     }
     text.end_array()
 }
 
 /// Adds the picks, where they are asked for, and ends the object.
-fn end_with_picks(text: &mut JsonText, picks: Option<&[u64]>) -> Result<(), AllocError>
-    ensures { OnOk result (text.new ≡ text.old ++ members_tokens (members_of (picks_field (option_map (λ p. p.now) picks.entry)))) }
+#[tactic(auto, using(crate::proofs::Adding::adds_then))]
+fn end_with_picks(text: &mut JsonText, picks: Option<&[u64]>)
+    ensures { Adds text.old text.new (members_tokens (members_of (picks_field (option_map (λ p. p.now) picks.entry)))) }
 {
     match picks {
         Some(picks) => {
-            text.key("picks")?;
-            put_counts(text, picks)?;
+            text.key("picks");
+            put_counts(text, picks);
             text.end_object()
         }
         None => text.end_object(),
     }
+}
+
+/// Adds the last members of a report, and ends the object.
+#[tactic(auto, using(crate::proofs::Adding::adds_then))]
+fn end_with_states<E: Plain>(
+    alloc: Global,
+    text: &mut JsonText,
+    declarations: &[Declaration],
+    report: &Report<Any, E>,
+    picks: Option<&[u64]>,
+)
+    ensures { Adds text.old text.new (key (codes "freezes") ∷ (json_tokens (each (name_value (variables_of declarations.now)) report.now.freezes)
+        ++ (key (codes "states") ∷ (json_tokens (array (items_of (state_values (variables_of declarations.now) report.now.states)))
+        ++ members_tokens (members_of (picks_field (option_map (λ p. p.now) picks.entry))))))) }
+{
+    text.key("freezes");
+    put_names(text, declarations, report.freezes.as_slice());
+    text.key("states");
+    put_states(alloc, text, declarations, report.states.as_slice());
+    end_with_picks(text, picks)
+}
+
+/// Adds the numbers of a report and what comes behind them, and ends the object.
+fn end_with_numbers<E: Plain>(
+    alloc: Global,
+    text: &mut JsonText,
+    declarations: &[Declaration],
+    report: &Report<Any, E>,
+    picks: Option<&[u64]>,
+)
+    ensures { Adds text.old text.new (key (codes "steps") ∷ (json_tokens (count report.now.steps)
+        ++ (key (codes "blocked") ∷ (json_tokens (count report.now.blocked)
+        ++ (key (codes "by_worker") ∷ (json_tokens (each count report.now.by_worker)
+        ++ (key (codes "freezes") ∷ (json_tokens (each (name_value (variables_of declarations.now)) report.now.freezes)
+        ++ (key (codes "states") ∷ (json_tokens (array (items_of (state_values (variables_of declarations.now) report.now.states)))
+        ++ members_tokens (members_of (picks_field (option_map (λ p. p.now) picks.entry))))))))))))) }
+{
+    text.count_member("steps", report.steps);
+    text.count_member("blocked", report.blocked);
+    text.key("by_worker");
+    put_counts(text, report.by_worker.as_slice());
+    end_with_states(alloc, text, declarations, report, picks)
+}
+
+/// Adds all of a report of a script with these declarations, and the picks where they are asked for.
+#[tactic(auto, using(crate::proofs::Adding::adds_then))]
+fn put_declared<E: Plain + Numbered>(
+    alloc: Global,
+    text: &mut JsonText,
+    declarations: &[Declaration],
+    report: &Report<Any, E>,
+    picks: Option<&[u64]>,
+)
+    ensures { Adds text.old text.new (json_tokens (report_value (variables_of declarations.now) E.key_of E.number_of report.now (option_map (λ p. p.now) picks.entry))) }
+{
+    text.begin_object();
+    text.text_member("outcome", outcome_name(&report.outcome));
+    text.key("error");
+    put_outcome_error(alloc, text, declarations, &report.outcome);
+    end_with_numbers(alloc, text, declarations, report, picks)
 }
 
 /// Adds all of a report, and the picks where they are asked for.
@@ -133,26 +211,10 @@ pub fn put_report<E: Plain + Numbered>(
     script: &Script,
     report: &Report<Any, E>,
     picks: Option<&[u64]>,
-) -> Result<(), AllocError>
-    ensures { OnOk result (text.new ≡ text.old ++ json_tokens (report_value (variables_of script.now.declarations) E.key_of E.number_of report.now (option_map (λ p. p.now) picks.entry))) }
+)
+    ensures { Adds text.old text.new (json_tokens (report_value (variables_of script.now.declarations) E.key_of E.number_of report.now (option_map (λ p. p.now) picks.entry))) }
 {
-    let declarations = script.declarations();
-    text.begin_object()?;
-    text.key("outcome")?;
-    text.string(outcome_name(&report.outcome))?;
-    text.key("error")?;
-    put_outcome_error(alloc, text, declarations, &report.outcome)?;
-    text.key("steps")?;
-    text.count(report.steps)?;
-    text.key("blocked")?;
-    text.count(report.blocked)?;
-    text.key("by_worker")?;
-    put_counts(text, report.by_worker.as_slice())?;
-    text.key("freezes")?;
-    put_names(text, declarations, report.freezes.as_slice())?;
-    text.key("states")?;
-    put_states(alloc, text, declarations, report.states.as_slice())?;
-    end_with_picks(text, picks)
+    put_declared(alloc, text, script.declarations(), report, picks)
 }
 
 /// A report as a JSON line: what the run came to, its error, the numbers of steps and of blocked
@@ -171,6 +233,6 @@ pub fn report_json<E: Plain + Numbered>(
     ensures { IfOk result (λ bytes. IsLineOf (report_value (variables_of script.now.declarations) E.key_of E.number_of report.now (option_map (λ p. p.now) picks.entry)) bytes.items) }
 {
     let mut text = JsonText::new(alloc);
-    put_report(alloc, &mut text, script, report, picks)?;
+    put_report(alloc, &mut text, script, report, picks);
     text.into_line()
 }

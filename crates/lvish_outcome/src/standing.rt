@@ -67,7 +67,7 @@ fn push_local(text: &mut Draft, before: &[u8], local: &LocalText<'_>)
 }
 
 /// Locals behind others.
-#[tactic(auto, using(lvish_explain::proofs::Adding::adds_then, lvish_explain::proofs::Adding::adds_none))]
+#[tactic(auto, using(lvish_explain::proofs::Adding::adds_joined, lvish_explain::proofs::Adding::adds_none))]
 fn push_more_locals(text: &mut Draft, locals: &[LocalText<'_>])
     ensures { Adds text.old text.new (flat_map (local_text (codes ", ")) locals.now) }
 {
@@ -126,7 +126,7 @@ fn push_called(text: &mut Draft, call: &CallText<'_>)
 }
 
 /// The lines of calls.
-#[tactic(auto, using(lvish_explain::proofs::Adding::adds_then, lvish_explain::proofs::Adding::adds_none))]
+#[tactic(auto, using(lvish_explain::proofs::Adding::adds_joined, lvish_explain::proofs::Adding::adds_none))]
 fn push_calls(text: &mut Draft, calls: &[CallText<'_>])
     ensures { Adds text.old text.new (called_lines calls.now) }
 {

@@ -134,7 +134,7 @@ fn push_steps(text: &mut Draft, file: &str, lines: &[&[u8]], told: LineCount)
 }
 
 /// The same of lines.
-#[tactic(auto, using(lvish_explain::proofs::Adding::adds_then, lvish_explain::proofs::Adding::adds_none))]
+#[tactic(auto, using(lvish_explain::proofs::Adding::adds_joined, lvish_explain::proofs::Adding::adds_none))]
 pub fn push_all_steps(text: &mut Draft, file: &str, lines: &[&[u8]], told: &[LineCount])
     ensures { Adds text.old text.new (steps_texts file.now (map (λ l. l.now) lines.now) told.now) }
 {

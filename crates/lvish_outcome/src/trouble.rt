@@ -4,7 +4,7 @@ ghost use Rattle.std.specs.Prelude.{◌≡◌, ◌++◌, codes};
 ghost use Rattle.std.specs.Fmt.{signed_decimal};
 ghost use Rattle.lvish_explain.specs.Draft.{Adds};
 ghost use Rattle.lvish_outcome.specs.Spot.{spot_text};
-ghost use Rattle.lvish_outcome.specs.Trouble.{kind_of, operator_sign, sum_text, other_text, range_text, trouble_text};
+ghost use Rattle.lvish_outcome.specs.Trouble.{kind_of, operator_sign, sum_text, other_text, takes_text, range_text, trouble_text};
 
 use crate::spot::Spot;
 use lvish_calculus::ErrorKind;
@@ -101,6 +101,18 @@ fn push_operator(text: &mut Draft, operator: Operator)
     }
 }
 
+/// The second of two numbers, and why they fail.
+#[tactic(auto, using(lvish_explain::proofs::Adding::adds_then, lvish_explain::proofs::Adding::adds_none))]
+fn push_right(text: &mut Draft, right: i64, fails: &[u8])
+    ensures { Adds text.old text.new (codes " " ++ (signed_decimal right ++ (codes ", " ++ fails.now))) }
+{
+    text.add(b" ");
+    text.add_integer(right);
+    text.add(b", ");
+    text.add(fails);
+}
+
+#[tactic(auto, using(lvish_explain::proofs::Adding::adds_then, lvish_explain::proofs::Adding::adds_none))]
 fn push_sum(text: &mut Draft, sum: Sum, fails: &[u8])
     ensures { Adds text.old text.new (sum_text sum fails.now) }
 {
@@ -108,10 +120,7 @@ fn push_sum(text: &mut Draft, sum: Sum, fails: &[u8])
     text.add_integer(sum.left);
     text.add(b" ");
     push_operator(text, sum.operator);
-    text.add(b" ");
-    text.add_integer(sum.right);
-    text.add(b", ");
-    text.add(fails);
+    push_right(text, sum.right, fails);
 }
 
 /// That a number is put, and what is said of that.
@@ -126,6 +135,17 @@ fn push_put(text: &mut Draft, spot: &Spot<'_>, number: i64, said: &[u8])
     text.add(said);
 }
 
+/// What is there.
+#[tactic(auto, using(lvish_explain::proofs::Adding::adds_then, lvish_explain::proofs::Adding::adds_none))]
+fn push_where(text: &mut Draft, there: i64)
+    ensures { Adds text.old text.new (codes ", where " ++ (signed_decimal there ++ codes " is")) }
+{
+    text.add(b", where ");
+    text.add_integer(there);
+    text.add(b" is");
+}
+
+#[tactic(auto, using(lvish_explain::proofs::Adding::adds_then, lvish_explain::proofs::Adding::adds_none))]
 fn push_other(text: &mut Draft, spot: &Spot<'_>, number: i64, there: i64)
     ensures { Adds text.old text.new (other_text spot.now number there) }
 {
@@ -133,9 +153,15 @@ fn push_other(text: &mut Draft, spot: &Spot<'_>, number: i64, there: i64)
     text.add_integer(number);
     text.add(b" into ");
     spot.push(text);
-    text.add(b", where ");
-    text.add_integer(there);
-    text.add(b" is");
+    push_where(text, there);
+}
+
+/// That only numbers from 0 to the highest are taken.
+fn push_takes(text: &mut Draft, highest: i64)
+    ensures { Adds text.old text.new (codes ", " ++ takes_text highest) }
+{
+    text.add(b", which takes 0 to ");
+    text.add_integer(highest);
 }
 
 fn push_range(text: &mut Draft, spot: &Spot<'_>, number: i64, highest: i64)
@@ -145,7 +171,5 @@ fn push_range(text: &mut Draft, spot: &Spot<'_>, number: i64, highest: i64)
     text.add_integer(number);
     text.add(b" for ");
     spot.push(text);
-    text.add(b", ");
-    text.add(b"which takes 0 to ");
-    text.add_integer(highest);
+    push_takes(text, highest);
 }

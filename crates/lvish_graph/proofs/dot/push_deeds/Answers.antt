@@ -1,12 +1,7 @@
 use Rattle.std.proofs.Common.{refl}
-use Rattle.lvish_graph.specs.Dot.{verb_edges, pool_edges}
+use Rattle.lvish_graph.specs.Dot.{pool_edges}
 use Rattle.lvish_graph.proofs.Loops.{joined_more}
 use Rattle.lvish_graph.proofs.dot.push_deeds.Goals as goal
-
-pub loop-verb-preserved : goal.loop-verb-preserved
-loop-verb-preserved c =
-    joined_more (verb_edges c.args.script.now c.args.deeds.now c.args.from.now) c.as_slice-verb-items.result.now c.loop-verb.verb-index c.verb-item.result c.loop-verb-test.true c.verb-item.is
-    _ _ _ _ c.loop-verb.invariant c.in_ok-push_verb_edges.ensures refl
 
 pub loop-pool-preserved : goal.loop-pool-preserved
 loop-pool-preserved c =

@@ -1,12 +1,7 @@
 use Rattle.std.specs.Prelude.{codes}
 use Rattle.lvish_outcome.specs.Standing.{local_text}
-use Rattle.lvish_explain.proofs.Adding.{adds_joined, adds_all}
+use Rattle.lvish_explain.proofs.Adding.{adds_all}
 use Rattle.lvish_outcome.proofs.standing.push_more_locals.Goals as goal
-
-pub loop-local-preserved : goal.loop-local-preserved
-loop-local-preserved c =
-    adds_joined (local_text (codes ", ")) c.args.locals.now c.loop-local.local-index c.local-item.result c.loop-local-test.true c.local-item.is
-    c.args.text.now c.loop-local.text c.push_local.new.text c.loop-local.invariant c.push_local.ensures
 
 pub returns : goal.returns
 returns c = adds_all (local_text (codes ", ")) c.args.locals.now c.loop-local.local-index c.args.text.now c.loop-local.text c.loop-local-test.false c.loop-local.invariant
