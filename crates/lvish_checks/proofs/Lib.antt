@@ -19,3 +19,4 @@ pub mod Spelled
 pub mod Names
 pub mod Respelled
 mod Beginnings
+pub mod Pieces

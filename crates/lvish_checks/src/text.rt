@@ -1,4 +1,4 @@
-ghost use Rattle.std.specs.Prelude.{◌≡◌, ◌==◌, ◌++◌, ◌∷◌, [], IfOk, OnErr, OnOk, length, map, take, if◌then◌else◌};
+ghost use Rattle.std.specs.Prelude.{◌≡◌, ◌≤◌, ◌==◌, ◌++◌, ◌∷◌, [], IfOk, OnErr, OnOk, length, map, take, if◌then◌else◌};
 ghost use Rattle.std.specs.List.{slice_split, position_or_len};
 ghost use Rattle.lvish_checks.specs.Text.{lines_of, words_of, is_separator, is_comment, without_last_feed};
 
@@ -21,7 +21,8 @@ fn is_comment(word: &[u8]) -> bool
 
 /// How many bytes stand before the first separator. Each byte of a script comes here.
 fn piece_length(line: &[u8]) -> usize
-    ensures { result ≡ position_or_len is_separator line.now }
+    ensures place { result ≡ position_or_len is_separator line.now }
+    ensures most { result ≤ length line.now }
 {
     for at in 0..line.len() {
         if is_separator(line[at]) {
@@ -36,9 +37,10 @@ fn put_piece<'a>(words: &mut Vec<&'a [u8]>, piece: &'a [u8]) -> Result<(), Alloc
     ensures put { OnOk result (map (λ w. w.now) words.new.items ≡ map (λ w. w.now) words.old.items ++ (if length piece.now == 0 then [] else piece.now ∷ [])) }
     ensures refused { OnErr result (words.new.items ≡ words.old.items) }
 {
-    if !piece.is_empty() {
-        words.push(piece)?;
+    if piece.is_empty() {
+        return Ok(());
     }
+    words.push(piece)?;
     Ok(())
 }
 
@@ -57,7 +59,7 @@ pub fn put_words<'a>(words: &mut Vec<&'a [u8]>, line: &'a [u8]) -> Result<(), Al
             return Ok(());
         }
         put_piece(words, piece)?;
-        if length == rest.len() {
+        if length >= rest.len() {
             return Ok(());
         }
         rest = &rest[length + 1..];

@@ -84,9 +84,7 @@ impl OpenBlock {
     {
         match self {
             OpenBlock::If(test, block) => Statement::If(test, block),
-            OpenBlock::Else(test, first, second) => {
-                Statement::IfElse(test, first, second)
-            }
+            OpenBlock::Else(test, first, second) => { Statement::IfElse(test, first, second) }
             OpenBlock::While(test, block) => Statement::While(test, block),
         }
     }

@@ -190,10 +190,13 @@ fn go_below<'a>(
     requires { k < length lines.now }
     ensures { HaveSameNames locals.old (locals_at lines.now k) → OnOk result (HaveSameNames locals.new (locals_at lines.now (k + 1))) }
 {
-    if let Line::Proc(_, parameters) = &lines[k] {
-        *locals = locals_of(alloc, parameters.get().as_slice(), &lines[k + 1..])?;
+    match &lines[k] {
+        Line::Proc(_, parameters) => {
+            *locals = locals_of(alloc, parameters.get().as_slice(), &lines[k + 1..])?;
+            Ok(())
+        }
+        _ => Ok(()),
     }
-    Ok(())
 }
 
 /// The first of these lines that names what isn't among those declared, or a local that its
