@@ -20,3 +20,4 @@ pub mod Names
 pub mod Respelled
 mod Beginnings
 pub mod Pieces
+pub mod Digits

@@ -47,7 +47,7 @@ fn locals_of<'a>(
 ) -> Result<NameSet<'a>, AllocError>
     ensures { IfOk result (λ locals. HaveSameNames locals (parameters.now ++ binds_until_procedure lines.now)) }
 {
-    let mut locals = NameSet::new(alloc);
+    let mut locals = NameSet::with_room(alloc, parameters.len())?;
     for name in parameters {
         locals.add(name)?;
     }

@@ -10,3 +10,6 @@ returns-then-length-rest-clause-words c = ended c.loop-rest.rest.now c.piece_len
 
 pub loop-rest-preserved : goal.loop-rest-preserved
 loop-rest-preserved c = went_on c.loop-rest.rest.now c.piece_length-length.result c.piece_length-length.ensures.place (map (λ w. w.now) c.loop-rest.words.items) (map (λ w. w.now) c.put_piece.new.words.items) c.args.line.now c.loop-rest.invariant c.if-length-rest.false (sym c.is_comment.ensures ∙ c.if-is_comment.false) c.in_ok-put_piece.ensures.put
+
+pub overflow_add-rest : goal.overflow_add-rest
+overflow_add-rest c = ?
