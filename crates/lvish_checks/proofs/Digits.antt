@@ -42,9 +42,9 @@ few_spelled ds i value some le all v most =
     digits_number ds numeral small ∙ ap (λ n. Some (pos n)) (sym v)
 
 -- a number that fits is given
-pub given : {E P : Type 0} (r : Result ℤ E) (z : ℤ) (o spelled : Option ℤ) → o ≡ result_ok r → OkIff r P z → spelled ≡ Some z → MatchOption o ⊤ (λ n. spelled ≡ Some n)
-given (Ok v) z o spelled e h s = subst (λ p. MatchOption p ⊤ (λ n. spelled ≡ Some n)) (sym e) (s ∙ ap Some (sym h.1))
-given (Err x) z o spelled e h s = subst (λ p. MatchOption p ⊤ (λ n. spelled ≡ Some n)) (sym e) tt
+pub given : {E : Type 0} (P : Type 0) (r : Result ℤ E) (z : ℤ) (o spelled : Option ℤ) → o ≡ result_ok r → OkIff r P z → spelled ≡ Some z → MatchOption o ⊤ (λ n. spelled ≡ Some n)
+given P (Ok v) z o spelled e h s = subst (λ p. MatchOption p ⊤ (λ n. spelled ≡ Some n)) (sym e) (s ∙ ap Some (sym h.1))
+given P (Err x) z o spelled e h s = subst (λ p. MatchOption p ⊤ (λ n. spelled ≡ Some n)) (sym e) tt
 
 -- what isn't empty has a byte
 pub some_bytes : (n : ℕ) (empty : Bool) → empty ≡ (n == 0) → empty ≡ false → 0 < n

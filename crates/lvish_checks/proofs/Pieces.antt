@@ -1,5 +1,5 @@
 -- The words of a line, piece by piece between its separators.
-use Rattle.std.proofs.Common.{◌≡◌, ℕ, ◌+◌, ◌-◌, ◌<◌, ◌≤◌, Bool, true, false, not, cond, List, [], ◌∷◌, ◌++◌, length, take, drop, get_or, refl, sym, ap, ◌∙◌, arith, take_all, ◌==◌, subst}
+use Rattle.std.proofs.Common.{◌≡◌, ℕ, ◌+◌, ◌<◌, ◌≤◌, Bool, true, false, not, cond, List, [], ◌∷◌, ◌++◌, length, take, drop, get_or, refl, sym, ap, ◌∙◌, arith, take_all, ◌==◌, subst}
 use Rattle.std.specs.Prelude.{filter, take_while, if◌then◌else◌, nat_lt}
 use Rattle.std.specs.List.{slice_split, position_or_len}
 use Rattle.std.proofs.lemmas.List.Sums.{take_while-cons, fails_before_first}
@@ -9,7 +9,6 @@ use Rattle.std.proofs.lemmas.Bool.{ltb-true, ltb-false}
 use Rattle.std.proofs.lemmas.List.{append-nil, append_assoc}
 use Rattle.lvish_syntax.specs.Words.{Word}
 use Rattle.lvish_checks.specs.Text.{is_separator, is_comment, words_of}
-use Rattle.lvish_checks.proofs.Loops.{rest_whole}
 
 -- the words among pieces
 abbrev pub kept : List Word → List Word
@@ -68,10 +67,9 @@ module _ (rest : List ℕ) (n : ℕ) (at : n ≡ position_or_len is_separator re
     ended e c put = put ∙ ap (λ ws. done ++ ws) (sym (words_end e c)) ∙ told
 
     -- more pieces stand behind it
-    pub went_on : n < length rest → is_comment (take n rest) ≡ false → more ≡ done ++ unless_empty (take n rest) → more ++ words_of (take (length rest - (n + 1)) (drop (n + 1) rest)) ≡ words_of line
+    pub went_on : n < length rest → is_comment (take n rest) ≡ false → more ≡ done ++ unless_empty (take n rest) → more ++ words_of (drop (n + 1) rest) ≡ words_of line
     went_on lt c put =
-        ap (λ r. more ++ words_of r) (rest_whole (n + 1) rest)
-        ∙ ap (λ ws. ws ++ words_of (drop (n + 1) rest)) put
+        ap (λ ws. ws ++ words_of (drop (n + 1) rest)) put
         ∙ append_assoc done (unless_empty (take n rest)) (words_of (drop (n + 1) rest))
         ∙ ap (λ ws. done ++ ws) (sym (words_more lt c)) ∙ told
 

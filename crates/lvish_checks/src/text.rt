@@ -1,4 +1,4 @@
-ghost use Rattle.std.specs.Prelude.{◌≡◌, ◌≤◌, ◌==◌, ◌++◌, ◌∷◌, [], IfOk, OnErr, OnOk, length, map, take, if◌then◌else◌};
+ghost use Rattle.std.specs.Prelude.{◌≡◌, ◌+◌, ◌<◌, ◌≤◌, ◌==◌, ◌++◌, ◌∷◌, [], IfOk, OnErr, OnOk, length, map, take, drop, if◌then◌else◌};
 ghost use Rattle.std.specs.List.{slice_split, position_or_len};
 ghost use Rattle.lvish_checks.specs.Text.{lines_of, words_of, is_separator, is_comment, without_last_feed};
 
@@ -32,6 +32,15 @@ fn piece_length(line: &[u8]) -> usize
     line.len()
 }
 
+/// What stands behind a place of a line.
+fn behind(line: &[u8], at: usize) -> &[u8]
+    requires { at < length line.now }
+    ensures rest { result.now ≡ drop (at + 1) line.now }
+    ensures shorter { length result.now < length line.now }
+{
+    &line[at + 1..]
+}
+
 /// Puts a piece of a line behind other words, unless it is empty.
 fn put_piece<'a>(words: &mut Vec<&'a [u8]>, piece: &'a [u8]) -> Result<(), AllocError>
     ensures put { OnOk result (map (λ w. w.now) words.new.items ≡ map (λ w. w.now) words.old.items ++ (if length piece.now == 0 then [] else piece.now ∷ [])) }
@@ -62,7 +71,7 @@ pub fn put_words<'a>(words: &mut Vec<&'a [u8]>, line: &'a [u8]) -> Result<(), Al
         if length >= rest.len() {
             return Ok(());
         }
-        rest = &rest[length + 1..];
+        rest = behind(rest, length);
     }
 }
 

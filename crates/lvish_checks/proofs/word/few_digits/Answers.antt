@@ -16,4 +16,4 @@ pub returns : goal.returns
 returns c =
     let some = some_bytes (length c.args.word.now) c.is_empty.result c.is_empty.ensures c.if-is_empty.false in
     let whole = c.loop-b.invariant.value ∙ ap (digits_value 10) (take_all c.loop-b.b-index c.args.word.now c.loop-b-test.false) in
-    given c.try_from.result _ c.ok.result _ c.ok.ensures.value c.try_from.ensures (few_spelled c.args.word.now c.loop-b.b-index c.loop-b.value some c.loop-b-test.false c.loop-b.invariant.digits whole c.loop-b.invariant.most)
+    given _ c.try_from.result _ c.ok.result _ c.ok.ensures.value c.try_from.ensures (few_spelled c.args.word.now c.loop-b.b-index c.loop-b.value some c.loop-b-test.false c.loop-b.invariant.digits whole c.loop-b.invariant.most)
