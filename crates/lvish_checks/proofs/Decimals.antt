@@ -31,7 +31,7 @@ decimal_value : (n : ℕ) → n < 2 ^ 64 → digits_value 10 (decimal n) ≡ n
 decimal_value n h = digits_value-decimal own n h
 
 -- digits do not begin as a negative number does, nor as a comment
-digits_number : (ds : List ℕ) → is_numeral ds ≡ true → nat_lt (digits_value 10 ds) (2 ^ 63) ≡ true → number_spelled ds ≡ Some (pos (digits_value 10 ds))
+pub digits_number : (ds : List ℕ) → is_numeral ds ≡ true → nat_lt (digits_value 10 ds) (2 ^ 63) ≡ true → number_spelled ds ≡ Some (pos (digits_value 10 ds))
 digits_number [] e f = absurd cc
 digits_number (d ∷ ds) e f =
     let no_minus : (d == 45) ≡ false = no_sign d (all_ascii_digits ds) (right_holds (not (length (d ∷ ds) == 0)) _ e) in

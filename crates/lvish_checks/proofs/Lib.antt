@@ -19,3 +19,5 @@ pub mod Spelled
 pub mod Names
 pub mod Respelled
 mod Beginnings
+pub mod Pieces
+pub mod Digits

@@ -37,6 +37,15 @@ impl<'a> NameSet<'a> {
         }
     }
 
+    /// No names, with room for this many.
+    pub fn with_room(alloc: Global, room: usize) -> Result<NameSet<'a>, AllocError>
+        ensures { IfOk result (λ s. (q : Word) → has_name q s ≡ false) }
+    {
+        Ok(NameSet {
+            names: IndexSet::with_capacity(alloc, room)?,
+        })
+    }
+
     /// Adds a name, and says whether it wasn't there.
     pub fn add(&mut self, name: &'a Identifier) -> Result<bool, AllocError>
         ensures fresh { IfOk result (λ is_new. is_new ≡ not (has_name name.now self.old)) }

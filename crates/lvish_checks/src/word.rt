@@ -1,10 +1,13 @@
-ghost use Rattle.std.specs.Prelude.{◌≡◌, ◌==◌, codes};
+ghost use Rattle.std.specs.Prelude.{◌≡◌, ◌≤◌, ◌+◌, ◌==◌, codes, MatchOption, Some, ⊤, true};
 ghost use Rattle.std.specs.List.{list_all, list_any, slice_split};
 ghost use Rattle.std.specs.Str.{bytes_eq};
 ghost use Rattle.lvish_syntax.specs.Words.{is_digit, is_letter, is_name_byte, begins_name, is_reserved, is_name};
 ghost use Rattle.lvish_checks.specs.Form.{is_number_word, number_spelled, value_of_number, is_bad_number};
 
 use lvish_syntax::MOST_IN_NAME;
+
+/// What digits may come to with one more behind them, and still be far from 64 bits.
+const MOST_BEFORE_ONE_MORE: u64 = 100_000_000_000_000_000;
 
 /// Whether a word is this text.
 pub fn is(word: &[u8], text: &[u8]) -> bool
@@ -129,8 +132,44 @@ pub fn is_number_word(word: &[u8]) -> bool
     }
 }
 
+/// The value of a digit.
+fn digit(b: u8) -> u64
+    requires { is_digit b ≡ true }
+    ensures value { result + 48 ≡ b }
+    ensures most { result ≤ 9 }
+{
+    u64::from(b - b'0')
+}
+
+/// The number that a few digits write, as nearly all number words are; `None` for any other word.
+fn few_digits(word: &[u8]) -> Option<i64>
+    ensures { MatchOption result ⊤ (λ n. number_spelled word.now ≡ Some n) }
+{
+    if word.is_empty() {
+        return None;
+    }
+    let mut value = 0;
+    for b in word {
+        if !is_digit(*b) || value > MOST_BEFORE_ONE_MORE {
+            return None;
+        }
+        value = value * 10 + digit(*b);
+    }
+    i64::try_from(value).ok()
+}
+
 /// The number that a word writes, if it is one within 64 bits.
 pub fn number_of(word: &[u8]) -> Option<i64>
+    ensures { result ≡ number_spelled word.now }
+{
+    match few_digits(word) {
+        Some(number) => Some(number),
+        None => number_by_text(word),
+    }
+}
+
+/// The same, of any word.
+fn number_by_text(word: &[u8]) -> Option<i64>
     ensures { result ≡ number_spelled word.now }
 {
     if word.starts_with(b"+") {

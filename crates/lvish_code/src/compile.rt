@@ -41,11 +41,11 @@ fn emit_statement(
     ensures { OnOk result (code.new.items ≡ code.old.items ++ statement_code (names_in scope.now) statement.now) }
 {
     match statement {
-        Statement::Do(command) => append(code, scope.command(alloc, command)?),
+        Statement::Do(command) => append(code, scope.command(alloc, command.get())?),
         Statement::If(term, block) => {
             let test = reserve(code)?;
             emit_block(alloc, scope, code, block)?;
-            end_if(code, test, scope.operand(term));
+            end_if(code, test, scope.operand(term.get()));
             Ok(())
         }
         Statement::IfElse(term, first, second) => {
@@ -53,13 +53,13 @@ fn emit_statement(
             emit_block(alloc, scope, code, first)?;
             let first_end = reserve(code)?;
             emit_block(alloc, scope, code, second)?;
-            end_if_else(code, test, first_end, scope.operand(term));
+            end_if_else(code, test, first_end, scope.operand(term.get()));
             Ok(())
         }
         Statement::While(term, block) => {
             let test = reserve(code)?;
             emit_block(alloc, scope, code, block)?;
-            end_while(code, test, scope.operand(term))
+            end_while(code, test, scope.operand(term.get()))
         }
     }
 }

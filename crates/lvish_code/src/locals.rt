@@ -42,7 +42,7 @@ fn add_in_statement<'s>(
     ensures { OnOk result (locals.new ≡ fold with_name locals.old (binds_of statement.now)) }
 {
     match statement {
-        Statement::Do(command) => add_of_command(locals, command),
+        Statement::Do(command) => add_of_command(locals, command.get()),
         Statement::If(_, block) => add_in_block(locals, block),
         Statement::IfElse(_, first, second) => {
             add_in_block(locals, first)?;

@@ -53,7 +53,7 @@ fn push_statement(deeds: &mut Vec<Deed>, statement: &Statement) -> Result<(), Al
     ensures { OnOk result (deeds.new.items ≡ deeds.old.items ++ statement_deeds statement.now) }
 {
     match statement {
-        Statement::Do(command) => push_command(deeds, command),
+        Statement::Do(command) => push_command(deeds, command.get()),
         Statement::If(_, block) => push_block(deeds, block),
         Statement::IfElse(_, first, second) => {
             push_block(deeds, first)?;

@@ -205,7 +205,7 @@ impl Draft {
                 ));
                 Ok(())
             }
-            Line::Do(command) => self.add_statement(Statement::Do(command.into_inner())),
+            Line::Do(command) => self.add_statement(Statement::Do(command)),
             Line::If(test) => self.open(OpenBlock::If(test, empty(alloc))),
             Line::While(test) => self.open(OpenBlock::While(test, empty(alloc))),
             Line::Else => self.turn(alloc),

@@ -83,11 +83,9 @@ impl OpenBlock {
         ensures { statement_lines result ≡ block_lines self ++ line.End ∷ [] }
     {
         match self {
-            OpenBlock::If(test, block) => Statement::If(test.into_inner(), block),
-            OpenBlock::Else(test, first, second) => {
-                Statement::IfElse(test.into_inner(), first, second)
-            }
-            OpenBlock::While(test, block) => Statement::While(test.into_inner(), block),
+            OpenBlock::If(test, block) => Statement::If(test, block),
+            OpenBlock::Else(test, first, second) => { Statement::IfElse(test, first, second) }
+            OpenBlock::While(test, block) => Statement::While(test, block),
         }
     }
 }

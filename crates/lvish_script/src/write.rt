@@ -62,15 +62,15 @@ fn write_statement(
     ensures { OnOk result (string_bytes text.new ≡ string_bytes text.old ++ lines_text (statement_lines statement.now)) }
 {
     match statement {
-        Statement::Do(command) => command_line(alloc, text, command),
+        Statement::Do(command) => command_line(alloc, text, command.get()),
         Statement::If(test, block) => {
-            opening(alloc, text, "if", test)?;
+            opening(alloc, text, "if", test.get())?;
             write_block(alloc, text, block)?;
             text.push_str("end\n")?;
             Ok(())
         }
         Statement::IfElse(test, first, second) => {
-            opening(alloc, text, "if", test)?;
+            opening(alloc, text, "if", test.get())?;
             write_block(alloc, text, first)?;
             text.push_str("else\n")?;
             write_block(alloc, text, second)?;
@@ -78,7 +78,7 @@ fn write_statement(
             Ok(())
         }
         Statement::While(test, block) => {
-            opening(alloc, text, "while", test)?;
+            opening(alloc, text, "while", test.get())?;
             write_block(alloc, text, block)?;
             text.push_str("end\n")?;
             Ok(())

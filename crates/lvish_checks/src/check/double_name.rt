@@ -15,7 +15,7 @@ use std::alloc::{AllocError, Global};
 fn has_repeat(alloc: Global, names: &[Identifier]) -> Result<bool, AllocError>
     ensures { IfOk result (λ found. found ≡ has_repeat names.now) }
 {
-    let mut seen = NameSet::new(alloc);
+    let mut seen = NameSet::with_room(alloc, names.len())?;
     for name in names {
         if !seen.add(name)? {
             return Ok(true);

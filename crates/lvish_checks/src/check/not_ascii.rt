@@ -6,7 +6,7 @@ ghost use Rattle.lvish_checks.specs.Checks.{on_line, IsFirstOn};
 fn is_foreign(b: u8) -> bool
     ensures { result ≡ is_foreign b }
 {
-    !(b == b'\t' || b == b'\n' || b == b'\r' || (b >= b' ' && b <= b'~'))
+    !((b >= b' ' && b <= b'~') || b == b'\t' || b == b'\n' || b == b'\r')
 }
 
 fn has_foreign(line: &[u8]) -> bool

@@ -47,7 +47,7 @@ fn locals_of<'a>(
 ) -> Result<NameSet<'a>, AllocError>
     ensures { IfOk result (λ locals. HaveSameNames locals (parameters.now ++ binds_until_procedure lines.now)) }
 {
-    let mut locals = NameSet::new(alloc);
+    let mut locals = NameSet::with_room(alloc, parameters.len())?;
     for name in parameters {
         locals.add(name)?;
     }
@@ -179,20 +179,24 @@ fn add_variable<'a>(variables: &mut NameSet<'a>, line: &'a Line) -> Result<(), A
     Ok(())
 }
 
-/// The locals below a line: those of the procedure that it begins, else those that stood there.
-fn locals_below<'a>(
+/// Goes on to the locals below a line: those of the procedure that it begins, else those that stood
+/// there.
+fn go_below<'a>(
     alloc: Global,
-    locals: NameSet<'a>,
+    locals: &mut NameSet<'a>,
     lines: &'a [Line],
     k: usize,
-) -> Result<NameSet<'a>, AllocError>
+) -> Result<(), AllocError>
     requires { k < length lines.now }
-    ensures { HaveSameNames locals.entry (locals_at lines.now k) → IfOk result (λ below. HaveSameNames below (locals_at lines.now (k + 1))) }
+    ensures { HaveSameNames locals.old (locals_at lines.now k) → OnOk result (HaveSameNames locals.new (locals_at lines.now (k + 1))) }
 {
-    if let Line::Proc(_, parameters) = &lines[k] {
-        return locals_of(alloc, parameters.get().as_slice(), &lines[k + 1..]);
+    match &lines[k] {
+        Line::Proc(_, parameters) => {
+            *locals = locals_of(alloc, parameters.get().as_slice(), &lines[k + 1..])?;
+            Ok(())
+        }
+        _ => Ok(()),
     }
-    Ok(locals)
 }
 
 /// The first of these lines that names what isn't among those declared, or a local that its
@@ -215,7 +219,7 @@ fn first_unknown_of(
             return Ok(Some(k + 1));
         }
         add_variable(&mut above, line)?;
-        locals = locals_below(alloc, locals, lines, k)?;
+        go_below(alloc, &mut locals, lines, k)?;
     }
     Ok(None)
 }

@@ -26,7 +26,7 @@ pub fn names_of(alloc: Global, words: &[&[u8]]) -> Result<Identifiers, AllocErro
     requires { list_all is_name (map (λ w. w.now) words.now) ≡ true }
     ensures { IfOk result (λ n. n ≡ map (λ w. w.now) words.now) }
 {
-    let mut names = Vec::new(alloc);
+    let mut names = Vec::with_capacity(alloc, words.len())?;
     for word in words {
         names.push(Identifier::new(word))?;
     }

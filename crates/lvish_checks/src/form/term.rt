@@ -33,7 +33,7 @@ pub fn term_of(word: &[u8]) -> Option<Term>
 pub fn terms_of(alloc: Global, words: &[&[u8]]) -> Result<Option<Terms>, AllocError>
     ensures { IfOk result (λ ts. ts ≡ terms_of (map (λ w. w.now) words.now)) }
 {
-    let mut terms = Vec::new(alloc);
+    let mut terms = Vec::with_capacity(alloc, words.len())?;
     for word in words {
         match term_of(word) {
             Some(term) => terms.push(term)?,
@@ -47,7 +47,7 @@ pub fn terms_of(alloc: Global, words: &[&[u8]]) -> Result<Option<Terms>, AllocEr
 pub fn numbers_of(alloc: Global, words: &[&[u8]]) -> Result<Option<Numbers>, AllocError>
     ensures { IfOk result (λ ns. ns ≡ numbers_of (map (λ w. w.now) words.now)) }
 {
-    let mut numbers = Vec::new(alloc);
+    let mut numbers = Vec::with_capacity(alloc, words.len())?;
     for word in words {
         match number_word(word) {
             Some(number) => numbers.push(number)?,

@@ -9,7 +9,7 @@ returns-then-names_unknown c = fails_at _ _ c.loop-k.k c.index-lines-k.result c.
 pub loop-k-preserved : goal.loop-k-preserved
 loop-k-preserved c = record {
   above = subst (AreVariables c.add_variable.new.variables) (sym (taken_with c.args.lines.now c.loop-k.k c.index-lines-k.result c.loop-k-test.true c.index-lines-k.is)) (c.in_ok-add_variable.ensures (take c.loop-k.k c.args.lines.now) c.loop-k.invariant.above);
-  locals = c.in_ok-locals.ensures c.loop-k.invariant.locals;
+  locals = c.in_ok-go_below.ensures c.loop-k.invariant.locals;
   passed = passed_on _ _ c.loop-k.k c.index-lines-k.result c.loop-k-test.true c.index-lines-k.is c.loop-k.invariant.passed (sym (c.names_unknown.ensures c.args.lines.now c.loop-k.k c.requires.variables c.requires.pools c.requires.procedures c.loop-k.invariant.above c.loop-k.invariant.locals) ∙ c.if-names_unknown.false);
 }
 

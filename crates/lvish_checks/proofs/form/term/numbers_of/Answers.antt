@@ -7,7 +7,7 @@ use Rattle.lvish_checks.proofs.Gathered.{values_begin, values_more, values_none,
 use Rattle.lvish_checks.proofs.form.term.numbers_of.Goals as goal
 
 pub loop-word-init : goal.loop-word-init
-loop-word-init c = values_begin _ _ c.new-numbers.ensures.items
+loop-word-init c = values_begin _ _ c.in_ok-numbers.ensures.items
 
 pub loop-word-preserved : goal.loop-word-preserved
 loop-word-preserved c =

@@ -4,7 +4,7 @@ use Rattle.lvish_checks.proofs.Gathered.{values_begin, values_more, values_none,
 use Rattle.lvish_checks.proofs.form.term.terms_of.Goals as goal
 
 pub loop-word-init : goal.loop-word-init
-loop-word-init c = values_begin _ _ c.new-terms.ensures.items
+loop-word-init c = values_begin _ _ c.in_ok-terms.ensures.items
 
 pub loop-word-preserved : goal.loop-word-preserved
 loop-word-preserved c = rw c.in_ok-push-in-Some.ensures.items (values_more term_of c.args.words.now c.loop-word.word-index c.loop-word.terms.items _ _ c.in-Some.term c.loop-word-test.true (sym c.in-Some.is ∙ c.term_of.ensures) c.loop-word.invariant)
