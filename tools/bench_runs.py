@@ -85,24 +85,31 @@ class Runs:
         return time.perf_counter() - start
 
     def memory(self, program, entry):
-        """Returns the megabytes that a program held at most when it began to print, and while it did.
+        """Returns the megabytes that a program held at most when it began to print, and while it did."""
+        words = self.command(program, entry)
+        kilobytes, status, got = most_held(words)
+        self.judge(words, entry, status, got)
+        return kilobytes / 1000
 
-        (What the system says of an ended process counts the memory of the one that started it. So the program gets a
-        pipe that is full: it sleeps when it has something to print, and is looked at then.)
-        """
-        words, got = self.command(program, entry), b""
-        reader, writer = os.pipe()
-        fcntl.fcntl(writer, fcntl.F_SETPIPE_SZ, PIPE)
-        os.write(writer, b" " * PIPE)
-        process = os.posix_spawn(program, words, os.environ, file_actions=[(os.POSIX_SPAWN_DUP2, writer, 1), (os.POSIX_SPAWN_CLOSE, reader)])
-        os.close(writer)
-        held = [held_by(process, "S")]
-        while piece := os.read(reader, PIPE):
-            got += piece
-            held.append(held_by(process))
-        os.close(reader)
-        self.judge(words, entry, ended(process)[0], got[PIPE:])
-        return max(held) / 1000
+
+def most_held(words):
+    """Returns the kilobytes that a program held at most when it began to print, and while it did, its status, and what it printed.
+
+    (What the system says of an ended process counts the memory of the one that started it. So the program gets a pipe
+    that is full: it sleeps when it has something to print, and is looked at then.)
+    """
+    got = b""
+    reader, writer = os.pipe()
+    fcntl.fcntl(writer, fcntl.F_SETPIPE_SZ, PIPE)
+    os.write(writer, b" " * PIPE)
+    process = os.posix_spawn(words[0], words, os.environ, file_actions=[(os.POSIX_SPAWN_DUP2, writer, 1), (os.POSIX_SPAWN_CLOSE, reader)])
+    os.close(writer)
+    held = [held_by(process, "S")]
+    while piece := os.read(reader, PIPE):
+        got += piece
+        held.append(held_by(process))
+    os.close(reader)
+    return max(held), ended(process)[0], got[PIPE:]
 
 
 def held_by(process, state=""):
