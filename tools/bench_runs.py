@@ -102,7 +102,12 @@ def most_held(words):
     reader, writer = os.pipe()
     fcntl.fcntl(writer, fcntl.F_SETPIPE_SZ, PIPE)
     os.write(writer, b" " * PIPE)
-    process = os.posix_spawn(words[0], words, os.environ, file_actions=[(os.POSIX_SPAWN_DUP2, writer, 1), (os.POSIX_SPAWN_CLOSE, reader)])
+    actions = [
+        (os.POSIX_SPAWN_DUP2, writer, 1),
+        (os.POSIX_SPAWN_OPEN, 2, os.devnull, os.O_WRONLY, 0),
+        (os.POSIX_SPAWN_CLOSE, reader),
+    ]
+    process = os.posix_spawn(words[0], words, os.environ, file_actions=actions)
     os.close(writer)
     held = [held_by(process, "S")]
     while piece := os.read(reader, PIPE):
